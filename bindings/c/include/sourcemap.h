@@ -321,8 +321,8 @@ size_t sm_tokens(sm_map *map, uint32_t first, sm_token *tokens, size_t length);
 sm_code sm_token_text(sm_map *map, uint32_t index, sm_bytes *text, sm_error *error);
 
 /* Of the index map of a RAM bundle: writes the line at which each module begins,
-** from module `first` on, as many as there are and fit, SM_NONE for a number
-** without a module. `written` is how many. SM_ABSENT if the map has no such list,
+** from module `first` on, as many as there are and fit, SM_NONE if no module has
+** the number. `written` is how many. SM_ABSENT if the map has no such list,
 ** SM_WRONG_KIND if the handle holds no index map; then nothing is written. */
 sm_code sm_module_offsets(sm_map *map, uint32_t first, uint32_t *offsets, size_t length, size_t *written);
 
@@ -539,7 +539,7 @@ sm_code sm_sections_add(sm_sections *sections, uint32_t line, uint32_t column, b
 
 /* Fills `map` with the index map of these sections, and changes `sections`: it is
 ** empty afterwards. The file is optional, and so are the lists of a RAM bundle: the
-** line at which each module begins, SM_NONE for a number without a module, and the
+** line at which each module begins, SM_NONE if no module has the number, and the
 ** path of each module. SM_UTF8 if the file or a path is not UTF-8, SM_WRONG_KIND if
 ** `sections` holds no sections. On SM_OUT_OF_MEMORY `sections` may be empty; a handle
 ** that holds no sections stays as it is, whatever the code. */

@@ -1,5 +1,5 @@
-//! Laws: what follows from the definitions that contracts cite. A function that
-//! calls a law has it at hand in its proof. The call does nothing when it runs.
+//! Laws: statements that follow from the definitions that contracts cite. A function that calls a
+//! law can use the statement of the law in its own proof. At run time the call does nothing.
 
 pub use sourcemap_bundle_split::laws::module_means_what_flat_means;
 pub use sourcemap_core::laws::{

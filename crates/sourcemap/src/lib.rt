@@ -1,6 +1,6 @@
-//! A facade: source maps, read, looked up, changed and written. What most users call is here, under
-//! the names that they know. It re-exports from crates of one subject each, which docs/MAP.md
-//! lists.
+//! A facade for source maps: reading, lookups, changes and writing. It has the items that most
+//! users call, under the names of the Rust crate `sourcemap`. The items are re-exports from crates
+//! with one subject each, which docs/MAP.md lists.
 #![tactic(auto)]
 
 pub mod decoder;

@@ -1,4 +1,4 @@
-//! RAM bundles: the numbers of their headers, their modules, and the maps of modules.
+//! RAM bundles: their headers, their modules, and the maps of these modules.
 
 pub use sourcemap_bundle_bytes::bundle::{
     ModuleEntry, RAM_BUNDLE_MAGIC, RamBundleHeader, byte_range,

@@ -15,7 +15,8 @@ word_of Rewrite = codes "rewrite"
 word_of Flatten = codes "flatten"
 word_of Compose = codes "compose"
 
--- the words of a command; the second word is the number of rounds
+-- the words of a command: `write`, or the word of an operation and a second word, which is meant as the number of
+-- rounds
 abbrev pub AskFor : List (List ℕ) → Command → Type 0
 AskFor words (Repeat operation _) = (rounds : List ℕ) × (words ≡ word_of operation ∷ rounds ∷ [])
 AskFor words Write = words ≡ codes "write" ∷ []

@@ -13,7 +13,7 @@ use Rattle.sourcemap_bench.specs.Sums.{mixed, lookup_sum, token_sum}
 use Rattle.sourcemap_bench.specs.declared.work.Work.{Work}
 use Rattle.sourcemap_bench.specs.declared.work.Work.TheVariants.{Decode, DecodeReader, Lookup, Tokens, Encode, Rewrite, Flatten, Compose}
 
--- a checksum with a count
+-- a checksum with one more count; a count above 4294967295 is taken as 4294967295
 abbrev pub counted : ℕ → ℕ → ℕ
 counted sum count = mixed sum (min count 4294967295)
 
@@ -22,19 +22,19 @@ abbrev pub size : MapTree → ℕ
 size (leaf l) = length (held l).tokens
 size (index _ sections) = length (section_list sections)
 
--- the checksum with the size of the decoded map
+-- adding the size of the decoded map to the checksum `old` gives `new`
 abbrev pub SizeOfDecoded : List ℕ → ℕ → ℕ → Type 0
 SizeOfDecoded bytes old new = (t : MapTree) × BytesDecode bytes (Ok t) × (new ≡ counted old (size t))
 
--- the checksum with the length of the encoded map
+-- adding the length of the encoded map to the checksum `old` gives `new`
 abbrev pub LengthOfText : MapTree → ℕ → ℕ → Type 0
 LengthOfText t old new = (text : List ℕ) × IsEncoded (RecordAnswer t) text × (new ≡ counted old (length text))
 
--- the checksum with the number of tokens of the flattened map
+-- adding the number of tokens of the flattened map to the checksum `old` gives `new`
 abbrev pub SizeOfFlat : MapTree → ℕ → ℕ → Type 0
 SizeOfFlat t old new = (m : MapValue) × FlatAnswer t (Ok m) × (new ≡ counted old (length m.tokens))
 
--- the checksum with the number of tokens of the adjusted map
+-- adding the number of tokens of the adjusted map to the checksum `old` gives `new`
 abbrev pub SizeOfAdjusted : MapValue → MapValue → ℕ → ℕ → Type 0
 SizeOfAdjusted m n old new = (c : MapValue) × (adjusted m n ≡ Ok c) × (new ≡ counted old (length c.tokens))
 
@@ -50,7 +50,7 @@ RoundGives (Rewrite m) old new = new ≡ mixed old (length (rewritten no_removal
 RoundGives (Flatten i) old new = SizeOfFlat (index_tree (index_value i.value)) old new
 RoundGives (Compose m n) old new = SizeOfAdjusted m.value n.value old new
 
--- the checksum after this many rounds; before the first it is 0
+-- the checksum after this many rounds; before the first round it is 0
 abbrev pub RoundsGive : Work → ℕ → ℕ → Type 0
 RoundsGive work zero sum = sum ≡ 0
 RoundsGive work (suc n) sum = (before : ℕ) × RoundsGive work n before × RoundGives work before sum

@@ -46,7 +46,7 @@ fn beside_token(map: &SourceMap, draws: &mut Draws) -> (u32, u32)
 }
 
 /// Draws a million positions, each at a token of the map or up to three columns after it. For a map
-/// without tokens all are (0, 0). The only error is `OutOfMemory`.
+/// without tokens all positions are (0, 0). The only error is `OutOfMemory`.
 pub fn drawn_positions(alloc: Global, map: &SourceMap) -> Result<Vec<(u32, u32)>>
     ensures count { IfOk result (λ positions. vec_len positions ≡ 1000000) }
     ensures memory { IfErr result (λ e. e ≡ OutOfMemory) }

@@ -1,5 +1,5 @@
-//! Repeats one operation on the source map on standard input, so that it can be timed, or writes the
-//! map. `compose` takes two maps, one on each line.
+//! Repeats one operation on the source map on standard input, so that the operation can be timed.
+//! `compose` takes two maps, one on each line. `write` writes the map instead.
 #![tactic(auto)]
 
 mod command;

@@ -15,8 +15,8 @@ pub fn add_to_sum(sum: u32, number: u32) -> u32
     ((31 * u64::from(sum) + u64::from(number)) % (1 << 32)) as u32
 }
 
-/// The number that a token adds to a checksum: made of its original position, or 0 if there is no
-/// token or it has no source.
+/// The number that a token adds to a checksum, made of its original position. 0 if there is no
+/// token, or if the token has no source.
 #[inline]
 pub fn worth(token: Option<Token<'_>>) -> u32
     ensures { result ≡ worth (option_map token_value token.entry) }
@@ -40,8 +40,8 @@ fn add_lookup(map: &DecodedMap, sum: u32, position: (u32, u32)) -> u32
     add_to_sum(sum, worth(map.lookup_token(line, column)))
 }
 
-/// Adds the lookups of these positions to a checksum. The clause requires sorted sections at every
-/// level.
+/// Adds the lookups of these positions to a checksum. If the sections of an index map are not
+/// sorted at every level, the result is unspecified.
 pub fn lookup_sum(map: &DecodedMap, positions: &[(u32, u32)], start: u32) -> u32
     ensures { IsInOrder (map_tree map.now)
         → result ≡ lookup_sum (map_tree map.now) positions.now start }

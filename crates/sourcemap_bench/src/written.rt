@@ -1,4 +1,4 @@
-//! Encodes the map, so that the bytes can be compared.
+//! Encodes the map, so that the bytes can be compared with those of another encoder.
 ghost use Rattle.std.specs.Prelude.{IfErr, OnOk};
 ghost use Rattle.sourcemap.specs.Answer.{UnlessMemory};
 ghost use Rattle.sourcemap_bench.specs.Written.{IsWritten, IsUnwritten};

@@ -6,6 +6,7 @@ use Rattle.sourcemap_bundle_split.specs.Split.{ModuleParts}
 abbrev pub mixed : ℕ → ℕ → ℕ
 mixed sum number = (31 * sum + number) % 2 ^ 32
 
--- a checksum with the length of a module's text in bytes and the number of sources of its map
+-- the checksum `sum` after two numbers are added to it: the length of a module's text in bytes, and the number of
+-- sources of its map
 abbrev pub with_module : ℕ → ModuleParts → ℕ
 with_module sum parts = mixed (mixed sum (min (length parts.text) 4294967295)) (length parts.map.sources)

@@ -11,7 +11,8 @@ fn split_word(word: &str) -> Option<()>
     }
 }
 
-/// Parses the number of rounds, a decimal number below 2^32. `None` for other words.
+/// Parses `split` and the number of rounds, a decimal number below 2^32. Returns the number of
+/// rounds, or `None` for other words.
 pub fn parse_words(words: &[String]) -> Option<u32>
     ensures { IfSome result (λ rounds. AskFor (map string_bytes words.now)) }
 {

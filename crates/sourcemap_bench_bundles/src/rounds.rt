@@ -1,4 +1,4 @@
-//! Splits a bundle repeatedly; checksums of the modules.
+//! Splits a bundle repeatedly, and makes a checksum of the modules.
 ghost use Rattle.std.specs.Prelude.{◌≡◌};
 ghost use Rattle.sourcemap_bundle_split.specs.Split.{parts_value};
 ghost use Rattle.sourcemap_bench_bundles.specs.Sums.{mixed, with_module};
@@ -22,7 +22,7 @@ fn with_module(sum: u32, parts: &(String, SourceView, SourceMap)) -> u32
     add_to_sum(add_to_sum(sum, length), map.get_source_count())
 }
 
-// Adds all of these modules to a checksum; the first error ends it.
+// Adds all modules to a checksum, or returns the first error that the iterator yields.
 fn with_modules(modules: SplitRamBundleModuleIter<'_>, start: u32) -> Result<u32> {
     let mut sum = start;
     for item in modules {

@@ -54,8 +54,8 @@ fn add(alloc: Global, bytes: &[u8]) -> Result<usize> {
     token_count(builder)
 }
 
-// Adds a token for each line, with the number on the line as column and ids. Returns the number of
-// tokens.
+// Adds a token for each line, with the number on the line as generated column, source id and name
+// id. Returns the number of tokens.
 fn add_raw(alloc: Global, bytes: &[u8]) -> Result<usize> {
     let mut builder = SourceMapBuilder::new(alloc, None)?;
     for line in str::from_utf8(bytes)?.lines() {
@@ -75,7 +75,8 @@ fn add_tokens(alloc: Global, bytes: &[u8]) -> Result<usize> {
     token_count(builder)
 }
 
-// Adds each line as a source, and sets it again. Returns the byte count of all sources.
+// Adds each line as a source, and sets that source to the line again. Returns the byte count of all
+// sources.
 fn set_sources(alloc: Global, bytes: &[u8]) -> Result<usize> {
     let mut builder = SourceMapBuilder::new(alloc, None)?;
     for line in str::from_utf8(bytes)?.lines() {
@@ -96,7 +97,8 @@ fn set_contents(alloc: Global, bytes: &[u8]) -> Result<usize> {
     Ok(contents_size(&builder.into_sourcemap()?))
 }
 
-// Sets the file to each line in turn. Returns the length of the last file.
+// Sets the file name to each line in turn. Returns the byte count of the last file name, 0 if there
+// is no line.
 fn set_file(alloc: Global, bytes: &[u8]) -> Result<usize> {
     let mut builder = SourceMapBuilder::new(alloc, None)?;
     for line in str::from_utf8(bytes)?.lines() {

@@ -3,7 +3,8 @@
 use sourcemap::Result;
 use std::alloc::Global;
 
-/// A measured call. The comment of a variant begins with its word.
+/// A measured call. The comment of a variant begins with the word that selects the call. The last
+/// four variants are groups of calls, without a word of their own.
 #[derive(Clone, Copy)]
 pub enum Call {
     /// `walk`: `SourceView::rev_token_iter` from the last token of a map. The map is on the first
@@ -35,7 +36,7 @@ pub enum Call {
     Relative,
     /// `prefix`: `find_common_prefix` of all lines.
     Prefix,
-    /// `vlq`: `parse_vlq_segment`, and `generate_vlq_segment` of its numbers.
+    /// `vlq`: `parse_vlq_segment`, and `generate_vlq_segment` of the parsed numbers.
     Vlq,
     /// `identifier`: `get_javascript_token`.
     Identifier,
@@ -43,7 +44,8 @@ pub enum Call {
     Intern,
     /// `bundle`: all modules of an indexed RAM bundle.
     Bundle,
-    /// `bundle-path`: all modules of the RAM bundle at a path, which is one file or a file bundle.
+    /// `bundle-path`: all modules of the RAM bundle at a path. The bundle is indexed or a file
+    /// bundle.
     BundlePath,
     /// `scopes`: `SourceMapHermes::get_scope_for_token` of each token.
     Scopes,
@@ -65,8 +67,8 @@ pub enum Call {
 pub enum BuilderCall {
     /// `builder`: `add` of a token for each line, with the line as source and as name.
     Add,
-    /// `builder-raw`: `add_raw` of a token for each line, with the number on the line as column and
-    /// ids.
+    /// `builder-raw`: `add_raw` of a token for each line, with the number on the line as generated
+    /// column, source id and name id.
     AddRaw,
     /// `builder-tokens`: `add_token` of each token of a map.
     AddTokens,
@@ -93,8 +95,8 @@ pub enum BuilderCall {
 /// A call on an index map.
 #[derive(Clone, Copy)]
 pub enum IndexCall {
-    /// `nest`: nested index maps, looked up, printed, copied, compared, read back from their value,
-    /// flattened and dropped.
+    /// `nest`: a lookup in nested index maps, which are then printed, copied, compared, read back
+    /// from their JSON value, flattened and dropped.
     Nest,
     /// `flatten-and-rewrite`: `SourceMapIndex::flatten_and_rewrite`.
     FlattenAndRewrite,
@@ -105,11 +107,11 @@ pub enum IndexCall {
     /// `index-rows`: `adjust_sections_offset_rows` of the map on the first line, by the number on
     /// each line after it.
     AdjustRows,
-    /// `section-urls`: `SourceMapSection::set_url` of the sections of the map on the first line, to
-    /// the lines after it.
+    /// `section-urls`: `SourceMapSection::set_url` of the sections of the map on the first line, in
+    /// order, to the lines after the first.
     SetUrls,
     /// `section-maps`: `SourceMapSection::set_sourcemap` of the sections of the map on the first
-    /// line, to the maps on the lines after it.
+    /// line, in order, to the maps on the lines after the first.
     SetMaps,
 }
 
@@ -135,14 +137,14 @@ pub enum MapCall {
     RewriteLoading,
 }
 
-/// A setter of a regular map, which is on the first line.
+/// A setter of a regular map. The map is on the first line of the input.
 #[derive(Clone, Copy)]
 pub enum Setter {
-    /// `set-root`: `set_source_root` to what follows the first line.
+    /// `set-root`: `set_source_root` to the text after the first line.
     Root,
-    /// `set-sources`: `set_source` of one source after another, to the lines after the first.
+    /// `set-sources`: `set_source` of the sources, in order, to the lines after the first.
     Sources,
-    /// `set-contents`: `set_source_contents` of one source after another, to the lines after the
+    /// `set-contents`: `set_source_contents` of the sources, in order, to the lines after the
     /// first.
     Contents,
     /// `set-file`: `set_file` to each line after the first.
@@ -209,7 +211,8 @@ static WORDS: [(&str, Call); 52] = [
     ("ignore", Call::Setter(Setter::Ignore)),
 ];
 
-/// Returns the call of the only word. `None` if there is not exactly one word, or it is unknown.
+/// Returns the call that the word selects. `None` if there is not exactly one word, or if the word
+/// is unknown.
 pub fn parse_words(words: &[String]) -> Option<Call> {
     let [given] = words else {
         return None;

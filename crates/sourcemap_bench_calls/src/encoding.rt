@@ -6,7 +6,7 @@ use std::alloc::Global;
 use std::io;
 use std::io::Write;
 
-// Counts the bytes that are written, and keeps none.
+// Counts the bytes that are written, and does not store them.
 #[derive(Drop)]
 struct Counter {
     size: usize,
@@ -48,7 +48,7 @@ pub fn count_encoded_in_parts(alloc: Global, bytes: &[u8]) -> Result<usize> {
     Ok(counter.size)
 }
 
-/// The length of the map as a data URL.
+/// The number of bytes of the map as a data URL.
 pub fn measure_data_url(alloc: Global, bytes: &[u8]) -> Result<usize> {
     let map = flat_map(alloc, bytes)?;
     let url = map.to_data_url()?;

@@ -51,9 +51,10 @@ fn count_flat_tokens(map: &DecodedMap) -> Result<usize> {
     }
 }
 
-// Makes nested index maps, as many as the number in `bytes` says. Returns the number of tokens of
-// the flattened map, and 1 more for each of these: a token is found at 0:0, the map is printed, a
-// copy equals it, and so does the map that is read back from its value.
+// Makes nested index maps, as many as the number in `bytes` says. Then makes four checks: the
+// lookup of 0:0 finds a token, `Debug` prints the map, the map equals its copy, and the map equals
+// the one that is read back from its JSON value. Returns the number of tokens of the flattened map
+// plus the number of checks that succeed.
 fn count_nested_tokens(alloc: Global, bytes: &[u8]) -> Result<usize> {
     let depth = str::from_utf8(bytes)?.trim().parse().unwrap_or(1);
     let map = DecodedMap::Index(levels(alloc, depth)?);
@@ -64,8 +65,8 @@ fn count_nested_tokens(alloc: Global, bytes: &[u8]) -> Result<usize> {
     Ok(count_flat_tokens(&map)?.wrapping_add(extra + equal))
 }
 
-// Flattens and rewrites an index map. Returns the number of its tokens plus the number of its
-// sources.
+// Flattens and rewrites an index map. Returns the number of tokens plus the number of sources of
+// the rewritten map.
 fn flatten_and_rewrite<F: Files>(rt: &F, alloc: Global, bytes: &[u8]) -> Result<usize> {
     let index = SourceMapIndex::from_slice(alloc, bytes)?;
     let map = index.flatten_and_rewrite(rt, &RewriteOptions::default())?;
@@ -91,7 +92,8 @@ fn index_and_text(alloc: Global, bytes: &[u8]) -> Result<(SourceMapIndex, &str)>
     Ok((index, text))
 }
 
-// Sets the file to each line in turn. Returns the length of the last file.
+// Sets the file name to each line after the first, in turn. Returns the byte count of the last file
+// name, 0 if there is no file name.
 fn set_file(alloc: Global, bytes: &[u8]) -> Result<usize> {
     let (mut index, text) = index_and_text(alloc, bytes)?;
     for line in text.lines() {
@@ -100,8 +102,8 @@ fn set_file(alloc: Global, bytes: &[u8]) -> Result<usize> {
     Ok(index.get_file().map_or(0, |file| file.len()))
 }
 
-// Moves all sections down by the number on each line in turn. Returns how many of these moves were
-// possible.
+// Moves all sections down by the number on each line after the first, in turn. Returns how many of
+// these moves were possible.
 fn adjust_rows(alloc: Global, bytes: &[u8]) -> Result<usize> {
     let (mut index, text) = index_and_text(alloc, bytes)?;
     let mut count = 0usize;
@@ -119,7 +121,8 @@ fn set_url(index: &mut SourceMapIndex, id: u32, url: &str) -> Result<()> {
     }
 }
 
-// Sets the URL of one section after another to the lines. Returns the byte count of all URLs.
+// Sets the URLs of the sections, in order, to the lines after the first. Lines beyond the number of
+// sections are ignored. Returns the byte count of all URLs.
 fn set_urls(alloc: Global, bytes: &[u8]) -> Result<usize> {
     let (mut index, text) = index_and_text(alloc, bytes)?;
     for (id, line) in (0..u32::MAX).zip(text.lines()) {
@@ -143,8 +146,8 @@ fn set_map(alloc: Global, index: &mut SourceMapIndex, id: u32, line: &str) -> Re
     }
 }
 
-// Sets the map of one section after another to the maps on the lines. Returns how many sections
-// have a map then.
+// Sets the maps of the sections, in order, to the maps on the lines after the first. Lines beyond
+// the number of sections are ignored. Returns how many sections then have a map.
 fn set_maps(alloc: Global, bytes: &[u8]) -> Result<usize> {
     let (mut index, text) = index_and_text(alloc, bytes)?;
     for (id, line) in (0..u32::MAX).zip(text.lines()) {

@@ -3,12 +3,13 @@
 use sourcemap::{Result, SourceMap};
 use std::str;
 
-/// The first line, and the text after it; two empty texts if there is but one line.
+/// Returns the first line and the text after it, or two empty texts if there is no `\n`. Returns
+/// `Utf8` if the bytes are not UTF-8.
 pub fn split_first_line(bytes: &[u8]) -> Result<(&str, &str)> {
     Ok(str::from_utf8(bytes)?.split_once('\n').unwrap_or_default())
 }
 
-/// The number that a line holds, 0 if it holds none below 2^32.
+/// The decimal number that a line consists of; 0 if the line is not a number below 2^32.
 pub fn number_in(line: &str) -> u32 {
     line.parse().unwrap_or(0)
 }

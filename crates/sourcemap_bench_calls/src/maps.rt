@@ -44,7 +44,7 @@ pub fn equals_read_back(alloc: Global, map: &DecodedMap) -> Result<bool> {
     Ok(DecodedMap::from_value(alloc, &value)? == *map)
 }
 
-// 1 if a copy of a map equals it.
+// 1 if a copy of the map in `bytes` equals that map, else 0.
 fn copy(alloc: Global, bytes: &[u8]) -> Result<usize> {
     let map = decode_slice(alloc, bytes)?;
     Ok(usize::from(equals_copy(&map)?))
@@ -56,7 +56,7 @@ fn print(alloc: Global, bytes: &[u8]) -> Result<usize> {
     debug_size(alloc, &map)
 }
 
-// 1 if a map equals the map that is read back from its JSON value.
+// 1 if the map in `bytes` equals the map that is read back from its JSON value, else 0.
 fn read_back(alloc: Global, bytes: &[u8]) -> Result<usize> {
     let map = decode_slice(alloc, bytes)?;
     Ok(usize::from(equals_read_back(alloc, &map)?))

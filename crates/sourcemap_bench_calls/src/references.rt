@@ -15,26 +15,27 @@ fn size_of(found: &Option<SourceMapRef>) -> usize {
     }
 }
 
-/// The length of the URL of the reference in a slice, 0 if there is no reference.
+/// The byte count of the URL of the reference in a slice, 0 if there is no reference.
 pub fn locate_in_slice(alloc: Global, bytes: &[u8]) -> Result<usize> {
     let found = locate_sourcemap_reference_slice(alloc, bytes)?;
     Ok(size_of(&found))
 }
 
-/// The length of the URL of the reference in a reader, 0 if there is no reference.
+/// The byte count of the URL of the reference in a reader, 0 if there is no reference.
 pub fn locate_by_reader(alloc: Global, bytes: &[u8]) -> Result<usize> {
     let found = locate_sourcemap_reference(alloc, bytes)?;
     Ok(size_of(&found))
 }
 
-/// The length of the URL of the reference in a view, 0 if there is no reference.
+/// The byte count of the URL of the reference in a view, 0 if there is no reference.
 pub fn locate_by_view(alloc: Global, bytes: &[u8]) -> Result<usize> {
     let view = SourceView::new(alloc, str::from_utf8(bytes)?)?;
     let found = view.sourcemap_reference()?;
     Ok(size_of(&found))
 }
 
-/// The length of the URL that the reference in a text resolves to.
+/// The byte count of the URL that the reference in a text resolves to. 0 if there is no reference,
+/// or if it resolves to no URL.
 pub fn resolve_reference(alloc: Global, bytes: &[u8]) -> Result<usize> {
     match locate_sourcemap_reference_slice(alloc, bytes)? {
         Some(reference) => {
@@ -45,7 +46,8 @@ pub fn resolve_reference(alloc: Global, bytes: &[u8]) -> Result<usize> {
     }
 }
 
-/// The length of the path that the reference in a text resolves to.
+/// The byte count of the path that the reference in a text resolves to. 0 if there is no reference,
+/// or if it resolves to no path.
 pub fn resolve_reference_path(alloc: Global, bytes: &[u8]) -> Result<usize> {
     match locate_sourcemap_reference_slice(alloc, bytes)? {
         Some(reference) => {

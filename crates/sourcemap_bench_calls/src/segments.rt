@@ -6,15 +6,16 @@ use sourcemap::vlq::{generate_vlq_segment, parse_vlq_segment};
 use std::alloc::Global;
 use std::str;
 
-/// Parses a segment, and writes its numbers as a segment again. Returns the length of the written
-/// segment.
+/// Parses a segment, and writes its numbers as a segment again. Returns the byte count of the
+/// written segment.
 pub fn segment_size(alloc: Global, bytes: &[u8]) -> Result<usize> {
     let numbers = parse_vlq_segment(alloc, str::from_utf8(bytes)?)?;
     let segment = generate_vlq_segment(alloc, numbers.as_slice())?;
     Ok(segment.len())
 }
 
-/// The length of the identifier that a text begins with.
+/// The byte count of the identifier at the start of a text, after white space. 0 if there is no
+/// identifier.
 pub fn identifier_size(bytes: &[u8]) -> Result<usize> {
     let found = get_javascript_token(str::from_utf8(bytes)?);
     Ok(found.map_or(0, |name| name.len()))

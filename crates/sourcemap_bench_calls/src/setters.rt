@@ -1,12 +1,13 @@
-//! Setters of regular maps. The map is on the first line of the input. What is set follows it.
+//! Setters of regular maps. The map is on the first line of the input, and the new values are after
+//! that line.
 
 use crate::call::Setter;
 use crate::lines::{contents_size, number_in, source_size, split_first_line};
 use sourcemap::{Result, SourceMap};
 use std::alloc::Global;
 
-/// Decodes the map on the first line, and sets what follows that line. Returns a size of the
-/// changed map.
+/// Decodes the map on the first line, and sets a part of it to the values after that line. Returns
+/// a size of the changed map.
 pub fn size_of(alloc: Global, setter: Setter, bytes: &[u8]) -> Result<usize> {
     let (line, text) = split_first_line(bytes)?;
     let map = SourceMap::from_slice(alloc, line.as_bytes())?;
@@ -33,14 +34,14 @@ fn set_source_contents(map: &mut SourceMap, id: u32, contents: &str) -> Result<(
     Ok(())
 }
 
-// Sets the text as `sourceRoot`. Returns the byte count of all sources.
+// Sets `text` as `sourceRoot`. Returns the byte count of all sources.
 fn set_root(mut map: SourceMap, text: &str) -> Result<usize> {
     map.set_source_root(Some(text))?;
     Ok(source_size(&map))
 }
 
-// Sets one source after another to the lines. More lines than sources are ignored. Returns the byte
-// count of all sources.
+// Sets the sources, in order, to the lines of `text`. Lines beyond the number of sources are
+// ignored. Returns the byte count of all sources.
 fn set_sources(mut map: SourceMap, text: &str) -> Result<usize> {
     for (id, line) in (0..u32::MAX).zip(text.lines()) {
         set_source(&mut map, id, line)?;
@@ -48,8 +49,8 @@ fn set_sources(mut map: SourceMap, text: &str) -> Result<usize> {
     Ok(source_size(&map))
 }
 
-// Sets the contents of one source after another to the lines. More lines than sources are ignored.
-// Returns the byte count of all contents.
+// Sets the contents of the sources, in order, to the lines of `text`. Lines beyond the number of
+// sources are ignored. Returns the byte count of all contents.
 fn set_contents(mut map: SourceMap, text: &str) -> Result<usize> {
     for (id, line) in (0..u32::MAX).zip(text.lines()) {
         set_source_contents(&mut map, id, line)?;
@@ -57,7 +58,8 @@ fn set_contents(mut map: SourceMap, text: &str) -> Result<usize> {
     Ok(contents_size(&map))
 }
 
-// Sets the file to each line in turn. Returns the length of the last file.
+// Sets the file name to each line of `text` in turn. Returns the byte count of the last file name,
+// 0 if there is no file name.
 fn set_file(mut map: SourceMap, text: &str) -> Result<usize> {
     for line in text.lines() {
         map.set_file(Some(line))?;
@@ -65,7 +67,7 @@ fn set_file(mut map: SourceMap, text: &str) -> Result<usize> {
     Ok(map.get_file().map_or(0, |file| file.len()))
 }
 
-// Adds the number on each line to the ignore list. Returns the length of the list.
+// Adds the number on each line of `text` to the ignore list. Returns the length of the list.
 fn ignore(mut map: SourceMap, text: &str) -> Result<usize> {
     for line in text.lines() {
         map.add_to_ignore_list(number_in(line))?;

@@ -7,7 +7,7 @@ use std::alloc::Global;
 use std::rt::Files;
 use std::str;
 
-/// Interns each line and returns the number of different ones.
+/// Interns each line and returns the number of different lines.
 pub fn interned(alloc: Global, bytes: &[u8]) -> Result<usize> {
     let mut interner = Interner::new(alloc);
     for line in str::from_utf8(bytes)?.lines() {
@@ -32,7 +32,7 @@ pub fn modules(bytes: &[u8]) -> Result<usize> {
 }
 
 /// The byte count of all modules of the bundle at a path, plus 1 for each invalid module. `bytes`
-/// is the path. The bundle is one file or a file bundle.
+/// is the path. The bundle is indexed or a file bundle.
 pub fn modules_at<F: Files>(rt: &F, alloc: Global, bytes: &[u8]) -> Result<usize> {
     let path = str::from_utf8(bytes)?.trim();
     let bundle = if is_unbundle_path(rt, alloc, path)? {

@@ -4,8 +4,8 @@ use sourcemap::{Result, SourceMap, SourceView};
 use std::alloc::Global;
 use std::str;
 
-/// Walks back from the last token of a map, in a text. Returns the byte count of all identifiers on
-/// the walk. The map is on the first line, the text after it.
+/// Walks back from the last token of a map, in the generated text. Returns the byte count of all
+/// identifiers on the walk. The map is on the first line, the text after that line.
 pub fn walked(alloc: Global, bytes: &[u8]) -> Result<usize> {
     let (line, text) = str::from_utf8(bytes)?.split_once('\n').unwrap_or_default();
     let map = SourceMap::from_slice(alloc, line.as_bytes())?;
@@ -33,8 +33,8 @@ pub fn viewed(alloc: Global, bytes: &[u8]) -> Result<usize> {
     Ok(size)
 }
 
-// The byte count of a slice of a line, its second eighth. The slice starts at column n and spans n
-// columns. Here n is an eighth of the byte count of the line.
+// The byte count of a slice of a line, 0 if there is no such slice. The slice starts at column n
+// and spans n columns. Here n is an eighth of the byte count of the line.
 fn slice_size(view: &SourceView, line: u32) -> usize {
     let length = view.get_line(line).map_or(0, |text| text.len());
     let eighth = u32::try_from(length / 8).unwrap_or(u32::MAX);
@@ -42,7 +42,8 @@ fn slice_size(view: &SourceView, line: u32) -> usize {
     slice.map_or(0, |text| text.len())
 }
 
-/// The number of lines of a text, plus the byte count of the second eighth of each line.
+/// The number of lines of a text, plus the byte count of one slice of each line. `slice_size`
+/// chooses the slice.
 pub fn sliced(alloc: Global, bytes: &[u8]) -> Result<usize> {
     let view = SourceView::new(alloc, str::from_utf8(bytes)?)?;
     let mut size = view.line_count();

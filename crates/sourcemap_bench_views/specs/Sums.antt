@@ -8,15 +8,15 @@ use Rattle.sourcemap.specs.Types.{MapValue}
 abbrev pub mixed : ℕ → ℕ → ℕ
 mixed sum number = (31 * sum + number) % 2 ^ 32
 
--- a checksum with a count
+-- a checksum with one more count; a count above 4294967295 is taken as 4294967295
 abbrev pub counted : ℕ → ℕ → ℕ
 counted sum count = mixed sum (min count 4294967295)
 
--- a checksum with the lengths of these lines
+-- a checksum with the byte counts of these lines
 abbrev pub with_lengths : ℕ → List (List ℕ) → ℕ
 with_lengths sum lines = fold (λ sum line. counted sum (length line)) sum lines
 
--- a checksum with the lengths of a text's lines up to line 4294967295
+-- a checksum with the byte counts of the lines of a text, up to line 4294967295
 abbrev pub line_sum : List ℕ → ℕ → ℕ
 line_sum source start = with_lengths start (take 4294967296 (line_bodies source))
 
@@ -34,7 +34,7 @@ abbrev pub name_sum : MapValue → (source : List ℕ) → List (ℕ × ℕ) →
 name_sum m source positions start =
     fold (λ sum p. mixed sum (name_worth (function_name m source absent_name p))) start positions
 
--- the checksum of this many rounds, from 0 on
+-- the checksum after this many rounds; before the first round it is 0
 abbrev pub rounds_sum : (ℕ → ℕ) → ℕ → ℕ
 rounds_sum round zero = 0
 rounds_sum round (suc n) = round (rounds_sum round n)

@@ -22,7 +22,7 @@ fn add_count(sum: u32, count: usize) -> u32
     add_to_sum(sum, u32::try_from(count).unwrap_or(u32::MAX))
 }
 
-/// Adds the lengths of the lines of a view to a checksum, in order, up to line 4294967295.
+/// Adds the byte counts of the lines of a view to a checksum, in order, up to line 4294967295.
 pub fn line_sum(view: &SourceView, start: u32) -> u32
     ensures { result ≡ line_sum view.now start }
 {
@@ -33,7 +33,8 @@ pub fn line_sum(view: &SourceView, start: u32) -> u32
     sum
 }
 
-// The number that a name adds to a checksum: 0 for none, otherwise its length plus 1.
+// The number that a name adds to a checksum: 0 for `None`, otherwise the byte count of the name
+// plus 1.
 fn name_worth(name: Option<&str>) -> u32
     ensures { result ≡ name_worth (option_copied name.entry) }
 {

@@ -8,8 +8,8 @@ use Rattle.sourcemap_map_parts.specs.Contents.{fitted}
 use Rattle.sourcemap_source_files.specs.Loading.{Fills}
 use Rattle.sourcemap_map_regular.specs.Map.{MapValue, Meaning}
 
--- the parts of a builder. `interned` are the sources as they were added; ids are found by these. `sources` are
--- the sources of the map
+-- the parts of a builder. `interned` are the sources as they were added; adding a source looks up its id in this list.
+-- `sources` are the sources of the map, where some may be replaced
 pub record BuilderValue : Type 0 where
   pub file : Option (List ℕ)
   pub root : Option (List ℕ)
@@ -21,7 +21,7 @@ pub record BuilderValue : Type 0 where
   pub ignored : List ℕ
   pub debug_id : Option (List ℕ)
 
--- a new builder
+-- a new builder with the name of the generated file
 abbrev pub empty_builder : Option (List ℕ) → BuilderValue
 empty_builder file = record {
   file = file;
@@ -41,7 +41,7 @@ with_changes changes [] = []
 with_changes [] (text ∷ texts) = text ∷ texts
 with_changes (change ∷ changes) (text ∷ texts) = unwrap_or change text ∷ with_changes changes texts
 
--- the builder after a source is added: a new source is appended to both lists
+-- the builder after a source is added: a new source is appended to `interned` and to `sources`
 abbrev pub with_source : BuilderValue → List ℕ → BuilderValue
 with_source b text = record b {
   interned = with_text b.interned text;
@@ -51,11 +51,12 @@ with_source b text = record b {
 abbrev pub with_name : BuilderValue → List ℕ → BuilderValue
 with_name b text = record b { names = with_text b.names text }
 
--- the builder after an optional source, or an optional name, is added
+-- the builder after an optional source is added; `None` leaves the builder unchanged
 abbrev pub with_source_if : BuilderValue → Option (List ℕ) → BuilderValue
 with_source_if b None = b
 with_source_if b (Some text) = with_source b text
 
+-- the builder after an optional name is added; `None` leaves the builder unchanged
 abbrev pub with_name_if : BuilderValue → Option (List ℕ) → BuilderValue
 with_name_if b None = b
 with_name_if b (Some text) = with_name b text
@@ -64,12 +65,12 @@ with_name_if b (Some text) = with_name b text
 abbrev pub with_texts : BuilderValue → Option (List ℕ) → Option (List ℕ) → BuilderValue
 with_texts b source name = with_name_if (with_source_if b source) name
 
--- the id of an optional text after adding it; `no_id` for no text
+-- the id of an optional text that is added to `texts`; `no_id` if there is no text
 abbrev pub id_if : List (List ℕ) → Option (List ℕ) → Result ℕ Error
 id_if texts None = Ok no_id
 id_if texts (Some text) = id_for texts text
 
--- a token of these positions without ids
+-- a token with these positions, without a source and without a name
 abbrev pub token_without_ids : ℕ → ℕ → ℕ → ℕ → Bool → RawToken
 token_without_ids dst_line dst_col src_line src_col is_range = record {
   dst_line = dst_line;
@@ -81,13 +82,13 @@ token_without_ids dst_line dst_col src_line src_col is_range = record {
   is_range = is_range;
 }
 
--- the token with the ids of its texts, or the first error
+-- the token with these ids of its source and its name, or the first error
 abbrev pub token_with_ids : RawToken → Result ℕ Error → Result ℕ Error → Result RawToken Error
 token_with_ids token (Err e) name = Err e
 token_with_ids token (Ok source) (Err e) = Err e
 token_with_ids token (Ok source) (Ok name) = Ok (record token { src_id = source; name_id = name })
 
--- the name of a meaning, if `with_name` is true
+-- the name of a meaning if `with_name` is true, otherwise `None`
 abbrev pub name_if : Bool → Meaning → Option (List ℕ)
 name_if with_name says = cond with_name says.name None
 

@@ -17,6 +17,6 @@ builder_value a = record {
   debug_id = a.metadata.debug_id;
 }
 
--- there are no more changes than sources
+-- the list of changes is not longer than the list of sources
 abbrev pub HasFewChanges : Inside → Type 0
 HasFewChanges a = length (contents_in a.changed) ≤ length a.interned

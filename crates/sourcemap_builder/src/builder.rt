@@ -35,17 +35,18 @@ use std::marker::Model;
 use std::mem;
 use std::rt::Files;
 
-/// Builds a map token by token. Sources and names are interned: equal ones are stored once, and ids
-/// count from 0 in the order in which they were first added. Unless a method says more, an error
-/// leaves the builder unchanged.
+/// Builds a map token by token. Sources and names are interned: equal texts are stored once, and
+/// ids count from 0 in the order in which the texts were first added. An error leaves the builder
+/// unchanged, except where a method says otherwise.
 pub struct SourceMapBuilder {
     metadata: MapMetadata,
     root: Option<String>,
     tokens: Vec<RawToken>,
     names: Interner,
-    // The sources as they were added, by which ids are found.
+    // The sources as they were added. `add_source` looks up ids in this list.
     interned: Interner,
-    // By id, the source that replaces the added one, if there is such a source.
+    // By id, the text that replaces a source, or `None` if the source was not replaced. The list is
+    // not longer than the list of sources.
     changed: Vec<Option<String>>,
     contents: Contents,
 }
@@ -97,14 +98,14 @@ impl SourceMapBuilder {
         })
     }
 
-    /// Sets the debug id, which associates the map with its generated file.
+    /// Sets or clears the debug id, which associates the map with its generated file.
     pub fn set_debug_id(&mut self, debug_id: Option<DebugId>)
         ensures { self.new ≡ record self.old { debug_id = debug_id } }
     {
         self.metadata.set_debug_id(debug_id);
     }
 
-    /// Sets the name of the generated file. The only error is `OutOfMemory`.
+    /// Sets or clears the name of the generated file. The only error is `OutOfMemory`.
     pub fn set_file(&mut self, file: Option<&str>) -> Result<()>
         ensures { Changes result self.old self.new
             (record self.old { file = option_copied file.entry }) }
@@ -121,7 +122,7 @@ impl SourceMapBuilder {
         self.metadata.file()
     }
 
-    /// Sets the root, `sourceRoot`, of the map. The only error is `OutOfMemory`.
+    /// Sets or clears the root, `sourceRoot`, of the map. The only error is `OutOfMemory`.
     pub fn set_source_root(&mut self, root: Option<&str>) -> Result<()>
         ensures { Changes result self.old self.new
             (record self.old { root = option_copied root.entry }) }
@@ -163,8 +164,9 @@ impl SourceMapBuilder {
         self.names.add(name)
     }
 
-    /// Replaces the source with this id, which must exist. `add_source` of the text that was added
-    /// first still returns this id. The only error is `OutOfMemory`.
+    /// Replaces the source with this id. There must be a source with this id. `add_source` still
+    /// returns this id for the text with which the source was added. The only error is
+    /// `OutOfMemory`.
     pub fn set_source(&mut self, id: u32, source: &str) -> Result<()>
         requires { id < length self.old.sources }
         ensures { Changes result self.old self.new
@@ -177,9 +179,10 @@ impl SourceMapBuilder {
         Ok(())
     }
 
-    /// Cuts from each source the first of these prefixes that it starts with. A prefix that does
-    /// not end with `/` gets one, and `~` has no special meaning. `add_source` still finds the id
-    /// of a source by the text that was added first. The only error is `OutOfMemory`.
+    /// Removes from each source the first of these prefixes that the source starts with. Before
+    /// that, a `/` is added to each prefix that does not end with `/`. `~` has no special meaning.
+    /// `add_source` still returns the id of a source for the text with which the source was added.
+    /// The only error is `OutOfMemory`.
     pub fn strip_prefixes<S: AsStr>(&mut self, prefixes: &[S]) -> Result<()>
         ensures { Changes result self.old self.new (record self.old {
           sources = map (without_prefix (map S.text prefixes.now)) self.old.sources;
@@ -201,7 +204,7 @@ impl SourceMapBuilder {
         }
     }
 
-    /// Adds a source id to the ignore list. There need not be such a source. The only error is
+    /// Adds a source id to the ignore list, even if no source has this id. The only error is
     /// `OutOfMemory`.
     pub fn add_to_ignore_list(&mut self, id: u32) -> Result<()>
         ensures { Changes result self.old self.new
@@ -211,8 +214,8 @@ impl SourceMapBuilder {
         Ok(())
     }
 
-    /// Sets the contents of the source with this id, which must exist. The list of contents then
-    /// has one item for each source. The only error is `OutOfMemory`.
+    /// Sets or clears the contents of the source with this id. There must be a source with this id.
+    /// The list of contents then has one item for each source. The only error is `OutOfMemory`.
     pub fn set_source_contents(&mut self, id: u32, contents: Option<&str>) -> Result<()>
         requires { id < length self.old.sources }
         ensures { Changes result self.old self.new (record self.old {
@@ -242,12 +245,17 @@ impl SourceMapBuilder {
         self.get_source_contents(id).is_some()
     }
 
-    /// Reads the contents of each source without contents from its file and returns the number of
-    /// files read. A source is resolved as it was added first, against `base_path`, which is
-    /// resolved against `current_dir`. A source whose file does not exist, cannot be read or is not
-    /// UTF-8 is skipped. The list of contents then has one item for each source. The errors are
-    /// `Io` of kind `InvalidInput` if neither path is absolute, and `OutOfMemory`, after which
-    /// contents that were read before are kept.
+    /// Reads the contents of each source that has no contents from a file, and returns the number
+    /// of files that were read. The path of the file is the text with which the source was added,
+    /// resolved against the folder `base_path`. A `base_path` that is not absolute is joined to
+    /// `current_dir`. Without a `base_path` the folder is `current_dir`. `sourceRoot` is not used.
+    /// A source is skipped if it does not resolve to the path of a file, or if its file does not
+    /// exist, cannot be read or is not UTF-8. On success, the list of contents has one item for
+    /// each source.
+    ///
+    /// The error is `Io` of kind `InvalidInput` if neither `base_path` nor `current_dir` is
+    /// absolute. Then the builder is unchanged. Any other error is `OutOfMemory`. Then contents
+    /// that were read before the error are kept.
     pub fn load_local_source_contents<F: Files>(
         &mut self,
         rt: &F,
@@ -315,8 +323,8 @@ impl SourceMapBuilder {
 
     /// Adds a token, and its source and its name if they are new, and returns the token. If the
     /// source or the name is `None`, the token's id for it is [`NO_ID`]. The errors are those of
-    /// `add_source` and `add_name`; they leave the tokens unchanged, but the source and the name
-    /// may have been added.
+    /// `add_source` and `add_name`. An error leaves the tokens unchanged, but the source and the
+    /// name may have been added.
     pub fn add(
         &mut self,
         dst_line: u32,
@@ -353,8 +361,9 @@ impl SourceMapBuilder {
         )
     }
 
-    /// Copies a token of a map: adds a token with the results of its getters, and returns the new
-    /// token. The name is copied only if `with_name` is true. The errors are those of `add`.
+    /// Copies a token of a map: adds a token with the values that the getters of `token` return,
+    /// and returns the new token. The name is copied only if `with_name` is true. The errors are
+    /// those of `add`.
     pub fn add_token(&mut self, token: &Token<'_>, with_name: bool) -> Result<RawToken>
         ensures token { Gives (λ added. added) result (token_with_ids
             (token_without_ids (token_value token.now).raw.dst_line (token_value token.now).raw.dst_col
@@ -433,7 +442,7 @@ impl SourceMapBuilder {
     }
 }
 
-// Makes the list of contents as long as that of the sources, then loads contents from files.
+// Makes the list of contents as long as the list of sources, then loads contents from files.
 fn load_fitted<F: Files>(
     rt: &F,
     alloc: Global,
@@ -477,8 +486,8 @@ fn text_at(texts: &[Option<String>], index: usize) -> Option<&str>
     }
 }
 
-// The list `changed` after prefixes are cut. `current` is this list before, and `texts` are the
-// sources as they were added.
+// Returns the list `changed` of a builder with the prefixes removed from its sources. `current` is
+// the list before the removal, and `texts` are the sources as they were added.
 fn cut_texts<S: AsStr>(
     alloc: Global,
     texts: &Interner,

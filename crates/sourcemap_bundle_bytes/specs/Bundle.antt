@@ -1,4 +1,4 @@
--- What the bytes of an indexed bundle say: its header, the entries of its modules, and ranges of bytes.
+-- The header of an indexed bundle, the entries of its modules, and ranges of its bytes.
 use Rattle.std.specs.Prelude.{◌≡◌, ℕ, ◌+◌, ◌*◌, nat_le, if◌then◌else◌, List, length, take, drop, Result, Ok, Err}
 use Rattle.byteorder.specs.Endian.{little_number}
 use Rattle.sourcemap_errors.specs.declared.errors.RangeFault.{RangeFault}
@@ -7,23 +7,24 @@ use Rattle.sourcemap_errors.specs.declared.errors.Error.TheVariants.{Scroll}
 use Rattle.sourcemap_bundle_bytes.specs.declared.bundle.ModuleEntry.{ModuleEntry}
 use Rattle.sourcemap_bundle_bytes.specs.declared.bundle.RamBundleHeader.{RamBundleHeader}
 
--- the result of a call that allocates nothing is exactly the due one; `view` gives its value as contracts see it
+-- the result of a call that allocates nothing agrees with `due`: both are the same error, or `view` maps the value of
+-- the result to the value of `due`
 abbrev pub Returns : {X Y : Type 0} → (X → Y) → Result X Error → Result Y Error → Type 0
 Returns view (Ok x) due = due ≡ Ok (view x)
 Returns view (Err e) due = due ≡ Err e
 
--- the next step on a value; an error stays unchanged
+-- `make` applied to a value; an error stays unchanged
 abbrev pub then_make : {X Y : Type 0} → (X → Result Y Error) → Result X Error → Result Y Error
 then_make make (Ok x) = make x
 then_make make (Err e) = Err e
 
--- the bytes of a range, or the error if the end of the range passes the end of the bytes
+-- the `size` bytes from `start` on, or `Scroll` if their end passes the end of `bytes`
 abbrev pub range_of : List ℕ → ℕ → ℕ → Result (List ℕ) Error
 range_of bytes start size =
     if nat_le (start + size) (length bytes) then Ok (take size (drop start bytes))
     else Err (Scroll (record { start = start; size = size; len = length bytes }))
 
--- the number of 32 bits at this offset, lowest byte first
+-- the number of 32 bits at this byte offset, lowest byte first
 abbrev pub u32_at : ℕ → List ℕ → ℕ
 u32_at offset bytes = little_number 4 (drop offset bytes)
 
@@ -31,7 +32,7 @@ u32_at offset bytes = little_number 4 (drop offset bytes)
 abbrev pub bundle_magic : ℕ
 bundle_magic = 0xFB0BD1E5
 
--- the first 12 bytes, as three numbers
+-- the first 12 bytes, as three numbers; `Scroll` if there are fewer bytes
 abbrev pub header_of : List ℕ → Result RamBundleHeader Error
 header_of bytes = then_make (λ header. Ok (record {
   magic = u32_at 0 header;
@@ -39,7 +40,8 @@ header_of bytes = then_make (λ header. Ok (record {
   startup_code_size = u32_at 8 header;
 })) (range_of bytes 0 12)
 
--- the entry of a module, as two numbers: 8 bytes after the header and the entries of the modules before it
+-- the entry of the module `id`, as two numbers. Its 8 bytes follow the 12 bytes of the header and the `id` entries
+-- before it. `Scroll` if the bytes end before the end of the entry
 abbrev pub entry_of : List ℕ → ℕ → Result ModuleEntry Error
 entry_of bytes id = then_make (λ entry. Ok (record {
   offset = u32_at 0 entry;

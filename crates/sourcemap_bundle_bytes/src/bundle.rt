@@ -12,7 +12,8 @@ const HEADER_SIZE: u64 = 12;
 
 const ENTRY_SIZE: u64 = 8;
 
-/// What an indexed bundle begins with: three numbers of 32 bits, lowest byte first.
+/// The header of an indexed bundle: the first 12 bytes of the bundle, as three numbers of 32 bits,
+/// lowest byte first.
 #[derive(Clone, Copy, Debug)]
 pub struct RamBundleHeader {
     /// `RAM_BUNDLE_MAGIC`, if the bytes are an indexed bundle.
@@ -24,8 +25,8 @@ pub struct RamBundleHeader {
 }
 
 impl RamBundleHeader {
-    /// Returns the header that `bytes` begins with, whatever its magic number. Fewer than 12 bytes
-    /// are `Scroll`.
+    /// Returns the header that `bytes` begins with, whatever its magic number. The error is
+    /// `Scroll` if there are fewer than 12 bytes.
     pub fn read(bytes: &[u8]) -> Result<Self>
         ensures { result ≡ header_of bytes.now }
     {
@@ -67,7 +68,7 @@ impl ModuleEntry {
         })
     }
 
-    /// Whether the entry stands for no module: offset and length are 0.
+    /// Whether the entry belongs to no module: its offset and its length are 0.
     pub fn is_empty(self) -> bool
         ensures { IsTrue result ↔ ((self.offset ≡ 0) × (self.length ≡ 0)) }
     {

@@ -1,4 +1,4 @@
--- The modules that an iterator still gives.
+-- The modules that an iterator has not yet returned.
 use Rattle.std.specs.Prelude.{ℕ, List, filter_map, Result, Ok, Err}
 use Rattle.sourcemap_errors.specs.declared.errors.Error.{Error}
 use Rattle.sourcemap_bundles.specs.Iterators.{modules_left}
@@ -11,7 +11,7 @@ use Rattle.sourcemap_bundle_split.specs.declared.split.SplitRamBundleModuleIter.
 abbrev pub split_value : SplitRamBundleModuleIter → SplitValue
 split_value it = record { flat = it.maps; offsets = it.offsets.items; modules = modules_left it.modules }
 
--- the modules left that are not skipped, each with its first line
+-- for each module that is left and is not skipped: the module with its first line, or the error for it
 abbrev pub modules_and_lines_left : SplitRamBundleModuleIter → List (Result (ModuleValue × ℕ) Error)
 modules_and_lines_left it = filter_map (with_first_line it.offsets.items) (modules_left it.modules)
 

@@ -1,4 +1,4 @@
--- The flat map of a bundle beside tables for its ids.
+-- The flat map of a bundle, with tables that number its source ids and its name ids.
 use Rattle.std.specs.Prelude.{◌≡◌, length}
 use Rattle.sourcemap_bundle_split.specs.declared.module_maps.ModuleMaps.TheInside.{Inside}
 

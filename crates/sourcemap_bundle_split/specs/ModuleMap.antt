@@ -13,15 +13,16 @@ use Rattle.sourcemap_map_regular.specs.Map.{MapValue, resolved_sources}
 abbrev pub last_line : List ℕ → List ℕ
 last_line text = unwrap_or (slice_get (line_bodies text) (length (line_bodies text) - 1)) []
 
--- where a text ends that begins at the start of this line
+-- the position where a text ends that begins at column 0 of `line`: the number of its last line, and the length of this
+-- line in UTF-16 units
 abbrev pub end_of : ℕ → List ℕ → ℕ × ℕ
 end_of line text = (line + (length (line_bodies text) - 1), width (chars (last_line text)))
 
--- a position from this line on and before this end
+-- the position `p` is at or after column 0 of `line`, and before `end`
 abbrev pub is_in : ℕ → ℕ × ℕ → ℕ × ℕ → Bool
 is_in line end p = not (is_lt (position_cmp p (line, 0))) && is_lt (position_cmp p end)
 
--- a position whose line is counted from `line`
+-- the position `p`, with its line counted from `line`
 abbrev pub lowered_to : ℕ → ℕ × ℕ → ℕ × ℕ
 lowered_to line p = (p.0 - line, p.1)
 
@@ -30,19 +31,20 @@ abbrev pub number_of : List ℕ → ℕ → Option ℕ
 number_of [] id = None
 number_of (k ∷ ids) id = if k == id then Some 0 else option_map (λ n. n + 1) (number_of ids id)
 
--- the list of ids with `id` at the end, if `id` is below `count` and not yet in the list
+-- the list of ids, with `id` appended if it is below `count` and not yet in the list
 abbrev pub with_id : ℕ → List ℕ → ℕ → List ℕ
 with_id count ids id = if nat_lt id count && is_none (number_of ids id) then ids ++ id ∷ [] else ids
 
--- the ids below `count`, each once, in the order of first use
+-- the ids of the list that are below `count`, each once, in the order of first use
 abbrev pub used_ids : ℕ → List ℕ → List ℕ
 used_ids count ids = fold (with_id count) [] ids
 
--- the texts of ids
+-- the texts with these ids; an id without a text gives an empty text
 abbrev pub texts_at : List (List ℕ) → List ℕ → List (List ℕ)
 texts_at texts ids = map (λ id. unwrap_or (slice_get texts id) []) ids
 
--- a token whose line is counted from `line`; its source and its name have new numbers, or `no_id`
+-- the token with its generated line counted from `line`; its source id and its name id become their numbers in
+-- `sources` and `names`, or `no_id` if they have no number
 abbrev pub moved_by : ℕ → List ℕ → List ℕ → RawToken → RawToken
 moved_by line sources names t = record t {
   dst_line = t.dst_line - line;
@@ -54,15 +56,16 @@ moved_by line sources names t = record t {
 abbrev pub tokens_in : ℕ → ℕ × ℕ → List RawToken → List RawToken
 tokens_in line end tokens = filter (λ t. is_in line end (destination t)) tokens
 
--- the ids of the sources (`names_in`: of the names) that the tokens on these lines use
+-- the ids of the sources (`names_in`: of the names) that the tokens from `line` on and before `end` use, each id once,
+-- in the order of first use
 abbrev pub sources_in : MapValue → ℕ → ℕ × ℕ → List ℕ
 sources_in flat line end = used_ids (length flat.sources) (map (λ t. t.src_id) (tokens_in line end flat.tokens))
 
 abbrev pub names_in : MapValue → ℕ → ℕ × ℕ → List ℕ
 names_in flat line end = used_ids (length flat.names) (map (λ t. t.name_id) (tokens_in line end flat.tokens))
 
--- the map of a module on these lines of a flat map: the tokens on these lines, and the sources (with contents) and
--- names that the tokens use, in the order of first use
+-- the map of the module `name` that begins at `line` of the flat map and ends at `end`: the tokens from `line` on and
+-- before `end`, and the sources (with contents) and names that these tokens use, in the order of first use
 abbrev pub module_map : MapValue → List ℕ → ℕ → ℕ × ℕ → MapValue
 module_map flat name line end = record {
   file = Some name;

@@ -13,7 +13,7 @@ pub record NumbersValue : Type 0 where
 abbrev pub none_of : ℕ → NumbersValue
 none_of count = record { count = count; ids = [] }
 
--- with the next number for `id`, if it is the id of an item and has no number
+-- `id` gets the next number if it is the id of an item and has no number; otherwise nothing changes
 abbrev pub with_number : NumbersValue → ℕ → NumbersValue
 with_number n id = record { count = n.count; ids = with_id n.count n.ids id }
 
@@ -24,7 +24,8 @@ numbers_in a = record { count = length a.numbers.items; ids = a.order.items }
 abbrev pub Stand : (numbers order : List ℕ) → Type 0
 Stand numbers order = (n id : ℕ) → slice_get order n ≡ Some id → slice_index numbers id ≡ n
 
--- the ids in `order` are distinct ids of items and have their numbers; there are at most 4294967295 items
+-- the ids in `order` are distinct ids of items, and the number of each is its index in `order`; there are at most
+-- 4294967295 items
 pub record AreNumbers (a : Inside) : Type 0 where
   pub few : length a.numbers.items ≤ 4294967295
   pub stand : Stand a.numbers.items a.order.items

@@ -38,13 +38,14 @@ parts_on flat line m = record {
 abbrev pub utf8_text : List ℕ → Result (List ℕ) Error
 utf8_text bytes = if is_utf8 bytes then Ok bytes else Err InvalidRamBundleEntry
 
--- the module that begins at this line of the flat map; an error if no token of the flat map is at the
--- start of this line or before it, or if the text is not UTF-8
+-- the item of the module that begins at `line` of the flat map; `InvalidRamBundleEntry` if no token of the flat map is
+-- at the start of this line or before it, or if the text is not UTF-8
 abbrev pub parts_at : MapValue → ℕ → ModuleValue → Result ModuleParts Error
 parts_at flat line m =
     if is_some (meaning flat (line, 0)) && is_utf8 m.text then Ok (parts_on flat line m) else Err InvalidRamBundleEntry
 
--- a module with its first line; an error if its number is past the offsets, skipped if its offset is null
+-- a module with its first line; `InvalidRamBundleEntry` if its number is past the end of the offsets; `None` if its
+-- offset is null, and then the module is skipped
 abbrev pub with_line : ModuleValue → Option (Option ℕ) → Option (Result (ModuleValue × ℕ) Error)
 with_line m None = Some (Err InvalidRamBundleEntry)
 with_line m (Some None) = None
@@ -62,7 +63,7 @@ due_of flat (Err e) = Err e
 abbrev pub dues_of : MapValue → List (Option ℕ) → List (Result ModuleValue Error) → List (Result ModuleParts Error)
 dues_of flat offsets modules = map (due_of flat) (filter_map (with_first_line offsets) modules)
 
--- a flat map, the first lines of modules, and modules that are still to come
+-- the flat map of a bundle, the first lines of its modules by module number, and the modules that are still to come
 pub record SplitValue : Type 0 where
   pub flat : MapValue
   pub offsets : List (Option ℕ)
@@ -71,7 +72,7 @@ pub record SplitValue : Type 0 where
 abbrev pub dues_in : SplitValue → List (Result ModuleParts Error)
 dues_in split = dues_of split.flat split.offsets split.modules
 
--- an index without the list of first lines is of no bundle
+-- the modules with the flat map and the list of first lines; `NotARamBundle` if the index map has no such list
 abbrev pub with_offsets : MapValue → List (Result ModuleValue Error) → Option (List (Option ℕ)) → Result SplitValue Error
 with_offsets flat modules None = Err NotARamBundle
 with_offsets flat modules (Some offsets) = Ok (record { flat = flat; offsets = offsets; modules = modules })
@@ -86,7 +87,8 @@ pub record HasFewTexts (flat : MapValue) : Type 0 where
   pub sources : length flat.sources ≤ 4294967295
   pub names : length flat.names ≤ 4294967295
 
--- a call of an iterator returns the first due item, or out of memory for it, and leaves the other items
+-- a call of an iterator returns the first due item, or the error `OutOfMemory` instead of this item. In both cases the
+-- items after it stay due. The call returns `None` if no item is due
 abbrev pub YieldsDue : {S A B : Type 0} → (A → B) → (S → List (Result B Error)) → S → Option (Result A Error) → S → Type 0
 YieldsDue {B = B} view rest s item t =
     MatchOption item ((rest s ≡ []) × (rest t ≡ [])) (λ r. (due : Result B Error) × (rest s ≡ due ∷ rest t) × Gives view r due)

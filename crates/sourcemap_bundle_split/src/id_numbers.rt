@@ -1,4 +1,4 @@
-//! New numbers of ids, in the order of first use.
+//! Numbers ids in the order of first use.
 ghost use Rattle.std.specs.Prelude.{◌≡◌, ◌<◌, ◌≤◌, All, Ok, IfOk, OnErr, OnOk, IsOkUnless, Some, length, slice_get, unwrap_or};
 ghost use Rattle.std.specs.Bool.{Decides};
 ghost use Rattle.sourcemap_errors.specs.Answer.{Gives};
@@ -11,12 +11,12 @@ use sourcemap_tokens::tokens::NO_ID;
 use std::alloc::Global;
 use std::marker::Model;
 
-/// Numbers for the ids of a list of items. An id that is used for the first time gets the next
-/// number, from 0 on.
+/// A table that numbers the ids of a list of items. An id that is used for the first time gets the
+/// next number, from 0 on.
 #[derive(Drop)]
 pub(crate) struct IdNumbers {
-    // The number of each id, by id. It counts only if `order` has the id at that index. Otherwise
-    // the id has no number. So `clear` empties `order` alone.
+    // The item at index `id` is the number of `id`, but only if `order` has `id` at the index that
+    // equals this number. Otherwise `id` has no number. So `clear` only empties `order`.
     numbers: Vec<u32>,
     // the ids that have a number, in the order of their numbers
     order: Vec<u32>,
@@ -35,7 +35,8 @@ impl Model for IdNumbers {
 impl IdNumbers {
     ghost use Rattle.sourcemap_bundle_split.specs.Numbers.{none_of, with_number};
 
-    /// Numbers for the ids of `count` items. No id has one yet. The only error is `OutOfMemory`.
+    /// Returns a table that can number the ids of `count` items. No id has a number yet. The only
+    /// error is `OutOfMemory`.
     pub(crate) fn new(alloc: Global, count: usize) -> Result<Self>
         requires { count ≤ 4294967295 }
         ensures { Gives (λ n. n) result (Ok (none_of count)) }
@@ -53,8 +54,9 @@ impl IdNumbers {
         self.order.clear();
     }
 
-    /// Returns the number of an id. An id without one gets the next number. For an id that names no
-    /// item it returns `NO_ID`. The only error is `OutOfMemory`, and then nothing changes.
+    /// Returns the number of an id, or `NO_ID` if the id is not below the count of items. An id
+    /// below this count that has no number gets the next number. The only error is `OutOfMemory`,
+    /// and then nothing changes.
     pub(crate) fn number(&mut self, id: u32) -> Result<u32>
         ensures ids { OnOk result (self.new ≡ with_number self.old id) }
         ensures number { IfOk result (λ n. n ≡ unwrap_or (number_of self.new.ids id) no_id) }
@@ -75,7 +77,7 @@ impl IdNumbers {
         Ok(number)
     }
 
-    /// Returns the ids that have a number, in order.
+    /// Returns the ids that have a number, in the order of their numbers.
     pub(crate) fn ids(&self) -> &[u32]
         ensures ids { result.now ≡ self.now.ids }
         ensures below { All (λ id. id < self.now.count) result.now }

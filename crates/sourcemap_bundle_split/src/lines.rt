@@ -10,14 +10,15 @@ ghost use Rattle.sourcemap_bundle_split.specs.Lines.{IsBound};
 use sourcemap_source_views::sourceview::SourceView;
 use sourcemap_tokens::tokens::RawToken;
 
-/// A line and a column, which may lie past all those of tokens.
+/// A line and a column. Either may be greater than that of any token.
 #[derive(Clone, Copy)]
 pub(crate) struct Bound {
     line: u64,
     col: u64,
 }
 
-/// Returns where the text of a module ends that begins at this line.
+/// Returns where the module's text `view` ends if it begins at column 0 of `line`: the number of
+/// its last line, and the length of this line in UTF-16 units.
 pub(crate) fn end_of(line: u32, view: &SourceView) -> Bound
     ensures { IsBound result (end_of line view.now) }
 {
@@ -32,7 +33,7 @@ pub(crate) fn end_of(line: u32, view: &SourceView) -> Bound
     }
 }
 
-/// Returns the tokens from a line on and before an end.
+/// Returns the tokens from the start of `line` on and before `end`.
 pub(crate) fn tokens_in(tokens: &[RawToken], line: u32, end: Bound) -> &[RawToken]
     requires { AreInOrder tokens.now }
     ensures tokens { (e : ℕ × ℕ) → IsBound end e → result.now ≡ tokens_in line e tokens.now }

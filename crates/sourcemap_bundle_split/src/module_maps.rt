@@ -1,4 +1,4 @@
-//! Maps of modules, made of the flat map of a bundle.
+//! Maps of modules, made from the flat map of a bundle.
 ghost use Rattle.std.specs.Prelude.{◌≡◌, ◌<◌, ◌≤◌, All, None, Ok, Some, IfOk, OnOk, IsOkUnless, [], is_some, length, map, string_bytes};
 ghost use Rattle.sourcemap_errors.specs.Answer.{Gives};
 ghost use Rattle.sourcemap_errors.specs.declared.errors.Error.TheVariants.{OutOfMemory};
@@ -23,7 +23,8 @@ use sourcemap_tokens::tokens::RawToken;
 use std::alloc::Global;
 use std::marker::Model;
 
-/// The flat map of a bundle, and tables that number what the tokens of one module use.
+/// The flat map of a bundle, and tables that number the sources and the names that the tokens of
+/// one module use.
 pub(crate) struct ModuleMaps {
     flat: SourceMap,
     sources: IdNumbers,
@@ -66,8 +67,8 @@ impl ModuleMaps {
         })
     }
 
-    /// Returns the map of the module with this name and text that begins at `line` of the flat map.
-    /// The only error is `OutOfMemory`.
+    /// Returns the map of a module. `name` is its name, `view` is its text, and it begins at `line`
+    /// of the flat map. The only error is `OutOfMemory`.
     pub(crate) fn map_of(
         &mut self,
         alloc: Global,
@@ -95,7 +96,7 @@ impl ModuleMaps {
         )
     }
 
-    /// Returns whether the flat map has a token at the first column of this line, or before.
+    /// Returns whether the flat map has a token at or before the first column of `line`.
     pub(crate) fn reaches(&self, line: u32) -> bool
         ensures { result ≡ is_some (meaning self.now (line, 0)) }
     {
@@ -103,7 +104,8 @@ impl ModuleMaps {
     }
 }
 
-// The map of these tokens, with the sources and the names of these ids.
+// The map with these tokens. `sources` and `names` are the ids that its sources and its names have
+// in the flat map.
 fn map_of_tokens(
     alloc: Global,
     name: &str,
@@ -137,7 +139,8 @@ fn map_of_tokens(
     Ok(SourceMap::of_parts(metadata, tokens, names, sources, contents))
 }
 
-// The tokens with lines counted from `line`, and with new numbers for their sources and names.
+// The tokens with their generated lines counted from `line`, and with new numbers for their sources
+// and names.
 fn move_tokens(
     alloc: Global,
     tokens: &[RawToken],

@@ -27,17 +27,23 @@ pub struct SplitRamBundleModuleIter<'a> {
     alloc: Global,
 }
 
-/// Returns the modules of a bundle in turn, each with a map made of the index map of the bundle.
-/// The errors of `flatten` come first; an index without `x_facebook_offsets` is `NotARamBundle`.
+/// Returns an iterator over the modules of a bundle. Each module has a map that is made from `map`,
+/// the index map of the bundle. If the index map cannot be flattened, the error is that of
+/// `flatten`. Otherwise the error is `NotARamBundle` if the index map has no `x_facebook_offsets`.
+/// Any other error is `OutOfMemory`.
 ///
 /// A module begins at the line that `x_facebook_offsets` has for its number, and takes as many
-/// lines as its text has. On the last one it ends at that line's length in UTF-16 units. Its name
-/// is its number and `.js`. Its map has the tokens of its lines, and the sources with their
-/// contents and the names that these tokens use, in the order of first use. Lines of the map count
-/// from the module's first line. A number whose offset is null gives no item.
-/// `InvalidRamBundleEntry` is the item of a module that the bundle refuses, whose number is past
-/// the offsets, whose text is not UTF-8, or with no token at the first column of its first line or
-/// before it. An item may be `OutOfMemory`; then only that module is lost.
+/// lines as its text has. On its last line it ends at the length of this line in UTF-16 units. Its
+/// name is its number followed by `.js`. Its map has the tokens from the module's start on and
+/// before the module's end. The map also has the sources that these tokens use, with their
+/// contents, and the names that these tokens use, both in the order of first use. Lines of the map
+/// count from the module's first line.
+///
+/// A module whose offset is null gives no item. The item of a module is `InvalidRamBundleEntry` in
+/// four cases: reading the module from the bundle fails, its number is past the end of
+/// `x_facebook_offsets`, its text is not UTF-8, or the flattened map has no token at or before the
+/// first column of the module's first line. An item may be `OutOfMemory`; then only that module is
+/// lost.
 pub fn split_ram_bundle<'a>(
     alloc: Global,
     bundle: &'a RamBundle<'a>,
@@ -60,7 +66,8 @@ pub fn split_ram_bundle<'a>(
 }
 
 impl<'a> SplitRamBundleModuleIter<'a> {
-    // The next module that is not skipped, with its first line.
+    // The next module that is not skipped, with its first line, or the error
+    // `InvalidRamBundleEntry` for this module. `None` if no such module is left.
     fn next_with_line(&mut self) -> Option<Result<(RamBundleModule<'a>, u32)>>
         ensures next { YieldsFirstBy module_and_line modules_and_lines_left
             self.old result self.new }
@@ -79,7 +86,9 @@ impl<'a> SplitRamBundleModuleIter<'a> {
         None
     }
 
-    // The name, the text and the map of a module that begins at this line.
+    // The name, the text and the map of the module `found`, which begins at `line`. The error is
+    // `InvalidRamBundleEntry` if the flat map has no token at or before the first column of `line`,
+    // or if the text is not UTF-8. Any other error is `OutOfMemory`.
     fn parts_at(
         &mut self,
         found: &RamBundleModule<'a>,
@@ -100,7 +109,8 @@ impl<'a> SplitRamBundleModuleIter<'a> {
     }
 }
 
-// A view of the module's text, which has to be UTF-8.
+// A view of the module's text. The error is `InvalidRamBundleEntry` if the text is not UTF-8, and
+// otherwise `OutOfMemory`.
 fn view_of(found: &RamBundleModule<'_>, alloc: Global) -> Result<SourceView>
     ensures { Gives (λ view. view) result (utf8_text found.now.text.now) }
 {

@@ -21,12 +21,12 @@ IsFileError NotARamBundle = Unit {0}
 IsFileError InvalidRamBundleIndex = Unit {0}
 IsFileError _ = ⊥
 
--- a file's name has this number: ASCII digits and `.js`, and the number is not the greatest of 64 bits
+-- a file's name consists of ASCII digits and `.js`, and the digits denote this number, which is below 2^64 - 1
 abbrev pub IsNumbered : List ℕ → ℕ → Type 0
 IsNumbered name id = (digits : List ℕ) × (name ≡ digits ++ codes ".js") × IsNumeral 10 digits
     × (id ≡ digits_value 10 digits) × (id + 1 < 2 ^ 64)
 
--- the startup code alone
+-- a file bundle with this startup code and without modules
 abbrev pub no_modules : List ℕ → FilesValue
 no_modules startup = record { startup = startup; count = 1; modules = [] }
 
@@ -38,7 +38,7 @@ with_file folder file = record {
   modules = insert_entry nat_cmp folder.modules file.0 file.1;
 }
 
--- the startup code, and files with their numbers
+-- a file bundle with this startup code, after files were added in order, each with its number
 abbrev pub folder_of : List ℕ → List (ℕ × List ℕ) → FilesValue
 folder_of startup found = fold with_file (no_modules startup) found
 
@@ -55,7 +55,7 @@ abbrev pub IsFolder : FilesValue → Type 0
 IsFolder folder = (names : List (String Global)) × (startup : List ℕ)
     × IsSorted string_cmp names × IsReadBy (map string_bytes names) startup folder
 
--- the bundle is a file bundle, and its files were read in that order
+-- the bundle is a file bundle whose files were read in the order of the bytes of their names
 abbrev pub IsFileBundle : BundleValue → Type 0
 IsFileBundle (indexed header bytes) = ⊥
 IsFileBundle (files folder) = IsFolder folder

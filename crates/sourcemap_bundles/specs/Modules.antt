@@ -22,7 +22,7 @@ pub record FilesValue : Type 0 where
   pub count : ℕ
   pub modules : List (ℕ × List ℕ)
 
--- a bundle: the header of an indexed bundle with all its bytes, header included, or a file bundle
+-- a bundle: either an indexed bundle, as its header and all its bytes including the header, or a file bundle
 pub data BundleValue : Type 0 where
   indexed : RamBundleHeader → List ℕ → BundleValue
   files : FilesValue → BundleValue
@@ -36,14 +36,16 @@ abbrev pub indexed_bundle : List ℕ → Result BundleValue Error
 indexed_bundle bytes = then_make (λ header.
     if header.magic == bundle_magic then Ok (indexed header bytes) else Err InvalidRamBundleMagic) (header_of bytes)
 
--- where the table of modules ends: there the startup code begins, and offsets of modules count from there
+-- the offset of the end of the table of modules, in bytes. The startup code begins there, and offsets of modules count
+-- from there
 abbrev pub code_start : RamBundleHeader → ℕ
 code_start header = 12 + 8 * header.module_count
 
 abbrev pub indexed_startup : RamBundleHeader → List ℕ → Result (List ℕ) Error
 indexed_startup header bytes = range_of bytes (code_start header) header.startup_code_size
 
--- the module of an entry: the zero byte at its end is no part of its text
+-- the module of an entry, without the zero byte at its end; `None` if the offset and length of the entry are 0;
+-- `InvalidRamBundleEntry` if only the length is 0; `Scroll` if the module passes the end of the bytes
 abbrev pub module_of_entry : RamBundleHeader → List ℕ → ℕ → ModuleEntry → Result (Option ModuleValue) Error
 module_of_entry header bytes id entry =
     if entry.length == 0 then (if entry.offset == 0 then Ok None else Err InvalidRamBundleEntry)
@@ -68,7 +70,7 @@ abbrev pub bundle_startup : BundleValue → Result (List ℕ) Error
 bundle_startup (indexed header bytes) = indexed_startup header bytes
 bundle_startup (files folder) = Ok folder.startup
 
--- the module of a number, none where the number has no module
+-- the module with this number; `None` if the number has no module; an indexed bundle may also give an error
 abbrev pub bundle_module : BundleValue → ℕ → Result (Option ModuleValue) Error
 bundle_module (indexed header bytes) id = indexed_module header bytes id
 bundle_module (files folder) id = Ok (file_module folder id)
@@ -79,23 +81,24 @@ with_item (Ok None) items = items
 with_item (Ok (Some found)) items = Ok found ∷ items
 with_item (Err e) items = Err e ∷ items
 
--- the modules of so many numbers from `id` on; a module that is refused is replaced by its error
+-- the modules with numbers from `id` on, below `id` plus the given count; a module that cannot be read is replaced by
+-- its error
 abbrev pub modules_from : BundleValue → ℕ → ℕ → List (Result ModuleValue Error)
 modules_from bundle zero id = []
 modules_from bundle (suc left) id = with_item (bundle_module bundle id) (modules_from bundle left (id + 1))
 
--- the modules of all numbers
+-- the modules of all numbers below the count, or their errors
 abbrev pub modules_of : BundleValue → List (Result ModuleValue Error)
 modules_of bundle = modules_from bundle (bundle_count bundle) 0
 
--- a view of this text, which is UTF-8; or the error `Utf8`, where the text is not UTF-8; or memory ran out
+-- the result of making a view of this text: the text if it is UTF-8, the error `Utf8` if it is not, or out of memory
 abbrev pub IsViewOf : List ℕ → Result (List ℕ) Error → Type 0
 IsViewOf text (Ok view) = (view ≡ text) × IsUtf8 text
 IsViewOf text (Err OutOfMemory) = Unit {0}
 IsViewOf text (Err (Utf8 _)) = ¬ IsUtf8 text
 IsViewOf text (Err _) = ⊥
 
--- the result of reading a file: the bundle that some bytes are, or their error; or the read failed, or memory ran out
+-- the result of reading a file: `indexed_bundle` of some bytes, `Io` for a failed read, or out of memory
 abbrev pub IsOfFile : Result BundleValue Error → Type 0
 IsOfFile (Ok bundle) = (bytes : List ℕ) × (indexed_bundle bytes ≡ Ok bundle)
 IsOfFile (Err OutOfMemory) = Unit {0}

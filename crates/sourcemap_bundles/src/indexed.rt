@@ -19,8 +19,8 @@ pub(crate) struct IndexedRamBundle<'a> {
 }
 
 impl<'a> IndexedRamBundle<'a> {
-    /// Returns the bundle that these bytes are. The header alone is read: bytes that end within it
-    /// are `Scroll`, another magic number is `InvalidRamBundleMagic`.
+    /// Returns the bundle that these bytes are. Only the header is read. The error is `Scroll` if
+    /// the bytes end within the header, or `InvalidRamBundleMagic` for another magic number.
     pub(crate) fn parse(bytes: CowSlice<'a, u8>) -> Result<Self>
         ensures { Returns indexed_value result (indexed_bundle (cow_slice_items bytes.entry)) }
     {
@@ -39,7 +39,8 @@ impl<'a> IndexedRamBundle<'a> {
         self.header.module_count as usize
     }
 
-    /// Returns the startup code, which begins where the table ends.
+    /// Returns the startup code, which begins where the table ends. The error is `Scroll` if the
+    /// code passes the end of the bytes.
     pub(crate) fn startup_code(&self) -> Result<&[u8]>
         ensures { Returns (λ code. code.now) result (indexed_startup self.now.header (cow_slice_items self.now.bytes)) }
     {
@@ -47,7 +48,8 @@ impl<'a> IndexedRamBundle<'a> {
         byte_range(self.bytes.as_slice(), self.code_start(), size as u64)
     }
 
-    /// Returns the module of that number, or none where its entry is empty.
+    /// Returns the module with this number, or `None` if its entry is empty.
+    /// `RamBundle::get_module` lists the errors.
     pub(crate) fn get_module(&self, id: usize) -> Result<Option<RamBundleModule<'_>>>
         ensures { Returns (option_map module_value) result (indexed_module self.now.header (cow_slice_items self.now.bytes) id) }
     {
@@ -79,7 +81,7 @@ impl<'a> IndexedRamBundle<'a> {
         })
     }
 
-    /// Returns where the table ends.
+    /// Returns the byte offset of the end of the table.
     fn code_start(&self) -> u64
         ensures start { result ≡ code_start self.now.header }
         ensures small { result < 2 ^ 36 }

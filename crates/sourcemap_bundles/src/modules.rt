@@ -30,8 +30,8 @@ impl<'a> RamBundleModule<'a> {
         self.text
     }
 
-    /// Returns a view of the module's text. Bytes that are not UTF-8 are `Utf8`. Any other error is
-    /// `OutOfMemory`.
+    /// Returns a view of the module's text. The error is `Utf8` if the bytes are not UTF-8. Any
+    /// other error is `OutOfMemory`.
     pub fn source_view(&self, alloc: Global) -> Result<SourceView>
         ensures { IsViewOf self.now.text.now result }
     {

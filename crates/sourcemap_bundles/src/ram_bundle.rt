@@ -58,8 +58,9 @@ impl Drop for RamBundle<'_> {
 impl<'a> RamBundle<'a> {
     ghost use Rattle.sourcemap_bundles.specs.Iterators.{modules_left};
 
-    /// Returns the indexed bundle that these bytes are. The bundle borrows them. The header alone
-    /// is read: fewer than 12 bytes are `Scroll`, another magic number is `InvalidRamBundleMagic`.
+    /// Returns the indexed bundle that these bytes are. The bundle borrows the bytes. Only the
+    /// header is read. The error is `Scroll` for fewer than 12 bytes, or `InvalidRamBundleMagic`
+    /// for another magic number.
     pub fn parse_indexed_from_slice(bytes: &'a [u8]) -> Result<Self>
         ensures { Returns (λ bundle. bundle) result (indexed_bundle bytes.now) }
     {
@@ -79,22 +80,24 @@ impl<'a> RamBundle<'a> {
         })
     }
 
-    /// Reads a file, and returns the indexed bundle that its bytes are. A failed read is `Io`, or
-    /// `OutOfMemory` if memory ran out. Any other error is one of `parse_indexed_from_slice`.
+    /// Reads a file, and returns the indexed bundle that its bytes are. If the read fails, the
+    /// error is `Io`, or `OutOfMemory` if memory ran out. Any other error is an error of
+    /// `parse_indexed_from_slice`.
     pub fn parse_indexed_from_path<F: Files>(rt: &F, alloc: Global, path: &str) -> Result<Self>
         ensures { IsOfFile result }
     {
         RamBundle::parse_indexed_from_vec(fs::read(&(rt, alloc), path)?)
     }
 
-    /// Reads the file bundle with the startup code at `path`. Its modules are the plain files of
-    /// the folder `js-modules` beside the startup code, without `UNBUNDLE`. Each is named by ASCII
-    /// digits and `.js`. If two have the same number, the one whose name is later in the order of
-    /// bytes is kept.
+    /// Reads the file bundle with the startup code at `path`. Its modules are the plain files other
+    /// than `UNBUNDLE` in the folder `js-modules` beside the startup code. The name of a module
+    /// file is ASCII digits and `.js`. If two files have the same number, the file whose name is
+    /// later in the order of bytes is kept.
     ///
-    /// Returns `NotARamBundle` if `is_unbundle_path` is false for `path`. Another name, or a number
-    /// without a successor in `usize`, is `InvalidRamBundleIndex`. A failed read or listing is
-    /// `Io`, or `OutOfMemory` if memory ran out.
+    /// Returns `NotARamBundle` if `is_unbundle_path` is false for `path`. Returns
+    /// `InvalidRamBundleIndex` if a module file has another name, or a number that is not below
+    /// `usize::MAX`. If a read or listing fails, the error is `Io`, or `OutOfMemory` if memory ran
+    /// out.
     pub fn parse_unbundle_from_path<F: Files>(rt: &F, alloc: Global, path: &str) -> Result<Self>
         ensures files { IfOk result IsFileBundle }
         ensures refused { IfErr result IsFileError }
@@ -115,11 +118,11 @@ impl<'a> RamBundle<'a> {
         }
     }
 
-    /// Returns the module of that number, or none if the number has no module. An indexed bundle
-    /// has these errors, in this order. A number that is not below the count is
-    /// `InvalidRamBundleIndex`. An entry past the end of the bytes is `Scroll`. An entry of length
-    /// 0 with an offset other than 0 is `InvalidRamBundleEntry`. A module past the end of the bytes
-    /// is `Scroll`. Allocates nothing.
+    /// Returns the module with this number, or `None` if the number has no module. Only an indexed
+    /// bundle has errors. They are checked in this order: `InvalidRamBundleIndex` if the number is
+    /// not below the count, `Scroll` if the entry passes the end of the bytes,
+    /// `InvalidRamBundleEntry` if the entry has length 0 and an offset other than 0, and `Scroll`
+    /// if the module passes the end of the bytes. Allocates nothing.
     pub fn get_module(&self, id: usize) -> Result<Option<RamBundleModule<'_>>>
         ensures { Returns (option_map module_value) result (bundle_module self.now id) }
     {
@@ -201,7 +204,7 @@ impl<'a> Iterator for RamBundleModuleIter<'a> {
     fn next(&mut self) -> Option<Result<RamBundleModule<'a>>> {
         let bundle = self.bundle;
         let end = self.end;
-        // The numbers of files may be far apart.
+        // The numbers of files may be far apart, so not every number is looked up.
         if let RamBundleImpl::Unbundle(files) = &bundle.repr {
             let found = files.module_from(self.next)?;
             if found.id() >= end {

@@ -22,7 +22,7 @@ use std::{fs, io};
 
 const MARKER: &str = "UNBUNDLE";
 
-/// What was read from the files of a file bundle.
+/// The contents of a file bundle, read from its files.
 #[derive(Debug, Drop)]
 pub(crate) struct UnbundleRamBundle {
     startup_code: Vec<u8>,
@@ -45,7 +45,7 @@ impl UnbundleRamBundle {
         read_modules(rt, alloc, folder.as_path(), startup_code, &names)
     }
 
-    /// Returns one more than the greatest number of a module, or 1.
+    /// Returns one more than the greatest number of a module, or 1 if there is no module.
     pub(crate) fn module_count(&self) -> usize
         ensures { result ≡ self.now.module_count }
     {
@@ -58,7 +58,7 @@ impl UnbundleRamBundle {
         self.startup_code.as_slice()
     }
 
-    /// Returns the module of that number, or none where no file has it.
+    /// Returns the module with this number, or `None` if no file has this number.
     #[tactic(auto, using(crate::proofs::FolderLemmas::found_by_number))]
     pub(crate) fn get_module(&self, id: usize) -> Option<RamBundleModule<'_>>
         ensures { option_map module_value result ≡ file_module (files_value self.now) id }
@@ -70,7 +70,8 @@ impl UnbundleRamBundle {
         })
     }
 
-    /// Returns the module with the least number from `from` on that a file has, or none.
+    /// Returns the module with the least number that is at least `from`, or `None` if there is no
+    /// such module.
     pub(crate) fn module_from(&self, from: usize) -> Option<RamBundleModule<'_>>
         ensures found { IfSome result (λ found. (from ≤ found.id) × (file_module (files_value self.now) found.id ≡ Some (module_value found))) }
         ensures least { (id : ℕ) → from ≤ id → IfSome result (λ found. id < found.id) → file_module (files_value self.now) id ≡ None }
@@ -82,7 +83,7 @@ impl UnbundleRamBundle {
         })
     }
 
-    /// Adds the file of a module, which replaces an earlier one with the same number. The error is
+    /// Adds a module, which replaces an earlier module with the same number. The only error is
     /// `OutOfMemory`.
     #[tactic(auto, using(crate::proofs::FolderLemmas::entries_insert))]
     fn add(&mut self, id: usize, text: Vec<u8>) -> Result<()>
@@ -153,7 +154,7 @@ fn begins_with_magic<F: Files>(rt: &F, path: &str) -> Result<bool>
     }
 }
 
-/// Returns false for a failed look at a file, or `OutOfMemory` if memory ran out.
+/// Returns false for an error of a file access, or `OutOfMemory` if memory ran out.
 fn false_unless_memory(cause: io::Error) -> Result<bool>
     ensures { IsOkUnless result OutOfMemory }
 {
@@ -180,8 +181,8 @@ fn file_names<F: Files>(rt: &F, alloc: Global, folder: Path<'_>) -> Result<Vec<S
     Ok(names)
 }
 
-/// Reads the modules from the files with these names. A later one replaces an earlier one with the
-/// same number.
+/// Reads the modules from the files with these names. A later file replaces an earlier file with
+/// the same number.
 fn read_modules<F: Files>(
     rt: &F,
     alloc: Global,
@@ -205,7 +206,8 @@ fn read_modules<F: Files>(
     Ok(bundle)
 }
 
-/// Returns the number of the module that a file's name stands for: ASCII digits and `.js`.
+/// Returns the number of the module whose file has this name: ASCII digits and `.js`. The error is
+/// `InvalidRamBundleIndex` for any other name, or if the number is not below `usize::MAX`.
 fn module_number(name: &str) -> Result<usize>
     ensures number { IfOk result (λ id. IsNumbered name.now id) }
     ensures refused { IfErr result (λ e. (e ≡ InvalidRamBundleIndex) × ((id : ℕ) → ¬ IsNumbered name.now id)) }
@@ -216,7 +218,8 @@ fn module_number(name: &str) -> Result<usize>
     number_with_successor(digits).ok_or(Error::InvalidRamBundleIndex)
 }
 
-/// Returns the number that the digits stand for, if it is below `usize::MAX`.
+/// Returns the number that the digits denote. Returns `None` if the text is not ASCII digits, or if
+/// the number is not below `usize::MAX`.
 fn number_with_successor(digits: &str) -> Option<usize>
     ensures { SomeIff result (IsNumeral 10 digits.now × (digits_value 10 digits.now + 1 < 2 ^ 64)) (digits_value 10 digits.now) }
 {

@@ -33,7 +33,8 @@ HasId id old due = due ≡ Ok (record old { debug_id = id })
 abbrev pub HasSource : ℕ → List ℕ → BuilderValue → Result BuilderValue Failure → Type 0
 HasSource id source old = OnSource id old (record old { sources = slice_set old.sources id source })
 
--- from each source the first of the prefixes, completed by `/`, that it starts with is removed
+-- From each source the first prefix that the source starts with is removed. Before that, `/` is added to each prefix
+-- that does not end with it.
 abbrev pub IsStripped : List (List ℕ) → BuilderValue → Result BuilderValue Failure → Type 0
 IsStripped prefixes old due = due ≡ Ok (record old { sources = map (without_prefix prefixes) old.sources })
 
@@ -65,23 +66,25 @@ abbrev pub Adds : (BuilderValue → List (List ℕ)) → (BuilderValue → List 
 Adds texts added text id old new =
     IsSomeAnd (builder_in old) (λ b. (id_for (texts b) text ≡ Ok id) × (builder_in new ≡ Some (added b text)))
 
--- the errors of adding a text
+-- the errors of adding a text: the error of `id_for`, or `WrongKind` if there is no builder
 abbrev pub AddsNot : (BuilderValue → List (List ℕ)) → List ℕ → Option BuilderValue → Failure → Type 0
 AddsNot texts text (Some b) (Library e) = id_for (texts b) text ≡ Err e
 AddsNot texts text None failure = failure ≡ WrongKind
 AddsNot texts text _ _ = ⊥
 
--- the builder with the first n tokens added
+-- the builder with the first `n` tokens added
 abbrev pub with_tokens : BuilderValue → List MapToken → ℕ → BuilderValue
 with_tokens b tokens n = record b { tokens = b.tokens ++ map raw_token (take n tokens) }
 
--- the outcome of adding tokens: all `count`, fewer if memory ran out, or none and `WrongKind` without a builder
+-- The outcome of adding tokens. After success all `count` tokens were added, after out of memory fewer. Without a
+-- builder no token was added, and the outcome is `WrongKind`.
 abbrev pub AreAdded : Option BuilderValue → (count added : ℕ) → Result (Unit {0}) Failure → Type 0
 AreAdded (Some _) count added outcome =
     MatchResult outcome (λ _. added ≡ count) (λ failure. (failure ≡ Library OutOfMemory) × (added < count))
 AreAdded None count added outcome = (added ≡ 0) × (outcome ≡ Err WrongKind)
 
--- the error report of adding tokens: unchanged if all were added, else out of memory; `WrongKind` without a builder
+-- The error report of adding tokens. With a builder, the report is unchanged if all tokens were added. If fewer were
+-- added, `Reports` holds for out of memory. Without a builder, no token was added, and `Reports` holds for `WrongKind`.
 abbrev pub AddsAll : Option BuilderValue → (count added : ℕ) → (old new : ErrorReport) → Type 0
 AddsAll (Some _) count added old new =
     ((added ≡ count) × (new ≡ old)) ⊎ ((added < count) × ((code : ℕ) × Reports (Library OutOfMemory) code old new))

@@ -48,11 +48,13 @@ abbrev pub items_in : Option Held → Option (List (Result ItemValue Error))
 items_in (Some (Split items)) = Some (map item_value items.items)
 items_in _ = None
 
--- the item that was made is the due one; the only error of making it is out of memory
+-- If `made` is an item, it has the same value as every result that `Due` allows. If `made` is an error, it is
+-- `OutOfMemory`.
 abbrev pub Makes : Result (Result SplitModule Error) Error → (Result ModuleParts Error → Type 0) → Type 0
 Makes made Due = MatchResult made (λ item. (due : Result ModuleParts Error) → Due due → item_value item ≡ due_value due) (λ e. e ≡ OutOfMemory)
 
--- `held` has the items of `bundle` split by the index map `tree`: one for each module that is not skipped
+-- `held` has the items of `bundle`, split by the index map `tree`. Each module has an item, except modules whose line
+-- in the index map is null.
 abbrev pub IsSplit : Option BundleValue → Option MapTree → Option Held → Type 0
 IsSplit bundle tree held = (b : BundleValue) × (i : IndexValue) × (split : SplitValue) × (bundle ≡ Some b) × (tree ≡ Some (index_tree i))
     × Splits i (modules_of b) (Ok split) × (items_in held ≡ Some (map due_value (dues_in split)))
@@ -61,18 +63,19 @@ abbrev pub IsNoIndex : Option MapTree → Type 0
 IsNoIndex (Some (index _ _)) = ⊥
 IsNoIndex _ = Unit {0}
 
--- the errors of splitting
+-- the errors of splitting; `WrongKind` if there is no bundle or no index map
 abbrev pub IsUnsplit : Option BundleValue → Option MapTree → Failure → Type 0
 IsUnsplit bundle tree (Library e) = (b : BundleValue) × (i : IndexValue) × (bundle ≡ Some b) × (tree ≡ Some (index_tree i)) × Splits i (modules_of b) (Err e)
 IsUnsplit bundle tree WrongKind = (bundle ≡ None) ⊎ IsNoIndex tree
 IsUnsplit bundle tree Absent = ⊥
 IsUnsplit bundle tree PastLimit = ⊥
 
--- the item at this index, if the handle has items
+-- the item at this index; `None` if there is no split bundle, `Some None` if there is no item at this index
 abbrev pub item_of : Option (List (Result ItemValue Error)) → ℕ → Option (Option (Result ItemValue Error))
 item_of items id = option_map (λ list. slice_get list id) items
 
--- the errors of an item: `InvalidRamBundleEntry` for any error of its module, no such item, or no split bundle
+-- The errors of reading an item: `InvalidRamBundleEntry` if its module has an error of any kind, `Absent` if there is
+-- no such item, `WrongKind` if there is no split bundle.
 abbrev pub IsNoItem : Option (Option (Result ItemValue Error)) → Failure → Type 0
 IsNoItem item (Library e) = (e ≡ InvalidRamBundleEntry) × (because : Error) × (item ≡ Some (Some (Err because)))
 IsNoItem item Absent = item ≡ Some None

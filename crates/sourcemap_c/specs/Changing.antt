@@ -24,7 +24,7 @@ abbrev pub with_held : LeafMap → MapValue → LeafMap
 with_held (regular _) m = regular m
 with_held (hermes h) m = hermes (record h { map = m })
 
--- a leaf with this regular map in place of its own
+-- the map `l`, which is regular or Hermes, with `m` as its regular map
 abbrev pub leaf_of : LeafMap → MapValue → MapTree
 leaf_of l m = leaf (with_held l m)
 
@@ -32,7 +32,7 @@ abbrev pub OnLeaf : (MapValue → MapValue) → MapTree → Result MapTree Failu
 OnLeaf change (leaf l) due = due ≡ Ok (leaf_of l (change (held l)))
 OnLeaf change (index _ _) due = due ≡ Err WrongKind
 
--- a change to one source of a leaf; `Absent` if the leaf has no source of this id
+-- a change to the source with this id; `Absent` if the map has no such source, `WrongKind` for an index map
 abbrev pub OnSource : ℕ → (MapValue → MapValue) → MapTree → Result MapTree Failure → Type 0
 OnSource id change (leaf l) (Ok new) = (id < length (held l).sources) × (new ≡ leaf_of l (change (held l)))
 OnSource id change (leaf l) (Err e) = (length (held l).sources ≤ id) × (e ≡ Absent)
@@ -61,7 +61,8 @@ Ignores id = OnSource id (λ m. record m { ignored = insert_key nat_cmp m.ignore
 abbrev pub HasNoNames : MapTree → Result MapTree Failure → Type 0
 HasNoNames = OnLeaf (λ m. record m { names = [] })
 
--- the sections of an index moved down by so many lines
+-- the index map with each section moved down by `lines` lines; `PastLimit` if a section would pass line 4294967295,
+-- `WrongKind` for other maps
 abbrev pub IsDown : ℕ → MapTree → Result MapTree Failure → Type 0
 IsDown lines t (Ok new) = (i : IndexValue) × (t ≡ index_tree i) × HaveRowsLeft lines i.sections
     × (new ≡ index_tree (with_sections i (shifted lines i.sections)))
@@ -93,13 +94,13 @@ ChangesTo (Ignored id) = Ignores id
 ChangesTo NoNames = HasNoNames
 ChangesTo (Down lines) = IsDown lines
 
--- the rewritten map
+-- the rewritten map; `WrongKind` for an index map
 abbrev pub IsRewritten : Removal → MapTree → Result MapTree Failure → Type 0
 IsRewritten removal (leaf (regular m)) due = due ≡ Ok (leaf (regular (rewritten removal m)))
 IsRewritten removal (leaf (hermes h)) due = due ≡ Ok (leaf (hermes (hermes_rewritten removal h)))
 IsRewritten removal (index _ _) due = due ≡ Err WrongKind
 
--- the regular map that an index is flattened to
+-- the regular map that an index map is flattened to, or the error of flattening; `WrongKind` for other maps
 abbrev pub IsFlat : MapTree → Result MapTree Failure → Type 0
 IsFlat (index parts ss) (Ok (leaf (regular m))) = FlatAnswer (index parts ss) (Ok m)
 IsFlat (index parts ss) (Err (Library e)) = FlatAnswer (index parts ss) (Err e)
@@ -110,7 +111,7 @@ IsFlat _ _ = ⊥
 abbrev pub HoldsNew : (MapTree → Result MapTree Failure → Type 0) → (old new : Option Held) → Type 0
 HoldsNew Becomes old new = IsSomeAnd (tree_in old) (λ t. IsSomeAnd (tree_in new) (λ n. Becomes t (Ok n)))
 
--- the error of the change, or that there is no map
+-- the error of the change; `WrongKind` if there is no map
 abbrev pub FailsAs : (MapTree → Result MapTree Failure → Type 0) → Option MapTree → Failure → Type 0
 FailsAs Becomes (Some t) failure = Becomes t (Err failure)
 FailsAs Becomes None failure = failure ≡ WrongKind

@@ -13,7 +13,8 @@ abbrev pub UnlessMemory : Failure → Type 0 → Type 0
 UnlessMemory (Library OutOfMemory) P = Unit {0}
 UnlessMemory _ P = P
 
--- The result of a call: success, and `Done` holds; or a failure that is due or out of memory, and `Kept` holds.
+-- The result of a call. After success `Done` holds. After a failure `Kept` holds, and the failure is one that `Due`
+-- allows, or out of memory.
 abbrev pub Does : {T : Type 0} → Result T Failure → (Done : Type 0) → (Due : Failure → Type 0) → (Kept : Type 0) → Type 0
 Does result Done Due Kept = MatchResult result (λ _. Done) (λ failure. UnlessMemory failure (Due failure) × Kept)
 
@@ -24,25 +25,25 @@ pub record Answers (code : ℕ) (old new : ErrorReport) (Done : Type 0) (Due : F
   pub failed : code ≢ 0 → (failure : Failure) × Reports failure code old new × UnlessMemory failure (Due failure)
   pub kept : code ≢ 0 → Kept
 
--- the failures that are due are errors of the library
+-- the failure is an error of the library that `Due` allows
 abbrev pub OfLibrary : (Error → Type 0) → Failure → Type 0
 OfLibrary Due (Library e) = Due e
 OfLibrary Due _ = ⊥
 
--- the failures that are due are errors of the library, or a wrong kind
+-- the failure is an error of the library that `Due` allows, or `WrongKind` if `wrong` holds
 abbrev pub OfLibraryOrKind : (Error → Type 0) → (wrong : Type 0) → Failure → Type 0
 OfLibraryOrKind Due wrong (Library e) = Due e
 OfLibraryOrKind Due wrong WrongKind = wrong
 OfLibraryOrKind Due wrong _ = ⊥
 
--- the failures that are due are errors of the library, a wrong kind, or `Absent`
+-- the failure is an error of the library that `Due` allows, `WrongKind` if `wrong` holds, or `Absent` if `absent` holds
 abbrev pub OfLibraryKindOrAbsent : (Error → Type 0) → (wrong absent : Type 0) → Failure → Type 0
 OfLibraryKindOrAbsent Due wrong absent (Library e) = Due e
 OfLibraryKindOrAbsent Due wrong absent WrongKind = wrong
 OfLibraryKindOrAbsent Due wrong absent Absent = absent
 OfLibraryKindOrAbsent Due wrong absent PastLimit = ⊥
 
--- no error is due, so a call can only run out of memory
+-- no error of the library is allowed, except out of memory, which `Does` and `Answers` always allow
 abbrev pub NoError : Error → Type 0
 NoError e = ⊥
 
@@ -51,12 +52,12 @@ abbrev pub IsNoText : List ℕ → Error → Type 0
 IsNoText bytes (Utf8 _) = ¬ IsUtf8 bytes
 IsNoText bytes _ = ⊥
 
--- an optional text
+-- an optional text: `text` if `present` is true, otherwise `None`
 abbrev pub text_if : Bool → List ℕ → Option (List ℕ)
 text_if present text = cond present (Some text) None
 
--- The code and the value of a call that writes no report: `SM_WRONG_KIND` for a handle of another kind, `SM_ABSENT` if
--- there is no value, otherwise `SM_OK` and the value. Only then the value is written.
+-- The code and the value of a call that writes no report. The code is `SM_WRONG_KIND` for a handle of another kind,
+-- `SM_ABSENT` if there is no value, otherwise `SM_OK`. The value is written only with `SM_OK`.
 abbrev pub ReturnsValue : {X : Type 0} → Option (Option X) → (code : ℕ) → (old new : X) → Type 0
 ReturnsValue None code old new = (code ≡ 33) × (new ≡ old)
 ReturnsValue (Some None) code old new = (code ≡ 32) × (new ≡ old)

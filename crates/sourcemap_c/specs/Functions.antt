@@ -11,22 +11,24 @@ use Rattle.sourcemap_index_model.specs.Meaning.{meaning}
 use Rattle.sourcemap_index_model.specs.WellFormed.{IsInOrder}
 use Rattle.sourcemap_c.specs.Codes.{IsAbsentUnlessOk, ReturnsValue}
 
--- the handle has the trace of these positions
+-- The handle has a text; false if there is no map. If the map is in order, the text is the trace of these positions.
 abbrev pub IsTrace : Option MapTree → (positions : List ℕ) → Option (List ℕ) → Type 0
 IsTrace None positions held = ⊥
 IsTrace (Some t) positions held = (text : List ℕ) × (held ≡ Some text) × (IsInOrder t → text ≡ trace_of (meaning t) positions)
 
--- nothing changed, and this code was returned
+-- the call returned the code `due`, and wrote nothing
 abbrev pub Refuses : (due code : ℕ) → (old new : List ℕ) → Type 0
 Refuses due code old new = (code ≡ due) × (new ≡ old)
 
--- the name of a function, guessed from a text and a minified name; `SM_UTF8` if the minified name is not UTF-8
+-- The name of a function, guessed from the generated text `source` and the minified name. The guess is specified for
+-- maps in order. The code is `SM_UTF8` if the minified name is not UTF-8.
 abbrev pub Guesses : MapTree → (source minified : List ℕ) → ℕ × ℕ → ℕ → (old new : List ℕ) → Type 0
 Guesses t source minified p code old new = (¬ IsUtf8 minified → Refuses 2 code old new)
     × (IsUtf8 minified → IsAbsentUnlessOk code old new)
     × (IsUtf8 minified → IsInOrderForName t (Some source) (Some minified) p → ReturnsValue (Some (function_name t (Some source) (Some minified) p)) code old new)
 
--- the name of a function: a Hermes map has it, other maps guess it and need a text
+-- The name of a function. A Hermes map stores the name, which is specified if `IsInOrderForName` holds. For other maps
+-- the name is guessed from the generated text `source`, and the code is `SM_WRONG_KIND` if `source` is `None`.
 abbrev pub Names : MapTree → (source : Option (List ℕ)) → (minified : List ℕ) → ℕ × ℕ → ℕ → (old new : List ℕ) → Type 0
 Names (leaf (hermes h)) source minified p code old new = IsAbsentUnlessOk code old new
     × (IsInOrderForName (leaf (hermes h)) None None p → ReturnsValue (Some (function_name (leaf (hermes h)) None None p)) code old new)
@@ -37,7 +39,8 @@ abbrev pub NamesIn : Option MapTree → (source : Option (List ℕ)) → (minifi
 NamesIn None source minified p code old new = Refuses 33 code old new
 NamesIn (Some t) source minified p code old new = Names t source minified p code old new
 
--- the name of the function at a bytecode offset
+-- The name of the function at a bytecode offset of a Hermes map. The name is specified if the functions of the closest
+-- token's source are sorted. Without a Hermes map the code is `SM_WRONG_KIND`.
 abbrev pub NamesAt : Option MapTree → (offset : ℕ) → ℕ → (old new : List ℕ) → Type 0
 NamesAt (Some (leaf (hermes h))) offset code old new = IsAbsentUnlessOk code old new
     × (IfSome (lookup h.map (0, offset)) (λ t. IsInOrderAt h.scopes t.raw.src_id) → ReturnsValue (Some (name_at_offset h offset)) code old new)

@@ -9,7 +9,7 @@ abbrev pub leaf_in : MapTree → Option MapValue
 leaf_in (leaf l) = Some (held l)
 leaf_in (index _ _) = None
 
--- a count for C, where 4294967295 also means more
+-- a count for C; a count above 4294967295 becomes 4294967295
 abbrev pub as_u32 : ℕ → ℕ
 as_u32 n = min n 4294967295
 
@@ -45,7 +45,7 @@ name_in id t = option_and_then (λ m. name_of m id) (leaf_in t)
 abbrev pub contents_in : ℕ → MapTree → Option (List ℕ)
 contents_in id t = option_and_then (λ m. contents_of m id) (leaf_in t)
 
--- the first n items of the array are `view` of the list's items from index `first` on
+-- the first `n` items of `written` are the results of `view` for the items of `items` from index `first` on
 abbrev pub AreFrom : {X Y : Type 0} → (X → Y) → (first : ℕ) → List X → List Y → ℕ → Type 0
 AreFrom view first items written n =
     (i : ℕ) → i < n → slice_get written i ≡ option_map view (slice_get items (first + i))

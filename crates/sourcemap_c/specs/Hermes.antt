@@ -3,7 +3,7 @@ use Rattle.std.specs.Prelude.{◌≡◌, Option, Some, None}
 use Rattle.sourcemap_map_regular.specs.Map.{MapValue}
 use Rattle.sourcemap_index_model.specs.MapTree.{MapTree, leaf, regular, hermes}
 
--- the regular map, if the map is a Hermes map
+-- the regular map in a Hermes map; `None` for other maps
 abbrev pub hermes_in : MapTree → Option MapValue
 hermes_in (leaf (hermes h)) = Some h.map
 hermes_in _ = None
@@ -12,7 +12,7 @@ hermes_in _ = None
 abbrev pub regular_tree : MapValue → MapTree
 regular_tree m = leaf (regular m)
 
--- the handle has the regular map
+-- the handle has this regular map; false if there is no regular map
 abbrev pub HoldsRegular : Option MapValue → (held : Option MapTree) → Type 0
 HoldsRegular None held = ⊥
 HoldsRegular (Some m) held = held ≡ Some (regular_tree m)

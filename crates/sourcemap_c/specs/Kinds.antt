@@ -12,12 +12,12 @@ use Rattle.sourcemap_c.specs.declared.kinds.Kind.{Kind}
 use Rattle.sourcemap_c_handles.specs.declared.held.Held.{Held}
 use Rattle.sourcemap_c_handles.specs.declared.held.Held.TheVariants.{Map, Builder, View, Bundle, Split, Bytes, Sections}
 
--- the map of a handle as a tree, if it has one
+-- the map in a handle, as a tree; `None` if the handle holds no map
 abbrev pub tree_in : Option Held → Option MapTree
 tree_in (Some (Map map)) = Some (map_tree (arc_value map))
 tree_in _ = None
 
--- a borrowed map as a tree, if there is one
+-- a borrowed map as a tree; `None` if there is no map
 abbrev pub tree_of : Option (Bor DecodedMap) → Option MapTree
 tree_of map = option_map (λ m. map_tree m.now) map
 
@@ -33,11 +33,11 @@ abbrev pub bytes_in : Option Held → Option (List ℕ)
 bytes_in (Some (Bytes bytes)) = Some bytes.items
 bytes_in _ = None
 
--- the same `Arc`, and a map of the same value
+-- the `Arc` is the same, and its map has the same value as before
 abbrev pub IsSameMap : (old new : Arc DecodedMap Global) → Type 0
 IsSameMap old new = (new ≡ arc_with_value old (arc_value new)) × (map_tree (arc_value new) ≡ map_tree (arc_value old))
 
--- the value is unchanged: a map is in the same `Arc` and has the same value, other values are equal
+-- the value of a handle is unchanged: `IsSameMap` holds for a map, and any other value equals the old value
 abbrev pub IsAsBefore : (old new : Option Held) → Type 0
 IsAsBefore (Some (Map old)) (Some (Map new)) = IsSameMap old new
 IsAsBefore old new = new ≡ old
@@ -57,7 +57,7 @@ kind_of (Some (Split _)) = Kind.Split
 kind_of (Some (Bytes _)) = Kind.Bytes
 kind_of (Some (Sections _)) = Kind.Sections
 
--- `SM_KIND_..` of the header
+-- the number of a kind in the C header: `SM_KIND_..`
 abbrev pub number_of : Kind → ℕ
 number_of Kind.Empty = 0
 number_of Kind.Regular = 1

@@ -1,4 +1,4 @@
--- First lines and paths of modules in an index map.
+-- The lines at which the modules of an index map begin, and the paths of these modules.
 use Rattle.std.specs.Prelude.{◌≡◌, ◌≢◌, ◌≤◌, ◌-◌, ◌⊎◌, ℕ, List, Option, Some, None, IfSome, length, min, option_map, slice_get, unwrap_or}
 use Rattle.std.specs.Option.{option_and_then}
 use Rattle.std.specs.Str.{IsUtf8}
@@ -7,32 +7,32 @@ use Rattle.sourcemap_index_model.specs.MapTree.{MapTree, index}
 use Rattle.sourcemap_c.specs.Getters.{AreFrom}
 use Rattle.sourcemap_c.specs.Codes.{IsNoText, ReturnsValue}
 
--- the first lines of modules, if the index has a list of them; `None` for other maps
+-- the list of lines at which the modules begin; `Some None` if an index map has no such list, `None` for other maps
 abbrev pub lines_in : Option MapTree → Option (Option (List (Option ℕ)))
 lines_in (Some (index parts _)) = Some parts.x_facebook_offsets
 lines_in _ = None
 
--- the path of a module
+-- the path of the module with this id; `Some None` if an index map has no such path, `None` for other maps
 abbrev pub path_in : ℕ → Option MapTree → Option (Option (List ℕ))
 path_in id (Some (index parts _)) = Some (option_and_then (λ paths. slice_get paths id) parts.x_metro_module_paths)
 path_in id _ = None
 
--- the line, or `SM_NONE`
+-- the line, or `SM_NONE` (4294967295) if there is no line
 abbrev pub or_none : Option ℕ → ℕ
 or_none line = unwrap_or line 4294967295
 
--- With `SM_OK` the first lines of modules are written, from module `first` on, as many as exist and fit. So is their
--- count. With another code nothing is written.
+-- With `SM_OK` the call writes the line at which each module begins, from module `first` on, as many as exist and fit,
+-- and the number of these lines. With another code it writes nothing.
 pub record WritesLines (due : Option (Option (List (Option ℕ)))) (first code : ℕ) (old new : List ℕ) (before after : ℕ) : Type 0 where
   pub count : ReturnsValue (option_map (option_map (λ lines. min (length old) (length lines - first))) due) code before after
   pub lines : code ≡ 0 → IfSome due (λ found. IfSome found (λ lines. AreFrom or_none first lines new after))
   pub rest : code ≡ 0 → (i : ℕ) → after ≤ i → slice_get new i ≡ slice_get old i
   pub kept : code ≢ 0 → new ≡ old
 
--- both are UTF-8
+-- both texts are UTF-8
 abbrev pub AreTexts : (one other : List ℕ) → Type 0
 AreTexts one other = IsUtf8 one × IsUtf8 other
 
--- one of both is not UTF-8
+-- the error is that one of the two texts is not UTF-8
 abbrev pub IsNoTextOf : (one other : List ℕ) → Error → Type 0
 IsNoTextOf one other e = IsNoText one e ⊎ IsNoText other e

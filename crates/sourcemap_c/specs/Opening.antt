@@ -1,4 +1,4 @@
--- Maps that are decoded into a handle, and the errors.
+-- Maps that are decoded into a handle, and the errors of decoding.
 use Rattle.std.specs.Prelude.{◌≡◌, ◌⊎◌, ℕ, List, Option, Some, Result, Ok, Err}
 use Rattle.std.specs.Str.{IsUtf8}
 use Rattle.sourcemap_errors.specs.declared.errors.Error.{Error}
@@ -13,6 +13,6 @@ use Rattle.sourcemap_c.specs.Kinds.{tree_in}
 abbrev pub Holds : (Result MapTree Error → Type 0) → Option Held → Type 0
 Holds Decodes held = (t : MapTree) × (tree_in held ≡ Some t) × Decodes (Ok t) × IsWellFormed t
 
--- bytes that are not UTF-8, or no data URL of a map
+-- the error `e` of decoding a data URL: `Utf8` if the bytes are not UTF-8, otherwise an error that `UrlDecodes` allows
 abbrev pub AreNoUrl : List ℕ → Error → Type 0
 AreNoUrl url e = IsNoText url e ⊎ (IsUtf8 url × UrlDecodes url (Err e))

@@ -1,4 +1,4 @@
--- References to source maps: found, and resolved.
+-- Finding and resolving references to source maps.
 use Rattle.std.specs.Prelude.{◌≡◌, ◌⊎◌, ℕ, List, Bool, true, false, Option, Some, None, Result, Ok, Err, string_bytes}
 use Rattle.std.specs.Str.{IsUtf8}
 use Rattle.std.specs.declared.alloc.Global.{Global}
@@ -16,7 +16,7 @@ use Rattle.sourcemap_references.specs.declared.detector.SourceMapRef.{SourceMapR
 use Rattle.sourcemap_c.specs.Codes.{Does, IsNoText, NoError, OfLibrary}
 use Rattle.sourcemap_c.specs.Kinds.{bytes_in}
 
--- the reference was found: the handle has its URL, and the kind of its mark was written
+-- the handle has the URL of the reference, and `is_legacy` says whether the reference begins with `//@`
 abbrev pub IsReference : Reference → Option Held → Bool → Type 0
 IsReference (usual url) held is_legacy = (bytes_in held ≡ Some url) × (is_legacy ≡ false)
 IsReference (legacy url) held is_legacy = (bytes_in held ≡ Some url) × (is_legacy ≡ true)
@@ -25,14 +25,15 @@ abbrev pub IsFound : Option (Option Reference) → Option Held → Bool → Type
 IsFound (Some (Some reference)) held is_legacy = IsReference reference held is_legacy
 IsFound _ held is_legacy = ⊥
 
--- there is no reference, or a line is not UTF-8
+-- Why no reference was found. The failure is `Absent` if the text has no reference. It is an `Io` error of the kind
+-- `InvalidData` if a line is not UTF-8 and no line before it has a reference.
 abbrev pub IsNotFound : Option (Option Reference) → Failure → Type 0
 IsNotFound due (Library e) = (due ≡ None) × IsInvalidData e
 IsNotFound due Absent = due ≡ Some None
 IsNotFound due WrongKind = ⊥
 IsNotFound due PastLimit = ⊥
 
--- both are UTF-8, and this is the result for them
+-- both texts are UTF-8, and `Due` allows the result `due`
 abbrev pub OfTexts : (url base : List ℕ) → (Result (Option (List ℕ)) Error → Type 0) → Result (Option (List ℕ)) Error → Type 0
 OfTexts url base Due due = IsUtf8 url × IsUtf8 base × Due due
 
@@ -40,27 +41,32 @@ OfTexts url base Due due = IsUtf8 url × IsUtf8 base × Due due
 abbrev pub LeadsTo : (url base : List ℕ) → (Result (Option (List ℕ)) Error → Type 0) → Option Held → Type 0
 LeadsTo url base Due held = (text : List ℕ) × (bytes_in held ≡ Some text) × OfTexts url base Due (Ok (Some text))
 
--- the reference cannot be resolved, or an argument is not UTF-8
+-- Why there is no resolved reference: `Utf8` if a text is not UTF-8, otherwise `Absent` or an error of the library, as
+-- `Due` allows.
 abbrev pub LeadsNowhere : (url base : List ℕ) → (Result (Option (List ℕ)) Error → Type 0) → Failure → Type 0
 LeadsNowhere url base Due (Library e) = (IsNoText url e ⊎ IsNoText base e) ⊎ OfTexts url base Due (Err e)
 LeadsNowhere url base Due Absent = OfTexts url base Due (Ok None)
 LeadsNowhere url base Due WrongKind = ⊥
 LeadsNowhere url base Due PastLimit = ⊥
 
--- the handle has the resolved text; without one, or with an error, the call fails and the handle is unchanged
+-- After success the handle has the resolved text. Otherwise the handle is unchanged. The failure is `Absent` if there
+-- is no resolved text, the error of resolving, or out of memory.
 abbrev pub Puts : Result (Option (String Global)) Error → Result (Unit {0}) Failure → (old new : Option Held) → Type 0
 Puts (Ok (Some text)) result old new = Does result (bytes_in new ≡ Some (string_bytes text)) (OfLibrary NoError) (new ≡ old)
 Puts (Ok None) result old new = (result ≡ Err Absent) × (new ≡ old)
 Puts (Err e) result old new = (result ≡ Err (Library e)) × (new ≡ old)
 
--- the result is a reference with this URL, or an error if the URL is not UTF-8
+-- the result is a reference with this URL, the error `Utf8` if the URL is not UTF-8, or out of memory
 abbrev pub Refers : Result SourceMapRef Error → List ℕ → Type 0
 Refers (Ok found) url = (url_of found ≡ url) × IsUtf8 url
 Refers (Err e) url = LibraryUnless e (IsNoText url e)
 
--- `Resolves`: a reference resolved against the URL of its text; `ResolvesPath`: against the path of its text
+-- The result of resolving the reference `url` against `base`, the URL of the generated text. If a URL made of these
+-- texts may exceed 4 GB, the result may also be `None`. The only error is out of memory.
 abbrev pub Resolves : (base url : List ℕ) → Result (Option (List ℕ)) Error → Type 0
 Resolves base url = UnlessLong (resolved base url) (IsLongJoin base url)
 
+-- The result of resolving the reference `url` against `path`, the path of the generated text. If a URL made of these
+-- texts may exceed 4 GB, the result may also be `None`. The only error is out of memory.
 abbrev pub ResolvesPath : (path url : List ℕ) → Result (Option (List ℕ)) Error → Type 0
 ResolvesPath path url = UnlessLong (resolved_path path url) (IsLongJoin (url_text path false) url)

@@ -25,7 +25,7 @@ pub record WritesNumbers (segment : List ℕ) (old new : List ℤ) (count : ℕ)
   pub written : new ≡ overwritten numbers old
   pub counted : count ≡ length numbers
 
--- the segment of the numbers
+-- the handle has the segment of these numbers
 abbrev pub HoldsSegment : List ℤ → Option (List ℕ) → Type 0
 HoldsSegment numbers (Some text) = Spells numbers text
 HoldsSegment numbers None = ⊥

@@ -8,30 +8,31 @@ use Rattle.sourcemap_index_model.specs.WellFormed.{IsInOrder}
 use Rattle.sourcemap_c_handles.specs.declared.errors.Failure.{Failure}
 use Rattle.sourcemap_c_handles.specs.declared.errors.Failure.TheVariants.{Absent, WrongKind}
 
--- the text of the token with this index
+-- the text of the token with this index; `None` if the map has no such token
 abbrev pub text_of_token : ℕ → MapValue → Option (List ℕ)
 text_of_token index m = option_map (λ token. token_text (says token)) (token_at m index)
 
--- the handle has the text of the token with this index
+-- `held` is the text of the token with this index; false if there is no map
 abbrev pub HoldsTextOf : (index : ℕ) → Option MapValue → (held : Option (List ℕ)) → Type 0
 HoldsTextOf index None held = ⊥
 HoldsTextOf index (Some m) held = (text : List ℕ) × (text_of_token index m ≡ Some text) × (held ≡ Some text)
 
--- the map has no such token, or the handle has no map with tokens
+-- why there is no text: `Absent` if the map has no token with this index, `WrongKind` if there is no map with tokens
 abbrev pub LacksTextOf : (index : ℕ) → Option MapValue → Failure → Type 0
 LacksTextOf index None failure = failure ≡ WrongKind
 LacksTextOf index (Some m) failure = (failure ≡ Absent) × (text_of_token index m ≡ None)
 
--- the text of the token that is closest to a position
+-- the text of the token that is closest to a position; `None` if there is no closest token
 abbrev pub text_at : MapTree → ℕ × ℕ → Option (List ℕ)
 text_at t p = option_map token_text (meaning t p)
 
--- the handle has the text of the closest token; which token that is, is specified for maps in order
+-- `held` is a text; false if there is no map. If the map is in order, `held` is the text of the closest token.
 abbrev pub HoldsTextAt : ℕ × ℕ → Option MapTree → (held : Option (List ℕ)) → Type 0
 HoldsTextAt p None held = ⊥
 HoldsTextAt p (Some t) held = (text : List ℕ) × (held ≡ Some text) × (IsInOrder t → text_at t p ≡ Some text)
 
--- there is no token at the position or before it, or the handle has no map
+-- Why there is no text: `WrongKind` if there is no map, otherwise `Absent`. If the map is in order and the failure is
+-- `Absent`, there is no closest token.
 abbrev pub LacksTextAt : ℕ × ℕ → Option MapTree → Failure → Type 0
 LacksTextAt p None failure = failure ≡ WrongKind
 LacksTextAt p (Some t) failure = (failure ≡ Absent) × (IsInOrder t → text_at t p ≡ None)

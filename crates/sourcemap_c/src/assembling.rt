@@ -19,7 +19,7 @@ use sourcemap_c_handles::errors::{ErrorReport, Failure, Outcome, finish};
 use sourcemap_c_handles::{Handle, Held};
 use std::alloc::Global;
 
-// The parts of an index besides its sections.
+// The parts of an index map besides its sections.
 #[derive(Drop)]
 struct Parts {
     file: Option<String>,
@@ -215,9 +215,10 @@ fn push(sections: &mut Vec<SourceMapSection>, section: SourceMapSection) -> Resu
     Ok(())
 }
 
-/// Fills `map` with the index map of these sections. After success `sections` is empty. After
-/// `OutOfMemory` it may be empty too. After other errors, and if it holds no sections, it is
-/// unchanged. An offset of `SM_NONE` stands for a number without a module.
+/// Fills `map` with the index map of the sections in `sections`. After success `sections` is empty.
+/// After `OutOfMemory` it is unchanged or empty. After other errors it is unchanged. If `sections`
+/// holds no list of sections, it is always unchanged. Item `n` of `offsets` is the line at which
+/// module `n` begins, or `SM_NONE` if there is no module `n`.
 #[unsafe(no_mangle)]
 pub extern "C" fn sm_sections_finish(
     alloc: Global,

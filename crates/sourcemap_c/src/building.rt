@@ -251,7 +251,7 @@ fn add_name_to(held: &mut Held, text: &str, id: &mut u32) -> Outcome<()>
     }
 }
 
-/// Borrows the source with this id, before it is resolved against `sourceRoot`.
+/// Borrows the stored text of the source with this id, which is not resolved against `sourceRoot`.
 #[unsafe(no_mangle)]
 pub extern "C" fn sm_builder_source<'a>(
     builder: &'a mut Handle,
@@ -276,8 +276,8 @@ fn put_source<'a>(held: Option<&'a Held>, id: u32, text: &mut &'a [u8]) -> u32
     }
 }
 
-/// Sets the text of a source, before it is resolved against `sourceRoot`. The text that was added
-/// still has this id when it is added again.
+/// Sets the stored text of a source, which is not resolved against `sourceRoot`. For the text with
+/// which the source was added, `sm_builder_add_source` still writes this id.
 #[unsafe(no_mangle)]
 pub extern "C" fn sm_builder_set_source(
     alloc: Global,
@@ -306,8 +306,9 @@ fn set_source(alloc: Global, builder: &mut Handle, id: u32, source: &[u8]) -> Ou
     }
 }
 
-/// Removes from each source the first of these prefixes, completed by `/`, that it starts with. The
-/// texts that were added still have their ids when they are added again.
+/// Removes from each source the first of `prefixes` that the source starts with. Before that, `/`
+/// is added to each prefix that does not end with it. For the text with which a source was added,
+/// `sm_builder_add_source` still writes the id of that source.
 #[unsafe(no_mangle)]
 pub extern "C" fn sm_builder_strip_prefixes(
     alloc: Global,
@@ -569,8 +570,8 @@ fn add_token(builder: &mut SourceMapBuilder, token: MapToken) -> Result<()>
     Ok(())
 }
 
-/// Fills `map` with the regular map that was built. A handle with a builder is empty afterwards,
-/// also after an error. A handle without a builder is unchanged.
+/// Fills `map` with the regular map that was built. If the handle `builder` holds a builder, the
+/// handle is empty afterwards, also after an error. Otherwise the handle is unchanged.
 #[unsafe(no_mangle)]
 pub extern "C" fn sm_builder_finish(
     alloc: Global,

@@ -72,7 +72,7 @@ fn put_bundle(alloc: Global, parsed: RamBundle<'static>, bundle: &mut Handle) ->
     Ok(())
 }
 
-/// Writes the size of the module table; some numbers may have no module.
+/// Writes the number of entries in the module table. An entry may have no module.
 #[unsafe(no_mangle)]
 pub extern "C" fn sm_bundle_count(bundle: &mut Handle, modules: &mut usize) -> u32
     ensures modules { ReturnsValue (option_map (λ b. Some (bundle_count b)) (bundle_in (held_in bundle.old)))
@@ -221,7 +221,7 @@ fn put_module<'a>(bundle: &'a RamBundle<'static>, id: usize, bytes: &mut &'a [u8
     }
 }
 
-/// Splits the bundle by its index map and fills the handle with the modules and their maps.
+/// Splits the bundle by its index map and fills `split` with the modules and their maps.
 #[unsafe(no_mangle)]
 pub extern "C" fn sm_bundle_split(
     alloc: Global,
@@ -340,8 +340,8 @@ fn items_of(
     Ok(items)
 }
 
-// Moves the map of a module to an `Arc`, so that handles can share it. The error of a module is
-// kept in its item, but `OutOfMemory` is returned.
+// Moves the map of a module to an `Arc`, which handles can share. If `parts` is an error other than
+// `OutOfMemory`, this error becomes the item. `OutOfMemory` is returned.
 fn item_with(
     alloc: Global,
     parts: Result<(String, SourceView, SourceMap)>,
@@ -384,7 +384,8 @@ pub extern "C" fn sm_split_count(split: &mut Handle, items: &mut usize) -> u32
     }
 }
 
-// The item at this index. Whatever error an item holds, `InvalidRamBundleEntry` is returned.
+// The item at this index. The error is `InvalidRamBundleEntry` if the item holds an error of any
+// kind, and `Absent` if there is no such item.
 fn item_at(items: &[Result<SplitModule>], item: usize) -> Outcome<&SplitModule>
     ensures { MatchResult result
         (λ found. item_of (Some (map item_value items.now)) item ≡ Some (Some (Ok (module_value found.now))))

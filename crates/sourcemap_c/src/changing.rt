@@ -1,4 +1,4 @@
-//! Changes of maps. A map is changed in place, or copied first if other handles share it.
+//! Changes of maps. A map is changed directly, or copied first if other handles share it.
 ghost use Rattle.std.specs.Prelude.{◌≡◌, ◌<◌, ◌≤◌, Err, MatchResult, Ok, Some, length, slice_set};
 ghost use Rattle.std.specs.BTreeSet.{insert_key};
 ghost use Rattle.std.specs.Option.{option_copied};
@@ -32,7 +32,7 @@ pub(crate) enum Change<'a> {
     Down(u32),
 }
 
-/// Moves each section of an index down by `lines`.
+/// Moves each section of an index map down by `lines` lines.
 #[unsafe(no_mangle)]
 pub extern "C" fn sm_shift(
     alloc: Global,
@@ -48,7 +48,7 @@ pub extern "C" fn sm_shift(
     finish(alloc, change_map(alloc, map, &Change::Down(lines)), error)
 }
 
-/// Changes the map in the handle. After an error it is unchanged.
+/// Changes the map in the handle. After an error the value of the handle is unchanged.
 pub(crate) fn change_map(alloc: Global, handle: &mut Handle, change: &Change<'_>) -> Outcome<()>
     ensures { Does result
         (HoldsNew (ChangesTo change.now) (held_in handle.old) (held_in handle.new))

@@ -15,7 +15,7 @@ pub(crate) const ABSENT: u32 = 32;
 
 pub(crate) const WRONG_KIND: u32 = 33;
 
-/// The bytes as text. Returns `Utf8` if they are not UTF-8.
+/// Returns the bytes as text. The error is `Utf8` if they are not UTF-8.
 pub(crate) fn text_in(bytes: &[u8]) -> Result<&str>
     ensures { MatchResult result (λ text. (text.now ≡ bytes.now) × IsUtf8 bytes.now)
         (IsNoText bytes.now) }
@@ -23,7 +23,8 @@ pub(crate) fn text_in(bytes: &[u8]) -> Result<&str>
     Ok(str::from_utf8(bytes)?)
 }
 
-/// An optional text. Without `present` the bytes are not read.
+/// If `present` is true, returns the bytes as text; the error is `Utf8` if they are not UTF-8. If
+/// `present` is false, returns `None` and does not read the bytes.
 pub(crate) fn text_if(present: bool, bytes: &[u8]) -> Result<Option<&str>>
     ensures { MatchResult result (λ text. option_copied text ≡ text_if present bytes.now)
         (λ e. (present ≡ true) × IsNoText bytes.now e) }
@@ -35,7 +36,7 @@ pub(crate) fn text_if(present: bool, bytes: &[u8]) -> Result<Option<&str>>
     }
 }
 
-/// Writes the text and returns `SM_OK`, or returns `SM_ABSENT`.
+/// Writes the text and returns `SM_OK`. Without a text, writes nothing and returns `SM_ABSENT`.
 pub(crate) fn put_text<'a>(found: Option<&'a str>, text: &mut &'a [u8]) -> u32
     ensures answer { ReturnsValue (Some (option_copied found.entry)) result text.old.now text.new.now }
     ensures unwritten { IsAbsentUnlessOk result text.old.now text.new.now }
@@ -49,7 +50,7 @@ pub(crate) fn put_text<'a>(found: Option<&'a str>, text: &mut &'a [u8]) -> u32
     }
 }
 
-/// An optional debug id.
+/// The debug id if `present` is true, otherwise `None`.
 pub(crate) fn id_if(present: bool, id: &IdBytes) -> Option<DebugId>
     ensures { result ≡ text_if present id.now.bytes }
 {

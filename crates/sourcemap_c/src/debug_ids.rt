@@ -43,7 +43,8 @@ fn put_id_text(alloc: Global, id: DebugId, text: &mut Handle) -> Outcome<()>
     }
 }
 
-/// Writes the debug id of a text, with or without hyphens.
+/// Parses the text of a debug id, with or without hyphens, and writes the id. Returns `SM_ABSENT`
+/// for any other text.
 #[unsafe(no_mangle)]
 pub extern "C" fn sm_parse_debug_id(text: &[u8], id: &mut IdBytes) -> u32
     ensures id { IsUtf8 text.now

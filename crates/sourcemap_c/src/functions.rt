@@ -17,7 +17,8 @@ use sourcemap_c_handles::errors::{Code, ErrorReport, Failure, Outcome, finish};
 use sourcemap_trace::trace_text;
 use std::alloc::Global;
 
-/// Fills `text` with the trace of a list of positions.
+/// Fills `text` with the trace of a list of positions: the answer to each position, one on each
+/// line.
 #[unsafe(no_mangle)]
 pub extern "C" fn sm_trace(
     alloc: Global,
@@ -60,7 +61,8 @@ fn put_trace(alloc: Global, map: &DecodedMap, positions: &[u8], text: &mut Handl
     }
 }
 
-/// Borrows the name of the function at a generated position.
+/// Borrows the name of the function at a generated position. A Hermes map stores the name. For
+/// other maps the name is guessed from the generated text in `view` and the minified name.
 #[unsafe(no_mangle)]
 pub extern "C" fn sm_function_name<'a>(
     map: &'a mut Handle,
@@ -139,7 +141,7 @@ fn put_guess<'a>(
     }
 }
 
-/// Borrows the name of the function at a bytecode offset.
+/// Borrows the name of the function at a bytecode offset of a Hermes map.
 #[unsafe(no_mangle)]
 pub extern "C" fn sm_hermes_function_name<'a>(
     map: &'a mut Handle,

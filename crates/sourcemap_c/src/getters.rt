@@ -159,7 +159,7 @@ fn put_id(map: &DecodedMap, id: &mut IdBytes) -> u32
     }
 }
 
-/// Borrows the source with this id, resolved against the root.
+/// Borrows the source with this id, resolved against `sourceRoot`.
 #[unsafe(no_mangle)]
 pub extern "C" fn sm_source<'a>(map: &'a mut Handle, id: u32, text: &mut &'a [u8]) -> u32
     ensures* after { sem 𝓛 (EndsAsBefore map.entry) }
@@ -234,8 +234,8 @@ fn contents_in(map: &DecodedMap, id: u32) -> Option<&str>
     leaf_in(map)?.get_source_contents(id)
 }
 
-/// Writes the ids of the ignore list from index `first` on, as many as fit, and returns how many.
-/// Returns 0 for an index map, and if the handle holds no map.
+/// Writes the ids of the ignore list from index `first` on, as many as fit. Returns the number of
+/// ids written, which is 0 for an index map, and if the handle holds no map.
 #[unsafe(no_mangle)]
 pub extern "C" fn sm_ignore_list(map: &mut Handle, first: u32, ids: &mut [u32]) -> usize
     ensures count { result ≡ unwrap_or (option_map (λ t. unwrap_or (option_map
@@ -265,8 +265,8 @@ fn put_ids(map: &DecodedMap, first: usize, ids: &mut [u32]) -> usize
     }
 }
 
-/// Writes the tokens from index `first` on, as many as fit, and returns how many. Returns 0 for an
-/// index map, and if the handle holds no map.
+/// Writes the tokens from index `first` on, as many as fit. Returns the number of tokens written,
+/// which is 0 for an index map, and if the handle holds no map.
 #[unsafe(no_mangle)]
 pub extern "C" fn sm_tokens(map: &mut Handle, first: u32, tokens: &mut [MapToken]) -> usize
     ensures count { result ≡ unwrap_or (option_map (λ t. unwrap_or (option_map

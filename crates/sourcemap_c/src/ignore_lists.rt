@@ -6,7 +6,8 @@ ghost use Rattle.sourcemap_c.specs.IgnoreLists.{AreIdsFrom};
 use sourcemap::SourceMap;
 use sourcemap_map_regular::iterators::IgnoreListIter;
 
-/// Writes the ids of the ignore list from index `first` on, as many as fit. Returns how many.
+/// Writes the ids of the ignore list from index `first` on, as many as fit. Returns the number of
+/// ids written.
 pub(crate) fn put_ignored(map: &SourceMap, first: usize, ids: &mut [u32]) -> usize
     ensures count { result ≡ min (length ids.old) (length map.now.ignored - first) }
     ensures each { AreIdsFrom first map.now.ignored ids.new result }

@@ -13,7 +13,7 @@ use sourcemap_c_handles::{Handle, Held};
 use std::alloc::Global;
 use std::sync::Arc;
 
-/// `SM_KIND_..` of the header.
+/// The numbers `SM_KIND_..` of the C header.
 #[derive(Clone, Copy)]
 pub(crate) enum Kind {
     Empty = 0,
@@ -29,7 +29,7 @@ pub(crate) enum Kind {
 }
 
 impl Kind {
-    /// The number in the header.
+    /// The number of the kind in the C header.
     pub(crate) fn number(self) -> u32
         ensures { result ≡ number_of self }
     {
@@ -62,7 +62,8 @@ fn tree_kind(map: &DecodedMap) -> Kind
     }
 }
 
-/// The map in the handle, regular, Hermes or index.
+/// Borrows the map in the handle: regular, Hermes or index map. Returns `None` if the handle holds
+/// no map.
 pub(crate) fn map_in<'a>(handle: &'a mut Handle) -> Option<&'a DecodedMap>
     ensures* after { sem 𝓛 (EndsAsBefore handle.entry) }
     ensures value { option_map (λ map. map_tree map.now) result ≡ tree_in (held_in handle.old) }
@@ -73,7 +74,7 @@ pub(crate) fn map_in<'a>(handle: &'a mut Handle) -> Option<&'a DecodedMap>
     }
 }
 
-/// Fills the handle with a map. The only error is `OutOfMemory`.
+/// Fills the handle with a map. The only error is `OutOfMemory`; then the handle is unchanged.
 pub(crate) fn put_map(alloc: Global, handle: &mut Handle, map: DecodedMap) -> Outcome<()>
     ensures { Does result (tree_in (held_in handle.new) ≡ Some (map_tree map))
         (OfLibrary NoError) (held_in handle.new ≡ held_in handle.old) }
@@ -84,7 +85,8 @@ pub(crate) fn put_map(alloc: Global, handle: &mut Handle, map: DecodedMap) -> Ou
     }
 }
 
-/// Fills the handle with a map that other handles may share. The only error is `OutOfMemory`.
+/// Fills the handle with a map that other handles may share. The only error is `OutOfMemory`; then
+/// the handle is unchanged.
 pub(crate) fn put_shared(alloc: Global, handle: &mut Handle, map: Arc<DecodedMap>) -> Outcome<()>
     ensures { Does result (tree_in (held_in handle.new) ≡ tree_in (Some (Held.Map map)))
         (OfLibrary NoError) (held_in handle.new ≡ held_in handle.old) }
@@ -93,7 +95,7 @@ pub(crate) fn put_shared(alloc: Global, handle: &mut Handle, map: Arc<DecodedMap
     Ok(())
 }
 
-/// Fills the handle with a text. The only error is `OutOfMemory`.
+/// Fills the handle with a text. The only error is `OutOfMemory`; then the handle is unchanged.
 pub(crate) fn put_bytes(alloc: Global, handle: &mut Handle, bytes: Vec<u8>) -> Outcome<()>
     ensures { Does result (bytes_in (held_in handle.new) ≡ Some bytes.items)
         (OfLibrary NoError) (held_in handle.new ≡ held_in handle.old) }

@@ -38,7 +38,8 @@ fn look_up(map: &DecodedMap, line: u32, column: u32, found: &mut Found) -> u32
         → ReturnsValue (Some (found_at (map_tree map.now) (line, column))) result found.old found.new }
     ensures unwritten { IsAbsentUnlessOk result found.old found.new }
 {
-    // one call for each kind: a token that comes from several branches is copied once more
+    // Each branch calls `put_found`. If the branches returned the token, it would be copied once
+    // more.
     match map {
         DecodedMap::Regular(map) => put_found(map.lookup_token(line, column), found),
         DecodedMap::Hermes(map) => put_found(map.lookup_token(line, column), found),
@@ -46,7 +47,7 @@ fn look_up(map: &DecodedMap, line: u32, column: u32, found: &mut Found) -> u32
     }
 }
 
-/// Writes the token and returns `SM_OK`, or returns `SM_ABSENT`.
+/// Writes the token and returns `SM_OK`. Without a token, writes nothing and returns `SM_ABSENT`.
 fn put_found(token: Option<Token<'_>>, found: &mut Found) -> u32
     ensures answer { ReturnsValue (Some (option_map (λ t. found_in (Some t))
         (option_map token_value token.entry))) result found.old found.new }
@@ -61,8 +62,8 @@ fn put_found(token: Option<Token<'_>>, found: &mut Found) -> u32
     }
 }
 
-/// Looks up generated positions, as many as both arrays have items, and returns how many. Returns
-/// 0 if the handle holds no map.
+/// Looks up the generated positions and writes the answers to `found`, as many as the shorter of
+/// the two arrays has items. Returns the number of answers, which is 0 if the handle holds no map.
 #[unsafe(no_mangle)]
 pub extern "C" fn sm_lookup_many(
     map: &mut Handle,
@@ -104,7 +105,8 @@ fn answer(map: &DecodedMap, position: Position) -> Found
     }
 }
 
-/// Writes the index of the closest token in a map without sections, at most 4294967295.
+/// Writes the index of the closest token in a regular or Hermes map. An index above 4294967295 is
+/// written as 4294967295.
 #[unsafe(no_mangle)]
 pub extern "C" fn sm_lookup_index(map: &mut Handle, line: u32, column: u32, index: &mut u32) -> u32
     ensures answer { ReturnsValue (option_map (λ m. index_at m (line, column))
@@ -133,9 +135,10 @@ fn put_index(map: &DecodedMap, line: u32, column: u32, index: &mut u32) -> u32
     }
 }
 
-/// Writes the closest token in a map without sections, and to `until` the generated position of the
-/// token after it. Without a next token, that position is line and column 4294967295. The same
-/// token is closest to each position from the one that was looked up that is before `until`.
+/// Writes to `found` the closest token in a regular or Hermes map, and to `until` the generated
+/// position of the next token. Without a next token, `until` is line and column 4294967295. All
+/// positions from the looked-up position (inclusive) to `until` (exclusive) have the same closest
+/// token.
 #[unsafe(no_mangle)]
 pub extern "C" fn sm_lookup_span(
     map: &mut Handle,

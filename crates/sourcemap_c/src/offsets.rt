@@ -1,4 +1,4 @@
-//! First lines and paths of the modules in an index map, and relative paths.
+//! Calls for the lines at which modules begin, for the paths of modules, and for relative paths.
 ghost use Rattle.std.specs.Prelude.{◌≡◌, ◌≤◌, ◌-◌, ℕ, Some, length, min, slice_get};
 ghost use Rattle.std.specs.Borrow.{sem};
 ghost use Rattle.std.specs.Option.{option_and_then, option_copied};
@@ -20,8 +20,9 @@ use std::alloc::Global;
 // `SM_NONE` of the header.
 pub(crate) const NONE: u32 = u32::MAX;
 
-/// Writes the line at which each module begins, from module `first` on, as many as fit. Writes to
-/// `written` how many.
+/// Writes for each module number, from `first` on, the line at which the module begins. The value
+/// is `SM_NONE` if there is no module with the number. Writes as many values as exist and fit in
+/// `offsets`. Writes to `written` how many values were written.
 #[unsafe(no_mangle)]
 pub extern "C" fn sm_module_offsets(
     map: &mut Handle,
@@ -105,7 +106,7 @@ fn path_of(index: &SourceMapIndex, id: usize) -> Option<&str>
     Some(path.as_str())
 }
 
-/// Fills the handle with the relative path from the folder of one file to another file.
+/// Fills `path` with the relative path from the folder of the file `base` to the file `target`.
 #[unsafe(no_mangle)]
 pub extern "C" fn sm_relative_path(
     alloc: Global,

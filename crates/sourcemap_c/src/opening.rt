@@ -115,7 +115,7 @@ fn open_text(alloc: Global, map: &mut Handle, url: &str) -> Outcome<()>
     }
 }
 
-/// Fills the second handle with the map of the first. Both share it, and nothing is copied.
+/// Fills `other` with the map in `map`. The map is not copied: both handles share it.
 #[unsafe(no_mangle)]
 pub extern "C" fn sm_share(
     alloc: Global,

@@ -13,8 +13,8 @@ use sourcemap_c_handles::Handle;
 use sourcemap_c_handles::errors::{ErrorReport, Failure, Outcome, finish};
 use std::alloc::Global;
 
-/// Finds the reference in a text, and fills `url` with its URL. Writes to `is_legacy` whether the
-/// reference begins with `//@`.
+/// Finds the first reference in a text and fills `url` with the URL of the reference. Writes to
+/// `is_legacy` whether the reference begins with `//@`.
 #[unsafe(no_mangle)]
 pub extern "C" fn sm_locate_reference(
     alloc: Global,

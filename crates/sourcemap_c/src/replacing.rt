@@ -24,7 +24,7 @@ use sourcemap_c_handles::errors::{ErrorReport, Failure, Outcome, finish};
 use sourcemap_c_handles::no_files::NoFiles;
 use std::alloc::Global;
 
-/// Replaces an index by the regular map that it is flattened to.
+/// Replaces an index map by the regular map that it is flattened to.
 #[unsafe(no_mangle)]
 pub extern "C" fn sm_flatten(alloc: Global, map: &mut Handle, error: &mut ErrorReport) -> u32
     ensures { Answers result error.old error.new
@@ -158,7 +158,14 @@ fn compose_copy(map: &SourceMap, adjustment: &SourceMap) -> Result<SourceMap>
     Ok(copy)
 }
 
-/// Rewrites the map: only what its tokens use stays.
+/// Rewrites the map. Keeps only the sources and names that tokens use, and the contents of these
+/// sources. The sources are resolved against `sourceRoot`. Removes `sourceRoot`, the ignore list,
+/// all names if `with_names` is false, and all contents if `with_contents` is false.
+///
+/// Removes from each source the first of `prefixes` that the source starts with. Before that, `/`
+/// is added to each prefix that does not end with it. The prefix `~` means the common prefix of all
+/// sources that are absolute paths. To find it, the call uses the sources as the map stores them,
+/// not resolved against `sourceRoot`. The call tries the common prefix last.
 #[unsafe(no_mangle)]
 pub extern "C" fn sm_rewrite(
     alloc: Global,
@@ -202,7 +209,8 @@ fn rewrite(
     }
 }
 
-/// These bytes as texts. Returns `Utf8` if one is not UTF-8.
+/// Returns each item of `texts` as a text. The error is `Utf8` if one of them is not UTF-8, or
+/// `OutOfMemory`.
 pub(crate) fn texts_in<'a>(alloc: Global, texts: &[&'a [u8]]) -> Result<Vec<&'a str>>
     ensures { MatchResult result
         (λ found. let found = list_map (λ text. text.now) found.items in

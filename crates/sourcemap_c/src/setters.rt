@@ -100,7 +100,7 @@ fn set_contents(alloc: Global, map: &mut Handle, id: u32, present: bool, text: &
     }
 }
 
-/// Sets the text of a source, before it is resolved against `sourceRoot`.
+/// Sets the stored text of a source, which is not resolved against `sourceRoot`.
 #[unsafe(no_mangle)]
 pub extern "C" fn sm_set_source(
     alloc: Global,

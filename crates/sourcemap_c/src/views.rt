@@ -99,7 +99,7 @@ pub extern "C" fn sm_view_count(view: &mut Handle, lines: &mut usize) -> u32
     }
 }
 
-/// Borrows a line without its end.
+/// Borrows a line without its line break.
 #[unsafe(no_mangle)]
 pub extern "C" fn sm_view_line<'a>(view: &'a mut Handle, line: u32, text: &mut &'a [u8]) -> u32
     ensures* after { sem 𝓛 (EndsAsBefore view.entry) }
@@ -119,7 +119,7 @@ fn put_line<'a>(view: Option<&'a SourceView>, line: u32, text: &mut &'a [u8]) ->
     }
 }
 
-/// Borrows a slice of a line. Column and span count UTF-16 units.
+/// Borrows a slice of a line: `span` UTF-16 units from column `column` on.
 #[unsafe(no_mangle)]
 pub extern "C" fn sm_view_slice<'a>(
     view: &'a mut Handle,

@@ -126,7 +126,7 @@ abbrev pub Reports : Failure → ℕ → ErrorReport → ErrorReport → Type 0
 Reports failure code old new = ((code ≡ number_of (code_of failure)) × IsOf failure old new)
     ⊎ ((code ≡ number_of Code.OutOfMemory) × IsOf (Library OutOfMemory) old new)
 
--- the code and the report for an outcome
+-- the code and the report of an outcome; after success the code is 0 and the report is unchanged
 abbrev pub Finishes : {X : Type 0} → Result X Failure → ℕ → ErrorReport → ErrorReport → Type 0
 Finishes (Ok _) code old new = (code ≡ 0) × (new ≡ old)
 Finishes (Err failure) code old new = Reports failure code old new

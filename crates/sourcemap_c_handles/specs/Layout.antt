@@ -28,11 +28,11 @@ raw_token token = record {
   is_range = token.is_range;
 }
 
--- the struct of a token that a lookup found, with the original position of the position that was looked up
+-- the struct of a token that a lookup found; its original position is the one to which the looked-up position maps
 abbrev pub found_token : TokenValue → MapToken
 found_token token = record (map_token token.raw) { original_line = (says token).line; original_column = (says token).column }
 
--- the result of a lookup that found this closest token, or none
+-- the result of a lookup that found this token; for `None`, of a lookup that found no token
 abbrev pub found_in : Option TokenValue → Found
 found_in None = record {
   token = record { line = 0; column = 0; original_line = 0; original_column = 0; source = 0; name = 0; is_range = false };

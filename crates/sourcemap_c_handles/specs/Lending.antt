@@ -1,4 +1,4 @@
--- A seal after a borrow of its value has ended.
+-- A `Sealed` after a borrow of its value has ended.
 use Rattle.std.specs.Prelude.{Some}
 use Rattle.std.specs.Borrow.{Fml, Lends, MutBor}
 use Rattle.sourcemap_c_handles.specs.contracts.held.Held.{the_row as held_row}
@@ -9,6 +9,6 @@ use Rattle.sourcemap_c_handles.specs.declared.sealed.Sealed.{Sealed}
 abbrev pub with_content : Sealed → Held → Sealed
 with_content sealed held = record sealed { content = Some held }
 
--- after the borrow the seal has the value that the borrow ended with
+-- after the borrow `held` has ended, `sealed` has the value with which the borrow ended
 abbrev pub BorrowsContent : MutBor Sealed → MutBor Held → Fml
 BorrowsContent sealed held = Lends the_row held_row sealed held (with_content sealed.now)

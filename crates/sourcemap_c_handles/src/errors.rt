@@ -41,7 +41,7 @@ pub enum Code {
 #[derive(Drop)]
 pub enum Failure {
     Library(Error),
-    /// No such text, id, module or item.
+    /// The item that the call asks for does not exist, for example a token, a text or a module.
     Absent,
     /// The handle is empty, or the call does not apply to its value.
     WrongKind,
@@ -206,7 +206,7 @@ fn failure_numbers(failure: &Failure) -> Numbers
     }
 }
 
-// The maximum length of a written text; a zero byte follows it.
+// The maximum length of a written text in bytes. A zero byte follows the text.
 const MOST_BYTES: usize = 255;
 
 // Copies the text, cut after 255 bytes, and a zero byte after it.

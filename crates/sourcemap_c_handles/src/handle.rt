@@ -1,4 +1,4 @@
-//! The handle of C: a pointer and a flag in the caller's memory, which start as zeros.
+//! The handle of C: a pointer and a flag in the caller's memory. Both start as zeros.
 ghost use Rattle.std.specs.Prelude.{◌≡◌, None, Some, MatchResult, option_map, is_some};
 ghost use Rattle.std.specs.Borrow.{sem};
 ghost use Rattle.std.specs.Option.{option_copied};
@@ -37,7 +37,7 @@ impl Handle {
         }
     }
 
-    /// Borrows the value.
+    /// Borrows the value. Returns `None` if the handle is empty.
     pub fn get<'a>(&'a mut self) -> Option<&'a Held>
         ensures* after { sem 𝓛 (EndsAsBefore self.entry) }
         ensures value { option_copied result ≡ held_in self.old }
@@ -48,7 +48,7 @@ impl Handle {
         None
     }
 
-    /// Empties the handle and returns its value.
+    /// Empties the handle and returns its value, or `None` if it was empty.
     pub fn take(&mut self, alloc: Global) -> Option<Box<Held>>
         ensures value { option_map (λ held. held.value) result ≡ held_in self.old }
         ensures empty { held_in self.new ≡ None }
@@ -66,7 +66,7 @@ impl Handle {
         None
     }
 
-    /// Drops the old value and stores this one.
+    /// Drops the old value, if any, and stores `held`.
     pub fn put(&mut self, held: Box<Held>)
         ensures { held_in self.new ≡ Some held.value }
     {

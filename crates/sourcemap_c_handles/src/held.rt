@@ -9,7 +9,7 @@ use std::sync::Arc;
 /// The value of a handle.
 #[derive(Drop)]
 pub enum Held {
-    /// A regular map, a Hermes map or an index. Handles can share it.
+    /// A regular map, a Hermes map or an index map. Several handles can share the map.
     Map(Arc<DecodedMap>),
     /// A builder.
     Builder(SourceMapBuilder),
@@ -17,11 +17,11 @@ pub enum Held {
     View(SourceView),
     /// A RAM bundle.
     Bundle(RamBundle<'static>),
-    /// The modules of a split RAM bundle; a broken module has its error.
+    /// The modules of a split RAM bundle. For an invalid module, the list has the error.
     Split(Vec<Result<SplitModule>>),
     /// A text that a call returned.
     Bytes(Vec<u8>),
-    /// The sections of an index that is being made.
+    /// The sections of an index map that is being made.
     Sections(Vec<SourceMapSection>),
 }
 

@@ -8,7 +8,8 @@ use sourcemap_map_regular::token::Token;
 use sourcemap_tokens::tokens::RawToken;
 use uuid::Uuid;
 
-/// `sm_position`.
+/// The struct `sm_position` of the C header. Lines and columns count from 0, columns in UTF-16
+/// units.
 #[repr(C)]
 #[derive(Clone, Copy)]
 pub struct Position {
@@ -16,7 +17,7 @@ pub struct Position {
     pub column: u32,
 }
 
-/// `sm_token`.
+/// The struct `sm_token` of the C header.
 #[repr(C)]
 #[derive(Clone, Copy)]
 pub struct MapToken {
@@ -29,7 +30,7 @@ pub struct MapToken {
     pub is_range: bool,
 }
 
-/// `sm_found`.
+/// The struct `sm_found` of the C header.
 #[repr(C)]
 #[derive(Clone, Copy)]
 pub struct Found {
@@ -37,7 +38,7 @@ pub struct Found {
     pub found: bool,
 }
 
-/// `sm_counts`.
+/// The struct `sm_counts` of the C header.
 #[repr(C)]
 #[derive(Clone, Copy)]
 pub struct Counts {
@@ -48,14 +49,14 @@ pub struct Counts {
     pub sections: u32,
 }
 
-/// `sm_debug_id`.
+/// The struct `sm_debug_id` of the C header.
 #[repr(C)]
 #[derive(Clone, Copy)]
 pub struct IdBytes {
     pub bytes: [u8; 16],
 }
 
-/// `sm_section_start`.
+/// The struct `sm_section_start` of the C header.
 #[repr(C)]
 #[derive(Clone, Copy)]
 pub struct SectionStart {
@@ -96,8 +97,9 @@ impl MapToken {
         }
     }
 
-    /// The struct of a token that a lookup returned. Its original position is that of the position
-    /// looked up, which within a range differs from the token's own.
+    /// The struct of a token that a lookup found. Its original position is the one to which the
+    /// looked-up position maps. For a range token it can differ from the stored original position
+    /// of the token.
     pub fn of_found(token: &Token<'_>) -> MapToken
         ensures { result ≡ found_token (token_value token.now) }
     {
@@ -129,7 +131,8 @@ impl Found {
         }
     }
 
-    /// The result of a lookup that found this token, or none.
+    /// The result of a lookup that found this token. For `None`, the result of a lookup that found
+    /// no token.
     pub fn of(token: Option<&Token<'_>>) -> Found
         ensures { result ≡ found_in (option_map (λ t. token_value t.now) token.entry) }
     {

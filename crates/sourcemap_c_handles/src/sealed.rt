@@ -26,7 +26,7 @@ impl Sealed {
     ghost use Rattle.sourcemap_c_handles.specs.Lending.{BorrowsContent};
     ghost use Rattle.std.specs.Borrow.{sem};
 
-    /// A null pointer.
+    /// A `Sealed` without a value: its pointer is null.
     pub(crate) fn empty(alloc: Global) -> Sealed
         ensures { result.content ≡ None }
     {

@@ -4,12 +4,12 @@ use Rattle.std.specs.Str.Parse.{IsNumeral, digits_value}
 use Rattle.sourcemap_cli.specs.declared.command.Command.{Command}
 use Rattle.sourcemap_cli.specs.declared.command.Command.TheVariants.{Lookup, Tokens, Rewrite, Flatten, Compose, Shift, Trace}
 
--- a word of one or more digits that is a number of 32 bits
+-- the word consists of one or more decimal digits, and its value is `n`, at most 4294967295
 abbrev pub IsNumber : List ℕ → ℕ → Type 0
 IsNumber word n =
     IsNumeral 10 word × (digits_value 10 word ≤ 4294967295) × (n ≡ digits_value 10 word)
 
--- the arguments of the program that ask for a command
+-- these arguments of the program ask for this command
 abbrev pub AskFor : List (List ℕ) → Command → Type 0
 AskFor words (Lookup line col) = (l c : List ℕ)
     × (words ≡ codes "lookup" ∷ l ∷ c ∷ []) × IsNumber l line × IsNumber c col

@@ -31,22 +31,23 @@ newline = 10 ∷ []
 abbrev pub usage_text : List ℕ
 usage_text = codes "usage: lookup LINE COL | tokens | rewrite | flatten | compose FILE | shift ROWS | trace FILE" ++ newline
 
--- a token's text, or `none`
+-- the text of a token; `none` if there is no token
 abbrev pub found_text : Option TokenValue → List ℕ
 found_text (Some token) = token_text (says token)
 found_text None = codes "none"
 
--- what follows the text of a range token
+-- the mark after the text of a token: ` range` for a range token, otherwise empty
 abbrev pub range_mark : TokenValue → List ℕ
 range_mark t = if t.raw.is_range then codes " range" else []
 
--- the line of a token: its generated position, its text, and whether it is a range token
+-- the line that is printed for a token: its generated position, its text, and whether it is a range token
 abbrev pub token_line : TokenValue → List ℕ
 token_line t =
     decimal t.raw.dst_line ++ codes ":" ++ decimal t.raw.dst_col ++ codes " "
     ++ token_text (says t) ++ range_mark t ++ newline
 
--- the line of the closest token; unspecified for an index map with unsorted sections
+-- the line that is printed for a lookup: the text of the closest token, or `none`. For an index map with unsorted
+-- sections, the token is unspecified
 abbrev pub IsLookupLine : MapTree → ℕ × ℕ → List ℕ → Type 0
 IsLookupLine t p text = (found : Option TokenValue) × (text ≡ found_text found ++ newline) × (IsInOrder t → found ≡ lookup t p)
 
@@ -57,7 +58,8 @@ IsJsonLine t text = (json : List ℕ) × IsTextOf t json × (text ≡ json ++ ne
 abbrev pub PrintsMap : MapTree → Result (List ℕ) Error → Type 0
 PrintsMap t answer = IsOkAnd answer (IsJsonLine t)
 
--- the index map with its sections moved down by this many rows; an error if one would pass the last row
+-- the index map with each section moved down by this many lines, printed as JSON; `IncompatibleSourceMap` if a section
+-- would move past line 4294967295
 abbrev pub ShiftAnswer : ℕ → IndexParts → List MapSection → Result (List ℕ) Error → Type 0
 ShiftAnswer rows parts ss answer =
     (HaveRowsLeft rows ss × PrintsMap (index parts (sections_from (shifted rows ss))) answer)
@@ -73,7 +75,8 @@ abbrev pub IsNotIndex : MapTree → Type 0
 IsNotIndex (index _ _) = ⊥
 IsNotIndex _ = Unit {0}
 
--- a regular map adjusted by another one; an error for maps of other kinds
+-- a regular map adjusted by a second regular map, or the error of adjusting it; `IncompatibleSourceMap` if either map
+-- is of another kind, or if there is no second map
 abbrev pub adjusted_by : MapTree → Option MapTree → Result MapValue Error
 adjusted_by (leaf (regular m)) (Some (leaf (regular n))) = adjusted m n
 adjusted_by _ _ = Err IncompatibleSourceMap
@@ -103,7 +106,7 @@ Returns (Shift _) (leaf _) _ answer = answer ≡ Err IncompatibleSourceMap
 Returns (Shift rows) (index parts ss) _ answer = ShiftAnswer rows parts (section_list ss) answer
 Returns (Trace _) _ _ _ = ⊥
 
--- a file, given as its bytes or the error of reading it, decodes to this map or error
+-- a file decodes to this map or to this error; the file is given as its bytes, or as the error of reading it
 abbrev pub FileDecodes : Result (List ℕ) Error → Result MapTree Error → Type 0
 FileDecodes (Ok bytes) decoded = BytesDecode bytes decoded
 FileDecodes (Err e) decoded = decoded ≡ Err e
@@ -119,8 +122,8 @@ ReturnsWithFile file command t answer = Returns command t None answer
 abbrev pub ReturnsOnBytes : Command → (bytes : List ℕ) → (file : Result (List ℕ) Error) → Result (List ℕ) Error → Type 0
 ReturnsOnBytes command bytes file answer = Then (BytesDecode bytes) (λ t a. ReturnsWithFile file command t a) answer
 
--- Runs, given words and the bytes of a map; for `compose` and `trace` also the bytes of a file, or the error
--- of reading it.
+-- Definitions for runs that are given words and the bytes of a map. For `compose` and `trace`, a run is also given the
+-- bytes of a file, or the error of reading it.
 
 -- words that are no command
 abbrev pub AskForNone : List (List ℕ) → Type 0
@@ -137,7 +140,7 @@ Ends words bytes file (answered answer) =
     (command : Command) × AskFor words command × ReturnsOnBytes command bytes file answer
 Ends words bytes file misused = AskForNone words
 
--- the line of an error; std does not specify what its own errors print
+-- the text of an error and a newline; std does not specify the texts of its own errors
 abbrev pub IsRefusal : Error → List ℕ → Type 0
 IsRefusal e text =
     (line : List ℕ) × IfSome (error_text e) (λ known. line ≡ known) × (text ≡ line ++ newline)
@@ -152,38 +155,39 @@ Prints (answered (Ok text)) printed = printed ≡ text
 Prints (answered (Err e)) printed = IsRefusal e printed
 Prints misused printed = printed ≡ usage_text
 
--- the text and the status of an ending
+-- the reply has the text and the status of the ending
 abbrev pub IsReply : Ending → Reply → Type 0
 IsReply ending reply = Prints ending (string_bytes reply.text) × (reply.status ≡ status_of ending)
 
--- a reply to these words on these bytes
+-- a reply to these words, with these bytes and this file
 abbrev pub IsReplyTo : List (List ℕ) → (bytes : List ℕ) → (file : Result (List ℕ) Error) → Reply → Type 0
 IsReplyTo words bytes file reply = (ending : Ending) × Ends words bytes file ending × IsReply ending reply
 
--- the reply for the answer to a command; `OutOfMemory` has none
+-- the reply for the answer to a command; there is no reply for `OutOfMemory`
 abbrev pub IsReplyOf : Result (String Global) Error → Reply → Type 0
 IsReplyOf (Ok text) reply = IsReply (answered (Ok (string_bytes text))) reply
 IsReplyOf (Err e) reply = (e ≢ OutOfMemory) × IsReply (answered (Err e)) reply
 
--- Runs over a reader and a writer: a read may fail, and memory may run out. std does not specify which bytes
--- a file has.
+-- Definitions for runs that read from a reader and write to a writer. A read may fail, and memory may run out. std does
+-- not specify which bytes a file has.
 
--- the result of reading a file, without its buffer
+-- the result of reading a file, with the bytes as a list instead of a buffer
 abbrev pub file_read : Result (Vec ℕ Global) Error → Result (List ℕ) Error
 file_read (Ok bytes) = Ok bytes.items
 file_read (Err e) = Err e
 
--- what reading a file may return: bytes, or an error of a reader
+-- what reading a file may return: bytes, an `Io` error of opening or reading it, or `OutOfMemory`
 abbrev pub MayBeRead : Result (List ℕ) Error → Type 0
 MayBeRead (Ok bytes) = Unit {0}
 MayBeRead (Err e) = UnlessReadFails e ⊥
 
--- P holds for the preloaded file, or else for some result of reading
+-- `P` holds for the result of reading a file. This is the preloaded result; if nothing is preloaded, it is some result
+-- that reading may return
 abbrev pub WithFile : Option (Result (List ℕ) Error) → (Result (List ℕ) Error → Type 0) → Type 0
 WithFile (Some file) P = P file
 WithFile None P = (file : Result (List ℕ) Error) × MayBeRead file × P file
 
--- an error without a reply: out of memory, or an error of a read, if the words ask for a command
+-- an error without a reply: `OutOfMemory`; if the words ask for a command, also the error of a failed read
 abbrev pub IsCutShort : List (List ℕ) → Error → Type 0
 IsCutShort words e = UnlessMemory e ((command : Command) × AskFor words command × UnlessReadFails e ⊥)
 
@@ -192,7 +196,8 @@ abbrev pub MayEnd : List (List ℕ) → (bytes : List ℕ) → (file : Result (L
 MayEnd words bytes file (answered (Err e)) = Ends words bytes file (answered (Err e)) ⊎ IsCutShort words e
 MayEnd words bytes file ending = Ends words bytes file ending
 
--- an error was printed, or `OutOfMemory` if its text could not be allocated
+-- the text of this error was printed, or the text of `OutOfMemory` because the text of this error could not be
+-- allocated
 abbrev pub PrintsRefusal : Error → Option (List ℕ) → Option (List ℕ) → Type 0
 PrintsRefusal e old new = (reported : Error) × ((reported ≡ e) ⊎ (reported ≡ OutOfMemory))
     × ((printed : List ℕ) × IsRefusal reported printed × Appends old new printed)
@@ -208,8 +213,8 @@ IsPrinted (Err e) status old new = (status ≡ 1) × PrintsRefusal e old new
 abbrev pub IsWriteError : Error → Type 0
 IsWriteError e = (cause : IoError) × FromIo cause e
 
--- the status of a run with these words, and standard output before and after it; the input is the bytes of a reader, or
--- some bytes if those are unknown
+-- a run with these words ends with this status, and changes standard output from `old` to `new`. `input` holds the
+-- bytes of standard input; if it is `None`, these may be any bytes
 abbrev pub Runs : List (List ℕ) → Option (List ℕ) → ℕ → Option (List ℕ) → Option (List ℕ) → Type 0
 Runs words input status old new = Reading input (λ bytes. WithFile None (λ file.
     (ending : Ending) × MayEnd words bytes file ending

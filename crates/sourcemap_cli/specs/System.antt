@@ -1,4 +1,4 @@
--- What is reported of an error that ended a run.
+-- How an error that ended a run is reported.
 use Rattle.std.specs.Prelude.{◌≡◌, ℕ, List, ◌++◌, Option, IfSome}
 use Rattle.std.specs.Io.KnownBytes.{Appends}
 use Rattle.std.specs.IoError.{error_kind}
@@ -13,6 +13,7 @@ abbrev pub IsReaderGone : Error → Type 0
 IsReaderGone (Io cause) = error_kind cause ≡ BrokenPipe
 IsReaderGone _ = ⊥
 
--- the text of an error was written; std does not specify what its own errors print
+-- the text of an error and a newline were written; for an error of std nothing is stated, since std does not specify
+-- its text
 abbrev pub IsErrorPrinted : Error → Option (List ℕ) → Option (List ℕ) → Type 0
 IsErrorPrinted e old new = IfSome (error_text e) (λ text. Appends old new (text ++ newline))

@@ -17,15 +17,15 @@ pub enum Command {
     Rewrite,
     /// `flatten`: the index map flattened to a regular map, as JSON text.
     Flatten,
-    /// `compose FILE`: the regular map adjusted by the one in this file, as JSON text.
+    /// `compose FILE`: the regular map adjusted by the map in this file, as JSON text.
     Compose(String),
     /// `shift ROWS`: the index map with each section moved down by this many rows, as JSON text.
     Shift(u32),
-    /// `trace FILE`: the tokens at the generated positions that this file lists.
+    /// `trace FILE`: the closest token to each generated position that this file lists.
     Trace(String),
 }
 
-// Only decimal digits: `parse` also accepts a sign.
+// Accepts only decimal digits. `parse` alone would also accept a `+` before them.
 fn parse_number(word: &str) -> Option<u32>
     ensures { MatchOption result ((n : ℕ) → ¬ IsNumber word.now n) (IsNumber word.now) }
 {

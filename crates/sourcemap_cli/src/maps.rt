@@ -44,8 +44,9 @@ pub fn into_index(map: DecodedMap) -> Result<SourceMapIndex>
     }
 }
 
-/// Adjusts the map as by `SourceMap::adjust_mappings`. Returns `IncompatibleSourceMap` unless both
-/// maps are regular.
+/// Adjusts a regular map by another one, as `SourceMap::adjust_mappings` does, and returns the
+/// adjusted map. Returns the errors of `adjust_mappings`, and `IncompatibleSourceMap` if either map
+/// is not regular.
 pub fn adjust(map: DecodedMap, adjustment: &DecodedMap) -> Result<SourceMap>
     ensures { Gives (λ m. m) result (adjusted_by (map_tree map) (Some (map_tree adjustment.now))) }
 {

@@ -64,7 +64,7 @@ fn tokens_text(alloc: Global, map: &DecodedMap) -> Result<String>
     }
 }
 
-// Consumes the map, so that its strings are not copied.
+// Consumes the map instead of copying its strings.
 fn json_line(alloc: Global, map: DecodedMap) -> Result<String>
     ensures { MatchResult result
         (λ text. IsJsonLine (map_tree map) (string_bytes text))
@@ -118,8 +118,8 @@ fn shifted_json(alloc: Global, map: DecodedMap, rows: u32) -> Result<String>
     json_line(alloc, DecodedMap::Index(index))
 }
 
-/// Returns the JSON text of a map adjusted by another one, and a newline. Errors are those of
-/// `apply`.
+/// Returns the JSON text of a map adjusted by another one, and a newline. Returns the errors of
+/// `apply` for `Compose`.
 pub fn adjusted_json(alloc: Global, map: DecodedMap, adjustment: DecodedMap) -> Result<String>
     ensures { (path : _) → IsAnswer string_bytes
         (Returns (Compose path) (map_tree map) (Some (map_tree adjustment))) result }
@@ -135,12 +135,12 @@ pub fn adjusted_json(alloc: Global, map: DecodedMap, adjustment: DecodedMap) -> 
 /// - `Tokens`: a line for each token: its generated position, its text, and ` range` for a range
 ///   token.
 /// - `Rewrite`, `Flatten`, `Compose`, `Shift`: compact JSON and a newline. `Rewrite`: the map
-///   rewritten with default options, a Hermes map with its scopes. `Flatten`: the flattened index
-///   map. `Compose`: the map adjusted by `adjustment`. `Shift`: the index map with each section
-///   moved down by this many rows.
+///   rewritten with default options. For a Hermes map, the JSON has the function scopes too.
+///   `Flatten`: the flattened index map. `Compose`: the map adjusted by `adjustment`. `Shift`: the
+///   index map with each section moved down by this many rows.
 ///
-/// `Compose` takes an adjustment, and no other command does. `Trace` also needs positions; use
-/// `sourcemap_trace::trace_text`.
+/// `Compose` takes an adjustment, and no other command does. `command` must not be `Trace`, which
+/// also needs positions; use `sourcemap_trace::trace_text` for it.
 ///
 /// Errors:
 ///

@@ -30,7 +30,7 @@ const NO_MEMORY: &str = "out of memory\n";
 /// The output and the exit status of a run.
 #[derive(Debug, Drop)]
 pub struct Reply {
-    /// The whole output, with its last newline.
+    /// The whole output. It is empty or ends with a newline.
     pub text: String,
     /// 0 after success, 1 after an error, 2 for words that are no command.
     pub status: u8,
@@ -113,13 +113,14 @@ fn usage_reply(alloc: Global) -> Result<Reply>
     Ok(Reply { text, status: 2 })
 }
 
-/// Returns the reply of a run. `bytes` is the map. `file` is the bytes of the file that `Compose`
-/// or `Trace` names, or the error of reading that file. Other commands ignore `file`.
+/// Returns the reply of a run. `words` are the arguments, and `bytes` is the map as JSON text.
+/// `file` is the bytes of the file that `Compose` or `Trace` names, or the error of reading that
+/// file. Other commands ignore `file`.
 ///
-/// - Status 0: the output of the command, as by `apply`, for `Trace` by `trace_text`.
-/// - Status 1: the text of the first error and a newline. Checked in this order: the map's bytes do
-///   not decode, as by `decode_slice` (`Io` only for an invalid junk header); the file could not be
-///   read; the file of `Compose` does not decode; the command returns an error.
+/// - Status 0: the output of the command, as returned by `apply`, or for `Trace` by `trace_text`.
+/// - Status 1: the text of the first error and a newline. Errors are checked in this order: the
+///   map's bytes do not decode, as by `decode_slice` (`Io` only for an invalid junk header); the
+///   file could not be read; the file of `Compose` does not decode; the command returns an error.
 /// - Status 2: the usage, for words that are no command.
 ///
 /// The only error is `OutOfMemory`.
@@ -217,10 +218,10 @@ fn print_reply<W: Write>(alloc: Global, reply: Result<Reply>, output: &mut W) ->
 
 /// Runs the program: prints the reply as by `reply_to`, and returns its status.
 ///
-/// The map is read from `input`, but only if the words are a command; the file of `Compose` or
-/// `Trace` is opened after the input is decoded. A read error and `OutOfMemory` are printed like an
-/// invalid map, with status 1. The whole output is in memory before its first byte is written. The
-/// only error is one of the writer.
+/// The map is read from `input`, but only if the words are a command. The file of `Compose` or
+/// `Trace` is opened after the input is decoded. A read error and `OutOfMemory` are printed like
+/// the error of an invalid map, with status 1. The whole output is in memory before its first byte
+/// is written. The only error is one of the writer.
 pub fn run<F: Files, R: Read, W: Write>(
     rt: &F,
     alloc: Global,

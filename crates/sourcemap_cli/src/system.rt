@@ -11,7 +11,7 @@ use std::io::{ErrorKind, Write};
 use std::{env, io};
 
 /// Returns the arguments of the process after the program's name. If an argument is not UTF-8,
-/// returns an empty list, which is no command either. Returns `OutOfMemory` if memory runs out. Any
+/// returns an empty list, which is not a command. Returns `OutOfMemory` if memory runs out. Any
 /// other error of the environment is `Io`.
 pub fn words<R: Env + AllocGlobal>(rt: &R) -> Result<Vec<String>>
     ensures error { IfErr result (λ e. UnlessMemory e (IsIo e)) }
@@ -29,8 +29,9 @@ fn is_reader_gone(error: &Error) -> bool
     matches!(error, Error::Io(cause) if cause.kind() == ErrorKind::BrokenPipe)
 }
 
-/// Writes the text of an error and a newline. Writes nothing, and succeeds, if the error says that
-/// the reader of the output is gone (`BrokenPipe`). The only error is one of the writer.
+/// Writes the text of an error and a newline. Writes nothing and returns `Ok` if the error is `Io`
+/// of kind `BrokenPipe`, because the reader of the output is gone then. The only error is one of
+/// the writer.
 pub fn report_error<W: Write>(error: &Error, output: &mut W) -> Result<()>
     ensures printed { OnOk result (¬ IsReaderGone error.now
         → IsErrorPrinted error.now (W.contents output.old) (W.contents output.new)) }

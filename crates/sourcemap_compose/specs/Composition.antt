@@ -10,8 +10,8 @@ use Rattle.sourcemap_compose.specs.declared.stretches.Side.TheVariants.{Original
 use Rattle.sourcemap_compose.specs.declared.stretches.Stretch.{Stretch}
 use Rattle.sourcemap_compose.specs.Stretches.{is_before, stretches_by}
 
--- two stretches overlap if each starts before the other ends. So an empty stretch overlaps another one only if it is
--- strictly inside of that one
+-- two stretches overlap if each starts before the other ends. So an empty stretch overlaps exactly the stretches that
+-- start before it and end after it
 abbrev pub overlap : Stretch → Stretch → Bool
 overlap a o = is_before a.start o.end && is_before o.start a.end
 
@@ -22,13 +22,14 @@ later_start a o = cond (is_before a.start o.start) o.start a.start
 abbrev pub moved : Stretch → ℕ × ℕ → ℕ × ℕ
 moved a p = (a.token.dst_line, p.1 - a.token.src_col + a.token.dst_col)
 
--- the source column of a token that is moved by columns: it changes only for a range token with a source
+-- the original column of a token. For a range token with a source, `columns` are added, up to 4294967295; otherwise it
+-- is unchanged
 abbrev pub shifted_column : RawToken → ℕ → ℕ
 shifted_column token columns =
     if token.is_range && not (token.src_id == no_id) then min (token.src_col + columns) 4294967295 else token.src_col
 
--- the token for the part of the original `o` from `start` on. Its generated position is where the adjustment `a` moves
--- `start`
+-- the token for the part of `o` that begins at `start`, where `o` is a stretch of the original. The generated position
+-- of this token is the position to which the stretch `a` of the adjustment moves `start`
 abbrev pub part_from : ℕ × ℕ → Stretch → Stretch → RawToken
 part_from start a o = record o.token {
   dst_line = (moved a start).0;
@@ -43,7 +44,8 @@ composed a o = part_from (later_start a o) a o
 abbrev pub pair : Stretch → Stretch → List RawToken
 pair a o = cond (overlap a o) (composed a o ∷ []) []
 
--- the tokens of all overlapping pairs, in the order of the adjustments, and for each of these in that of the originals
+-- the tokens of all overlapping pairs, in the order of the adjustments, and for each adjustment in the order of the
+-- originals
 abbrev pub composed_all : (adjustments originals : List Stretch) → List RawToken
 composed_all adjustments originals = flat_map (λ a. flat_map (pair a) originals) adjustments
 
@@ -51,13 +53,14 @@ composed_all adjustments originals = flat_map (λ a. flat_map (pair a) originals
 abbrev pub overflows_column : RawToken → Bool
 overflows_column token = nat_lt 4294967295 token.dst_col
 
--- the adjusted tokens of the original, or an error if a generated column overflows
+-- the adjusted tokens of the original, sorted by generated position, or the error `IncompatibleSourceMap` if a
+-- generated column overflows
 abbrev pub composition : (original adjustment : List RawToken) → Result (List RawToken) Error
 composition original adjustment = sorted_unless_overflowing (composed_all (stretches_by Adjustment adjustment) (stretches_by Original original)) where
   sorted_unless_overflowing : List RawToken → Result (List RawToken) Error
   sorted_unless_overflowing tokens = cond (list_any overflows_column tokens) (Err IncompatibleSourceMap) (Ok (in_order tokens))
 
--- the column of the later start is at least the column of each start, as it is if the stretches overlap
+-- the column of the later start is at least the column of each of the two starts. This holds if the stretches overlap
 pub record StartsOnBothLines (a o : Stretch) : Type 0 where
   pub in_adjustment : a.token.src_col ≤ (later_start a o).1
   pub in_original : o.start.1 ≤ (later_start a o).1

@@ -1,4 +1,4 @@
--- The original positions of generated positions, and the moved positions that keep theirs.
+-- The original position of a generated position, and the conditions under which a moved position keeps it.
 use Rattle.std.specs.Prelude.{◌≡◌, ℕ, ◌+◌, ◌-◌, min, Bool, ◌&&◌, ◌==◌, true, false, if◌then◌else◌, List, Option, Some, option_map, slice_get}
 use Rattle.std.specs.List.{Contains}
 use Rattle.sourcemap_tokens.specs.Search.{closest_item}
@@ -17,7 +17,7 @@ pub record Origin : Type 0 where
   pub name : ℕ
   pub is_range : Bool
 
--- the columns from a range token to a position on its line; 0 for other tokens and lines
+-- the columns from a range token to a position on its line; 0 for any other token, and for a position on another line
 abbrev pub distance : RawToken → ℕ × ℕ → ℕ
 distance token p = if token.is_range && (token.dst_line == p.0) then p.1 - token.dst_col else 0
 
@@ -35,22 +35,23 @@ origin_by token p = record {
 abbrev pub origin : List RawToken → ℕ × ℕ → Option Origin
 origin tokens p = option_map (λ token. origin_by token p) (closest_item destination position_cmp tokens p)
 
--- a position lies in a stretch
+-- a position lies in a stretch: from its start up to, not including, its end
 abbrev pub LiesIn : ℕ × ℕ → Stretch → Type 0
 LiesIn q a = (is_before q a.start ≡ false) × (is_before q a.end ≡ true)
 
--- no two tokens have the same destination
+-- no two tokens have the same generated position
 abbrev pub HasDistinctDestinations : List RawToken → Type 0
 HasDistinctDestinations tokens =
     (i j : ℕ) (s t : RawToken) → slice_get tokens i ≡ Some s → slice_get tokens j ≡ Some t
     → destination s ≡ destination t → i ≡ j
 
--- the closest token to a position is on its line
+-- the token closest to a position is on the line of the position
 abbrev pub ClosestIsOnLine : List RawToken → ℕ × ℕ → Type 0
 ClosestIsOnLine tokens q =
     (t : RawToken) × (closest_item destination position_cmp tokens q ≡ Some t) × (t.dst_line ≡ q.0)
 
--- of all overlapping pairs, only those of `a` give tokens from the moved start of `a` up to p, both included
+-- of all overlapping pairs, only those with `a` give a token whose generated position lies between the moved start of
+-- `a` and `p`, inclusive
 abbrev pub IsAloneUpTo : ℕ × ℕ → Stretch → (adjustments originals : List Stretch) → Type 0
 IsAloneUpTo p a adjustments originals =
     (b o : Stretch) → Contains adjustments b → Contains originals o → overlap b o ≡ true
@@ -58,8 +59,9 @@ IsAloneUpTo p a adjustments originals =
     → is_before p (destination (composed b o)) ≡ false
     → b ≡ a
 
--- the stretch `a` of the adjustment moves q. In the original, the token closest to q is on its line, and no two tokens
--- have the same destination. No other stretch gives a token from the moved start of `a` up to the moved q
+-- the position `q` lies in the stretch `a` of the adjustment. In the original, the token closest to `q` is on the line
+-- of `q`, and no two tokens have the same generated position. No other stretch of the adjustment gives a token whose
+-- generated position lies between the moved start of `a` and the moved `q`, inclusive
 pub record IsMovedAlone (original adjustment : List RawToken) (a : Stretch) (q : ℕ × ℕ) : Type 0 where
   pub stretch : Contains (stretches_by Adjustment adjustment) a
   pub inside : LiesIn q a

@@ -14,14 +14,17 @@ use sourcemap_tokens::tokens::{NO_ID, RawToken};
 use std::alloc::Global;
 
 /// Returns the tokens of `original`, adjusted by those of `adjustment`. The generated text of the
-/// original is the source text of the adjustment.
+/// original is the source text of the adjustment. Both lists may be in any order.
 ///
-/// Each part of that text which is covered by one token of each list gives a token. Its generated
-/// position is where the adjustment moves the start of the part. Its original position, source and
-/// name are those of the original's token. A range token with a source adds the columns from its
-/// own position to the start of the part to its original column, up to 4294967295.
+/// Each token covers that text from its position up to the next token of its list or the end of the
+/// line. A token of `original` and a token of `adjustment` overlap if each begins before the other
+/// ends. Each overlapping pair gives one new token. Its generated position is the position to which
+/// the adjustment moves the start of the overlap. Its original position, source, name and range
+/// flag are those of the token of `original`. If that token is a range token with a source, the
+/// columns from its generated position to the start of the overlap are added to the original
+/// column, up to column 4294967295.
 ///
-/// The tokens are sorted by generated position, and there are at most as many as in both lists
+/// The new tokens are sorted by generated position, and there are at most as many as in both lists
 /// together. Sources and names of the adjustment are ignored. The errors are
 /// `IncompatibleSourceMap` if a generated column exceeds 4294967295, and out of memory.
 pub fn compose(
@@ -45,7 +48,7 @@ pub fn compose(
     Ok(tokens)
 }
 
-// The tokens of all overlapping pairs, by one walk along both sorted lists.
+// Returns the tokens of all overlapping pairs of stretches, by one walk along both sorted lists.
 fn walk(alloc: Global, adjustments: &[RawToken], originals: &[RawToken]) -> Result<Vec<RawToken>>
     requires adjustments { IsSortedByKey source position_cmp adjustments.now }
     requires originals { IsSortedByKey destination position_cmp originals.now }
@@ -60,7 +63,7 @@ fn walk(alloc: Global, adjustments: &[RawToken], originals: &[RawToken]) -> Resu
         ≤ length originals.now + length adjustments.now) }
 {
     // if both lists cover the same text, the count of tokens is between the longer length and the
-    // sum of both lengths, so that the buffer grows at most once
+    // sum of both lengths, and the buffer grows at most once
     let mut tokens = Vec::with_capacity(alloc, adjustments.len().max(originals.len()))?;
     let mut at_adjustment = 0;
     let mut at_original = 0;
@@ -117,8 +120,9 @@ fn later_start(a: Stretch, o: Stretch) -> (u32, u32)
     }
 }
 
-// The token of an overlapping pair: the original's token, at the position to which the adjustment
-// moves the start of the overlap.
+// Returns the token of `o`, moved: its generated position is the one to which `a` moves the start
+// of the overlap, and a range token with a source has its original column shifted. Returns
+// `IncompatibleSourceMap` if the generated column exceeds 4294967295.
 fn compose_pair(a: Stretch, o: Stretch) -> Result<RawToken>
     requires { StartsOnBothLines a o }
     ensures { result ≡ cond (overflows_column (composed a o)) (Err IncompatibleSourceMap)
@@ -140,7 +144,8 @@ fn compose_pair(a: Stretch, o: Stretch) -> Result<RawToken>
     }
 }
 
-// The source column of a token, moved by `columns` for a range token with a source.
+// The original column of a token. For a range token with a source, `columns` are added, up to
+// 4294967295; otherwise it is unchanged.
 fn shifted_column(token: RawToken, columns: u32) -> u32
     ensures { result ≡ shifted_column token columns }
 {

@@ -27,7 +27,8 @@ pub struct Stretch {
     pub token: RawToken,
     /// The token's position.
     pub start: (u32, u32),
-    /// The next token's position, or column 4294967295 of the token's line if that comes first.
+    /// The next token's position, or column 4294967295 of the line of `start` if that comes first
+    /// or there is no next token.
     pub end: (u32, u32),
 }
 
@@ -41,7 +42,7 @@ pub(crate) fn position_by(side: Side, token: &RawToken) -> (u32, u32)
     }
 }
 
-// A position as one number, so that two are compared without a branch.
+// A position as one number, so that two positions are compared without a branch.
 fn number_of(p: (u32, u32)) -> u64
     ensures { result ≡ 4294967296 * p.0 + p.1 }
 {

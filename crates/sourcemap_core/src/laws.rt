@@ -1,5 +1,5 @@
-//! Laws: what follows from the definitions that contracts cite. A function that
-//! calls a law has it at hand in its proof. The call does nothing when it runs.
+//! Laws: statements that follow from the definitions in contracts. A function calls a law to use
+//! its statement in a proof. The call does nothing at run time.
 
 pub use sourcemap_compose::moved::{composed_tokens_stay_within, moved_positions_answer_as_before};
 pub use sourcemap_file_urls::relative_paths::relative_paths_lead_to_their_targets;

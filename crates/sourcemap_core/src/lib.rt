@@ -1,6 +1,6 @@
-//! A facade: what stands below records and maps, under the module names that users know. It
-//! re-exports from the crates of errors, digits, lists, composition, tables of lines, mappings,
-//! texts, views, paths of files, and the bytes of bundles.
+//! A facade: re-exports items of the crates on which records and maps are built, under the module
+//! names that users know. These crates cover errors, VLQ digits, lists, composition, tables of
+//! lines, mappings, texts, views, paths of files, and the bytes of bundles.
 #![tactic(auto)]
 
 pub mod compose;

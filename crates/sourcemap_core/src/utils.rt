@@ -1,4 +1,5 @@
-//! Searches in lists, what paths have in common, and the path from one file to another.
+//! Utilities: a search in a sorted list, the common prefix of paths, and the path from one file to
+//! another.
 
 pub use sourcemap_file_urls::relative_paths::make_relative_path;
 pub use sourcemap_texts::paths::find_common_prefix;

@@ -14,10 +14,11 @@ has_map_keys keys =
     && (keys.sources || keys.source_root || keys.sources_content || keys.names)
     && keys.mappings)
 
--- the value has such keys; a value that is not an object, or whose version is not a `u32`, does not have them
+-- the JSON value has the keys of a source map; false for a value that is not an object, or whose version is neither
+-- null nor a `u32`
 abbrev pub is_map : Data → Bool
 is_map d = option_map_or has_map_keys (minimal_of d) false
 
--- after the junk header, if there is one, the bytes are the JSON text of such a value
+-- after the junk header, if there is one, the bytes are the JSON text of a value with the keys of a source map
 abbrev pub AreMap : List ℕ → Type 0
 AreMap bytes = (d : Data) × HoldJson bytes d × IsTrue (is_map d)

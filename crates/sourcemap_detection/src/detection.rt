@@ -28,7 +28,8 @@ fn value_is_map(value: &Value) -> bool
     }
 }
 
-// Bytes with an error are not a map. Out of memory stays an error.
+// Returns false for any error except `OutOfMemory`, as bytes that cannot be read are not a map.
+// `OutOfMemory` stays an error.
 fn false_unless_memory(error: Error) -> Result<bool>
     ensures { MatchResult result
         (λ is. (is ≡ false) × (error ≢ OutOfMemory))
@@ -40,11 +41,12 @@ fn false_unless_memory(error: Error) -> Result<bool>
     }
 }
 
-/// Returns whether bytes are a source map, after the junk header, if there is one. A source map is
-/// a JSON object that has `sections`. Or it has `mappings`, at least one of `version` and `file`,
-/// and at least one of `sources`, `sourceRoot`, `sourcesContent` and `names`. A null key counts as
-/// missing. Other values are not checked, except that a version must be a `u32`. Bytes with an
-/// invalid header or invalid JSON are not a map. The error is `OutOfMemory`.
+/// Returns whether bytes are a source map. A junk header, if there is one, is skipped. A source map
+/// is a JSON object of one of two kinds. An index map has `sections`. Any other map has `mappings`,
+/// at least one of `version` and `file`, and at least one of `sources`, `sourceRoot`,
+/// `sourcesContent` and `names`. A null key counts as missing. Other values are not checked, except
+/// that a version must be a `u32`. Bytes with an invalid header or invalid JSON are not a map. The
+/// error is `OutOfMemory`.
 pub fn is_sourcemap_slice(alloc: Global, bytes: &[u8]) -> Result<bool>
     ensures answer { IfOk result (λ is. IsTrue is ↔ AreMap bytes.now) }
     ensures err { IsOkUnless result OutOfMemory }

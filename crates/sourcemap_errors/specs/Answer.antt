@@ -1,4 +1,4 @@
--- What a call returns, where it may also run out of memory.
+-- What a call may return. Each definition also allows the error `OutOfMemory`.
 use Rattle.std.specs.Prelude.{◌≡◌, Result, Ok, Err, MatchResult}
 use Rattle.sourcemap_errors.specs.declared.errors.Error.{Error}
 use Rattle.sourcemap_errors.specs.declared.errors.Error.TheVariants.{OutOfMemory}
@@ -18,6 +18,6 @@ abbrev pub IsAnswer : {X Y : Type 0} → (X → Y) → (Result Y Error → Type 
 IsAnswer view Answers (Ok x) = Answers (Ok (view x))
 IsAnswer view Answers (Err e) = UnlessMemory e (Answers (Err e))
 
--- the new value is `due`, or it is unchanged and memory ran out
+-- on success the new value is `due`; otherwise memory ran out and the value is unchanged
 abbrev pub Changes : {T X : Type 0} → Result T Error → (old new due : X) → Type 0
 Changes result old new due = MatchResult result (λ _. new ≡ due) (λ e. (new ≡ old) × (e ≡ OutOfMemory))

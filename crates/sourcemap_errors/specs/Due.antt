@@ -1,4 +1,4 @@
--- If a value is due, a call that succeeds returns that value, and the only error is `OutOfMemory`.
+-- If `Gives` requires a value, a call that succeeds returns this value, and the only error is `OutOfMemory`.
 use Rattle.std.specs.Prelude.{◌≡◌, Result, Ok, Err, IfErr, IfOk}
 use Rattle.std.proofs.Common.{ap, refl, sym}
 use Rattle.sourcemap_errors.specs.Answer.{UnlessMemory, Gives}

@@ -23,7 +23,7 @@ json_fault_text Shape = codes "a field has the wrong type"
 abbrev pub base64_fault_text : Base64Fault → List ℕ
 base64_fault_text error = codes "bad base64 at " ++ decimal error.at
 
--- the displayed text of an error; std does not specify that of its own errors
+-- the displayed text of an error; `None` for the errors of std, whose texts std does not specify
 abbrev pub error_text : Error → Option (List ℕ)
 error_text (Io _) = None
 error_text (Utf8 _) = None
@@ -46,13 +46,13 @@ error_text (InvalidRangeMappingIndex error) = Some (codes "invalid range mapping
 error_text (InvalidBase64 byte) = Some (codes "invalid base64 character: " ++ encode_utf8 byte)
 error_text OutOfMemory = Some (codes "out of memory")
 
--- an error of a reader or writer: kind `OutOfMemory` becomes `OutOfMemory`, any other is kept
+-- an error of a reader or writer: kind `OutOfMemory` becomes the error `OutOfMemory`, any other error is kept as `Io`
 abbrev pub FromIo : IoError → Error → Type 0
 FromIo cause OutOfMemory = error_kind cause ≡ NoMemory
 FromIo cause (Io kept) = (kept ≡ cause) × (error_kind cause ≢ NoMemory)
 FromIo _ _ = ⊥
 
--- an error of serde_json: out of memory, or a text that is not JSON
+-- an error of serde_json: out of memory becomes the error `OutOfMemory`, any other error becomes `BadJson(Parse)`
 abbrev pub FromJson : ParseError → Error → Type 0
 FromJson cause OutOfMemory = IsMemory cause
 FromJson cause (BadJson Parse) = ¬ IsMemory cause

@@ -8,14 +8,14 @@ use std::{fmt, io, str};
 /// The result type of this library.
 pub type Result<T> = std::result::Result<T, Error>;
 
-/// A range that extends past the end of its bytes.
+/// A range that extends past the end of a buffer.
 #[derive(Clone, Copy, Debug, PartialEq, Eq)]
 pub struct RangeFault {
     /// Start of the range, in bytes.
     pub start: u64,
     /// Size of the range, in bytes.
     pub size: u64,
-    /// How many bytes there are in all.
+    /// Size of the buffer, in bytes.
     pub len: u64,
 }
 
@@ -76,7 +76,7 @@ impl fmt::Display for Base64Fault {
 /// An error of this library.
 #[derive(Debug, Drop)]
 pub enum Error {
-    /// A reader or writer failed, or the junk header is invalid.
+    /// Reading or writing failed, or the junk header is invalid.
     Io(io::Error),
     /// The bytes are not UTF-8.
     Utf8(str::Utf8Error),
@@ -88,7 +88,7 @@ pub enum Error {
     VlqLeftover,
     /// A segment has no number.
     VlqNoValues,
-    /// The absolute value of a number is 2^62 or more, or it has more than thirteen digits.
+    /// A number has an absolute value of 2^62 or more, or has more than thirteen base64 digits.
     VlqOverflow,
     /// A segment has this many numbers; 1, 4 and 5 are valid. Counts above 4294967295 are
     /// reported as 4294967295.
@@ -105,15 +105,17 @@ pub enum Error {
     CannotFlatten(String),
     /// The bundle does not begin with the magic number.
     InvalidRamBundleMagic,
-    /// The bundle has no module with this index.
+    /// A module index is not below the module count of an indexed bundle, or the name of a module
+    /// file is not a valid module number followed by `.js`.
     InvalidRamBundleIndex,
-    /// The bundle's table entry of a module is invalid.
+    /// The table entry of a module is invalid, or a module cannot be split from its bundle.
     InvalidRamBundleEntry,
-    /// The file is not a RAM bundle.
+    /// The file is not the startup code of a file bundle, or the index map of a bundle has no
+    /// `x_facebook_offsets`.
     NotARamBundle,
     /// Never returned; kept for callers that match on it.
     InvalidRangeMappingIndex(Base64Fault),
-    /// A byte is not a base64 digit. The character has the code of the byte.
+    /// A byte is not a base64 digit. The `char` has the code of this byte.
     InvalidBase64(char),
     /// Memory ran out.
     OutOfMemory,

@@ -1,4 +1,4 @@
--- The URLs of absolute paths of files, and the paths of such URLs.
+-- The URLs of absolute paths of files, and the paths of `file` URLs.
 use Rattle.std.specs.Prelude.{◌≡◌, ℕ, ◌+◌, ◌⊎◌, ◌==◌, Bool, not, ◌&&◌, ◌||◌, if◌then◌else◌, List, [], ◌++◌, length, slice_index, filter, flat_map, codes, bytes_eq, Option, Some, None, Result, Ok, Err}
 use Rattle.std.specs.Bool.{MatchBool}
 use Rattle.std.specs.Str.{is_utf8}
@@ -21,7 +21,7 @@ is_slash byte = byte == 47
 abbrev pub starts_at_root : List ℕ → Bool
 starts_at_root path = is_slash (slice_index path 0)
 
--- neither empty nor `.`
+-- a part of a path that is neither empty nor `.`
 abbrev pub is_component : List ℕ → Bool
 is_component part = not (bytes_eq part []) && not (bytes_eq part (codes "."))
 
@@ -29,11 +29,11 @@ is_component part = not (bytes_eq part []) && not (bytes_eq part (codes "."))
 abbrev pub components : List ℕ → List (List ℕ)
 components path = filter is_component (slice_split is_slash path)
 
--- the slash at the end of a folder, and of a path without components
+-- the end of a URL: `/` for a folder and for a path without components, otherwise empty
 abbrev pub end_text : Bool → List (List ℕ) → List ℕ
 end_text folder parts = if folder || (length parts == 0) then codes "/" else []
 
--- each component after a slash, escaped
+-- a slash and the escaped component, for each component
 abbrev pub escaped : List (List ℕ) → List ℕ
 escaped parts = flat_map (λ part. codes "/" ++ percent_encode ESCAPED part) parts
 
@@ -41,32 +41,35 @@ escaped parts = flat_map (λ part. codes "/" ++ percent_encode ESCAPED part) par
 abbrev pub url_text : List ℕ → Bool → List ℕ
 url_text path folder = codes "file://" ++ escaped (components path) ++ end_text folder (components path)
 
--- the result for a path: its URL, none if it is not absolute
+-- the result for a path: its URL, as `UrlOf` says, or `None` if the path is not absolute
 abbrev pub PathUrl : List ℕ → Bool → Result (Option Parts) Error → Type 0
 PathUrl path folder answer = MatchBool (starts_at_root path) (UrlOf (url_text path folder) answer) (answer ≡ Ok None)
 
--- the bytes if they are UTF-8
+-- the bytes if they are UTF-8, otherwise `None`
 abbrev pub text_of : List ℕ → Option (List ℕ)
 text_of bytes = if is_utf8 bytes then Some bytes else None
 
--- the path of a `file` URL without host, with escapes decoded
+-- the path of a `file` URL without host, with escapes decoded; `None` for any other URL, or if the path is not UTF-8
 abbrev pub path_of : Parts → Option (List ℕ)
 path_of url = if bytes_eq url.scheme (codes "file") && not (has_host url) then text_of (percent_decode url.path) else None
 
--- the path of the file that a reference points to, relative to a URL
+-- the file path of a reference that is resolved against the URL `base`; `None` if the reference is rejected, or if the
+-- resolved URL has no file path
 abbrev pub named_path : Parts → List ℕ → Option (List ℕ)
 named_path base reference = option_and_then path_of (result_ok (parse_url (Some base) reference))
 
--- the result is `named_path`, or out of memory; if the texts are long, it may be none
+-- the result is `named_path`, or out of memory; if the base and the reference together are long, the result may also be
+-- `None`
 abbrev pub NamesPath : Parts → List ℕ → Result (Option (List ℕ)) Error → Type 0
 NamesPath base reference (Ok None) = (named_path base reference ≡ None) ⊎ IsLong (length (serialize base) + length reference)
 NamesPath base reference (Ok (Some path)) = named_path base reference ≡ Some path
 NamesPath base reference (Err e) = e ≡ OutOfMemory
 
--- the URL of a reference, relative to an absolute path
+-- a reference resolved against the `file` URL of an absolute path: the URL, or the error if either URL is rejected
 abbrev pub joined : List ℕ → Bool → List ℕ → Parsed Parts
 joined path folder reference = and_then (parse_url None (url_text path folder)) (λ base. parse_url (Some base) reference)
 
--- the path of the file that a reference points to, relative to `path`: none if `path` is not absolute
+-- the file path of a reference that is resolved against the `file` URL of `path`; `None` if `path` is not absolute, if
+-- either URL is rejected, or if the resolved URL has no file path
 abbrev pub path_from : List ℕ → Bool → List ℕ → Option (List ℕ)
 path_from path folder reference = if starts_at_root path then option_and_then path_of (result_ok (joined path folder reference)) else None

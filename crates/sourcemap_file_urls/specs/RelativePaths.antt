@@ -13,11 +13,11 @@ is_nonempty part = not (length part == 0)
 abbrev pub parts : List ℕ → List (List ℕ)
 parts path = filter is_nonempty (slice_split is_separator path)
 
--- the parts of a file's folder: all but the last
+-- the parts of a file's folder: all parts of the file's path but the last
 abbrev pub folder_parts : List ℕ → List (List ℕ)
 folder_parts path = take (length (parts path) - 1) (parts path)
 
--- two lists after the items with which both start
+-- two lists, without the items with which both start
 abbrev pub after_common : List (List ℕ) → List (List ℕ) → List (List ℕ) × List (List ℕ)
 after_common [] ys = ([], ys)
 after_common (a ∷ xs) [] = (a ∷ xs, [])
@@ -27,7 +27,7 @@ after_common (a ∷ xs) (b ∷ ys) = if bytes_eq a b then after_common xs ys els
 abbrev pub steps_up : List (List ℕ) → List ℕ
 steps_up above = flat_map (λ part. codes "../") above
 
--- `.` for an empty text
+-- `.` for an empty text, otherwise the text itself
 abbrev pub or_dot : List ℕ → List ℕ
 or_dot text = if length text == 0 then codes "." else text
 

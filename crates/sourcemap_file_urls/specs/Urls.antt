@@ -5,21 +5,21 @@ use Rattle.url.specs.Parser.{Parsed, parse_url}
 use Rattle.sourcemap_errors.specs.declared.errors.Error.{Error}
 use Rattle.sourcemap_errors.specs.declared.errors.Error.TheVariants.{OutOfMemory}
 
--- a URL of texts of so many bytes may, with its escapes, exceed 4 GB
+-- a URL that is made of `size` bytes of text may, with its escapes, exceed 4 GB
 abbrev pub IsLong : ℕ → Type 0
 IsLong size = 2 ^ 28 ≤ size
 
--- the result for texts of `size` bytes, if the URL Standard parses them to `parsed`:
--- the URL, none if the texts are rejected or long, or out of memory
+-- the result for texts of `size` bytes that the URL Standard parses to `parsed`: the URL in `parsed`; `None` if
+-- `parsed` is an error, or possibly if the texts are long; or out of memory
 abbrev pub ReadsAs : ℕ → Parsed Parts → Result (Option Parts) Error → Type 0
 ReadsAs size parsed (Ok (Some url)) = parsed ≡ Ok url
 ReadsAs size parsed (Ok None) = IsErr parsed ⊎ IsLong size
 ReadsAs size parsed (Err e) = e ≡ OutOfMemory
 
--- the result is the URL of the text
+-- the result is the URL of the text, or another result that `ReadsAs` allows
 abbrev pub UrlOf : List ℕ → Result (Option Parts) Error → Type 0
 UrlOf text answer = ReadsAs (length text) (parse_url None text) answer
 
--- the result is the URL of a reference relative to a base
+-- the result is the URL of a reference resolved against a base, or another result that `ReadsAs` allows
 abbrev pub JoinedUrl : Parts → List ℕ → Result (Option Parts) Error → Type 0
 JoinedUrl base reference answer = ReadsAs (length (serialize base) + length reference) (parse_url (Some base) reference) answer

@@ -49,7 +49,7 @@ pub fn url_path(alloc: Global, url: &Url) -> Result<Option<String>>
     Ok(None)
 }
 
-// The text with its escapes decoded, `None` if that is not UTF-8.
+// The text with its escapes decoded, `None` if the decoded bytes are not UTF-8.
 fn decode_text(alloc: Global, text: &str) -> Result<Option<String>>
     ensures { Gives (option_map string_bytes) result (Ok (text_of (percent.percent_decode text.now))) }
 {
@@ -61,8 +61,9 @@ fn decode_text(alloc: Global, text: &str) -> Result<Option<String>>
     }
 }
 
-/// Returns the path of the file that a reference points to, relative to `base`: `url_path` of both
-/// joined. Returns `None` if `join` or `url_path` does. The only error is `OutOfMemory`.
+/// Returns the path of the file that a reference points to: `url_path` of the reference resolved
+/// against `base`. Returns `None` if `urls::join` or `url_path` returns `None`. The only error is
+/// `OutOfMemory`.
 pub fn named_path(alloc: Global, base: &Url, reference: &str) -> Result<Option<String>>
     ensures { IsAnswer (option_map string_bytes) (NamesPath base.now reference.now) result }
 {
@@ -72,7 +73,8 @@ pub fn named_path(alloc: Global, base: &Url, reference: &str) -> Result<Option<S
     }
 }
 
-// The text of a path's URL: `file://`, then each component escaped after a `/`.
+// The text of a path's URL: `file://`, then a `/` and the escaped component for each component. A
+// `/` follows if `folder` is true or if there is no component.
 fn url_text(alloc: Global, path: &str, folder: bool) -> Result<String>
     ensures { Gives string_bytes result (Ok (spec.url_text path.now folder)) }
 {

@@ -27,8 +27,8 @@ pub fn make_relative_path(alloc: Global, base: &str, target: &str) -> Result<Str
     Ok(path)
 }
 
-/// A law: the relative path, followed from the folder of `base`, leads to `target`, if no part of
-/// `target` is `.` or `..`.
+/// A law: if no part of `target` is `.` or `..`, the relative path, followed from the folder of
+/// `base`, leads to `target`.
 pub fn relative_paths_lead_to_their_targets(base: &str, target: &str)
     ensures { list_all is_plain (parts target.now) ≡ true
         → followed (folder_parts base.now) (parts (relative_path base.now target.now))
@@ -67,7 +67,8 @@ fn push_joined(path: &mut String, target: &str) -> Result<()>
     Ok(())
 }
 
-// The rest of each path after the parts with which the folder of `base` and `target` both start.
+// Returns both paths without their common first parts. The last part of `base` is its file name,
+// which never counts as common.
 fn without_common<'a, 'b>(base: &'a str, target: &'b str) -> (&'a str, &'b str)
     ensures { (folder_parts result.0.now, parts result.1.now)
         ≡ after_common (folder_parts base.now) (parts target.now) }
@@ -79,7 +80,8 @@ fn without_common<'a, 'b>(base: &'a str, target: &'b str) -> (&'a str, &'b str)
     rest
 }
 
-// Both paths after their first part, if it is the same.
+// Both paths without their first parts. `None` if the first part of the folder of `base` is not the
+// first part of `target`, or if the folder or `target` has no part.
 fn after_common_part<'a, 'b>(base: &'a str, target: &'b str) -> Option<(&'a str, &'b str)>
     ensures common { MatchOption result
         (after_common (folder_parts base.now) (parts target.now)
@@ -97,7 +99,8 @@ fn after_common_part<'a, 'b>(base: &'a str, target: &'b str) -> Option<(&'a str,
     }
 }
 
-// The first part of the folder of a path, and the rest of the path.
+// The first part of the folder of a path, and the rest of the path. `None` if the folder has no
+// part.
 fn next_folder(path: &str) -> Option<(&str, &str)>
     ensures next { MatchOption result (folder_parts path.now ≡ [])
         (λ p. folder_parts path.now ≡ p.0.now ∷ folder_parts p.1.now) }

@@ -1,4 +1,4 @@
-//! Parsing of URLs that keeps out of memory apart from a rejected text.
+//! Parsing of URLs. A rejected text is distinguished from out of memory.
 ghost use Rattle.std.specs.Prelude.{IsTrue, ◌↔◌};
 ghost use Rattle.url.specs.Parser.{Gives, Parsed};
 ghost use Rattle.url.specs.Parts.{Parts};
@@ -24,15 +24,17 @@ pub fn join(base: &Url, reference: &str) -> Result<Option<Url>>
     read(base.as_str().len() + reference.len(), base.join(reference))
 }
 
-// Whether a URL of texts of this size may exceed 4 GB.
+// Whether a URL that is made of this many bytes of text may exceed 4 GB.
 fn is_long(size: usize) -> bool
     ensures { IsTrue result ↔ IsLongSize size }
 {
     size >= 1 << 28
 }
 
-// Maps the result of `url` for texts of this size. Its contract allows `Overflow` for any text.
-// Short texts never reach 4 GB, so `Overflow` for them becomes out of memory.
+// Converts the result of parsing texts of `size` bytes with the `url` crate. The error `Overflow`
+// of that crate means that the URL exceeds 4 GB. No URL does if `size` is below 2^28, but the
+// contract of the crate allows `Overflow` even then. In that case `Overflow` is returned as
+// `OutOfMemory`, otherwise as `None`.
 fn read(size: usize, parsed: ParseResult<Url>) -> Result<Option<Url>>
     ensures { (due : Parsed Parts) → Gives parsed due → ReadsAs size due result }
 {

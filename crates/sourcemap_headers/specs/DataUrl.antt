@@ -7,7 +7,7 @@ use Rattle.base64.specs.GeneralPurpose.{encode_of, IsBytes}
 use Rattle.sourcemap_errors.specs.declared.errors.Error.{Error}
 use Rattle.sourcemap_errors.specs.declared.errors.Error.TheVariants.{InvalidDataUrl}
 
--- the rest of a text that begins with `front`, otherwise None
+-- the text after `front`, or `None` if the text does not begin with `front`
 abbrev pub after_front : List ℕ → List ℕ → Option (List ℕ)
 after_front front text = if starts_with nat_eq text front then Some (drop (length front) text) else None
 
@@ -15,7 +15,7 @@ after_front front text = if starts_with nat_eq text front then Some (drop (lengt
 abbrev pub without_charset : List ℕ → List ℕ
 without_charset text = unwrap_or (option_or (after_front (codes ";charset=utf-8") text) (after_front (codes ";charset=utf8") text)) text
 
--- the base64 text after `;base64,`
+-- the base64 text after `;base64,`; `None` if the URL does not begin as a data URL of a source map
 abbrev pub body_of : List ℕ → Option (List ℕ)
 body_of url = option_and_then (λ rest. after_front (codes ";base64,") (without_charset rest)) (after_front (codes "data:application/json") url)
 

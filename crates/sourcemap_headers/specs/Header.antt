@@ -11,7 +11,8 @@ abbrev pub continues_line : List ℕ → Bool
 continues_line [] = false
 continues_line (b ∷ _) = not (b == 10)
 
--- the bytes from the newline that ends the junk on; None if a carriage return is followed by a byte other than a newline
+-- the bytes from the first newline to the end, or no bytes if there is no newline; `None` if a carriage return in the
+-- junk is followed by a byte other than a newline
 abbrev pub after_junk : List ℕ → Option (List ℕ)
 after_junk [] = Some []
 after_junk (b ∷ bs) =
@@ -19,6 +20,6 @@ after_junk (b ∷ bs) =
     else if (b == 13) && continues_line bs then None
     else after_junk bs
 
--- the bytes without the junk header, if there is one; None if the header is invalid
+-- the bytes without the junk header, if there is one; `None` if the header is invalid
 abbrev pub after_header : List ℕ → Option (List ℕ)
 after_header bytes = if begins_junk bytes then after_junk bytes else Some bytes

@@ -15,21 +15,21 @@ use Rattle.sourcemap_headers.specs.Header.{begins_junk, continues_line, after_ju
 abbrev pub after_newline : List ℕ → Option (List ℕ)
 after_newline bytes = option_map (drop 1) (after_junk bytes)
 
--- what the reader returns for the next bytes of the inner reader; None if the header is invalid
+-- what the reader returns for the next bytes of the inner reader; `None` if the header is invalid
 abbrev pub remaining_in : HeaderState → List ℕ → Option (List ℕ)
 remaining_in Start bytes = if begins_junk bytes then after_newline bytes else Some bytes
 remaining_in (InHeader after_return) bytes = if after_return && continues_line bytes then None else after_newline bytes
 remaining_in AfterHeader bytes = Some bytes
 remaining_in Invalid bytes = None
 
--- what the reader returns for a chunk and the bytes `later`, where a `Skipped` says which bytes of the chunk belong to
--- the header
+-- what the reader returns for the bytes of `chunk` followed by the bytes `later`. The `Skipped` says which bytes of
+-- `chunk` belong to the header
 abbrev pub remaining_after : Skipped → List ℕ → List ℕ → Option (List ℕ)
 remaining_after (StillJunk after_return) chunk later = remaining_in (InHeader after_return) later
 remaining_after (Ends junk_len) chunk later = Some (drop junk_len chunk ++ later)
 remaining_after IsInvalid chunk later = None
 
--- if the header ends in the chunk, it has at most `size` bytes there
+-- if the header ends in the chunk, at most `size` bytes of the chunk belong to the header
 abbrev pub IsWithin : Skipped → ℕ → Type 0
 IsWithin (Ends junk_len) size = junk_len ≤ size
 IsWithin _ size = Unit {0}
@@ -56,19 +56,22 @@ has_failed r = is_invalid r.state
 abbrev pub remaining_of : {R : Type 0} → (R → Option (List ℕ)) → StripHeaderReader R → Option (List ℕ)
 remaining_of remaining r = option_and_then (remaining_in r.state) (remaining r.reader)
 
--- the bytes that one read put into the buffer
+-- the bytes that one read put at the front of the buffer and that are not junk; no bytes if the read failed or gave
+-- only junk
 abbrev pub output : {E : Type 0} → Result (Option ℕ) E → List ℕ → List ℕ
 output (Ok (Some n)) buf = take n buf
 output _ buf = []
 
--- if the bytes of the inner reader were known, they still are, and the reader output `bytes`
+-- if the remaining bytes of the inner reader are known before a read, they are known after it, and the read returned
+-- `bytes`
 abbrev pub Outputs : {R : Type 0} → (R → Option (List ℕ)) → StripHeaderReader R → StripHeaderReader R → List ℕ → Type 0
 Outputs remaining old new bytes =
     (xs : List ℕ) → remaining old.reader ≡ Some xs
     → (ys : List ℕ) × (remaining new.reader ≡ Some ys)
     × (remaining_in old.state xs ≡ option_map (λ later. bytes ++ later) (remaining_in new.state ys))
 
--- the buffer begins with bytes that make the header invalid, in some state in which they may belong to the header
+-- bytes at the front of the buffer make the header invalid, whatever bytes follow them. This holds for at least one
+-- `state` of the reader in which the next bytes may belong to the header
 abbrev pub ContainsInvalidHeader : List ℕ → Type 0
 ContainsInvalidHeader buf = (state : HeaderState) × (count : ℕ) × IsInHeader state × (count ≤ length buf)
     × ((later : List ℕ) → remaining_in state (take count buf ++ later) ≡ None)
@@ -77,7 +80,7 @@ ContainsInvalidHeader buf = (state : HeaderState) × (count : ℕ) × IsInHeader
 abbrev pub HasInvalidHeader : {R : Type 0} → (R → Option (List ℕ)) → StripHeaderReader R → Type 0
 HasInvalidHeader remaining r = (xs : List ℕ) × (remaining r.reader ≡ Some xs) × (remaining_in r.state xs ≡ None)
 
--- the result of one read of the inner reader; None if it returned only junk
+-- the result of one read of the inner reader; `None` if the inner reader returned only junk
 pub record IsChunkRead {R : Type 0} (remaining : R → Option (List ℕ)) (old new : StripHeaderReader R) (result : Result (Option ℕ) IoError) (buf : List ℕ) : Type 0 where
   pub bound : IfOk result (λ count. IfSome count (λ n. n ≤ length buf))
   pub outputs : Outputs remaining old new (output result buf)

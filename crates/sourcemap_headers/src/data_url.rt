@@ -39,9 +39,10 @@ fn body(url: &[u8]) -> Option<&[u8]>
 }
 
 /// Decodes the data URL of a source map: `data:application/json`, then `;charset=utf-8`,
-/// `;charset=utf8` or nothing, then `;base64,` and standard base64. The base64 must be what
-/// encoding the bytes gives: padded, without white space, and without bits set after the last byte.
-/// Letter case matters. The errors are `InvalidDataUrl` for any other text, and `OutOfMemory`.
+/// `;charset=utf8` or nothing, then `;base64,` and standard base64. The base64 must be exactly the
+/// text that encoding the bytes gives: padded, without white space, and without bits set after the
+/// last byte. Letter case matters. The errors are `InvalidDataUrl` for any other text, and
+/// `OutOfMemory`.
 pub fn data_url_bytes(alloc: Global, url: &str) -> Result<Vec<u8>>
     ensures { IsAnswer (λ v. v.items) (DataUrlAnswer url.now) result }
 {

@@ -28,8 +28,8 @@ impl Model for DebugId {
 impl DebugId {
     ghost use Rattle.sourcemap_headers.specs.DebugId.{IsId, debug_id_of};
 
-    /// Parses 32 hexadecimal digits, or 36 bytes with the usual four hyphens. `None` for any other
-    /// text.
+    /// Parses 32 hexadecimal digits in either case, alone or with the four hyphens of the form
+    /// 8-4-4-4-12. `None` for any other text.
     pub fn parse(text: &str) -> Option<DebugId>
         ensures { result ≡ debug_id_of text.now }
     {

@@ -24,11 +24,12 @@ fn continues_line(bytes: &[u8]) -> bool
     }
 }
 
-/// Strips the junk header and returns the rest, which begins with the newline that ends the header.
-/// There is a header if the first byte is `)`, `]`, `}` or `'`; it extends to the first newline, or
-/// to the end of the bytes if there is none. Without a header all bytes are returned. Returns an
-/// error of kind `InvalidData` if a carriage return in the header is followed by a byte other than
-/// a newline; a carriage return as the last byte is allowed. There is no other error.
+/// Strips the junk header and returns the rest. There is a header if the first byte is `)`, `]`,
+/// `}` or `'`. It extends to the first newline, and the rest begins with this newline. If there is
+/// no newline, the header extends to the end of the bytes, and the rest is empty. Without a header
+/// all bytes are returned. Returns an error of kind `InvalidData` if a carriage return in the
+/// header is followed by a byte other than a newline; a carriage return as the last byte is
+/// allowed. There is no other error.
 pub fn strip_junk_header(bytes: &[u8]) -> io::Result<&[u8]>
     ensures bytes { IfOk result (λ rest. after_header bytes.now ≡ Some rest.now) }
     ensures error { IfErr result (λ e. (after_header bytes.now ≡ None)

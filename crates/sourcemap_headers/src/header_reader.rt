@@ -24,7 +24,8 @@ enum HeaderState {
 /// Which bytes of a chunk belong to the header.
 #[derive(Clone, Copy, Debug)]
 enum Skipped {
-    /// All of them, and more may follow. `after_return`: the last byte was a carriage return.
+    /// All bytes of the chunk, and more may follow. `after_return`: the last byte was a carriage
+    /// return.
     StillJunk { after_return: bool },
     /// The first `junk_len` bytes; the header ends there.
     Ends { junk_len: usize },
@@ -32,8 +33,8 @@ enum Skipped {
     IsInvalid,
 }
 
-/// Decides which bytes of the first chunk belong to the junk header: none, if its first byte begins
-/// no header. The chunk is not empty.
+/// Decides which bytes of the first chunk belong to the junk header. If the first byte does not
+/// begin a header, there is no header. Requires a chunk that is not empty.
 fn skip_first(chunk: &[u8]) -> Skipped
     requires { 0 < length chunk.now }
     ensures junk { (later : List ℕ)
@@ -47,8 +48,8 @@ fn skip_first(chunk: &[u8]) -> Skipped
     }
 }
 
-/// Decides which bytes of a chunk belong to a junk header that begins with the chunk or before it.
-/// `follows_return`: the last byte before the chunk is a carriage return of the header.
+/// Decides which bytes of a chunk belong to a junk header that begins at the start of the chunk or
+/// earlier. `follows_return`: the last byte before the chunk is a carriage return of the header.
 fn skip_junk(follows_return: bool, chunk: &[u8]) -> Skipped
     ensures junk { (later : List ℕ)
         → remaining_in (HeaderState.InHeader follows_return) (chunk.now ++ later)
@@ -85,15 +86,16 @@ fn skip(state: HeaderState, chunk: &[u8]) -> Skipped
 
 /// A reader that drops the junk header and the newline that ends it. There is a header if the first
 /// byte is `)`, `]`, `}` or `'`; it extends to the first newline, or to the end of the bytes if
-/// there is none. Without a header all bytes are returned.
+/// there is no newline. Without a header all bytes are returned.
 ///
 /// A read has two errors of its own. One is of kind `InvalidData`: a carriage return in the header
-/// is followed by a byte other than a newline. Each later read returns it again, even one into an
-/// empty buffer. The other is of kind `Other`: during one read, 2^64 - 1 reads of the inner reader
-/// returned only junk.
-/// Any other error is the inner reader's and is passed on unchanged; the next read continues from
-/// there. std does not specify which errors a reader returns, so this is tested and not proved. A
-/// read allocates nothing of its own.
+/// is followed by a byte other than a newline. Each later read returns this error again, even a
+/// read into an empty buffer. The other is of kind `Other`: during one read, 2^64 - 1 reads of the
+/// inner reader returned only junk.
+/// Any other error comes from the inner reader and is returned unchanged. The next read continues
+/// with the remaining bytes. Tests check that such errors are returned unchanged; no contract says
+/// so, because std does not specify which errors a reader returns. A read allocates nothing of its
+/// own.
 #[derive(Debug, Drop)]
 pub struct StripHeaderReader<R> {
     reader: R,
@@ -106,7 +108,7 @@ impl<R: Read + Drop> StripHeaderReader<R> {
     ghost use Rattle.std.specs.Io.{ReadsAtMost};
     ghost use Rattle.std.specs.Io.KnownBytes.{ReadConsumes};
 
-    /// Wraps `reader`, whose next byte is the first that may be junk.
+    /// Wraps `reader`. A junk header, if there is one, begins at the next byte of `reader`.
     pub fn new(reader: R) -> Self
         ensures fresh { has_failed result ≡ false }
         ensures unread { remaining_of R.remaining result
@@ -118,7 +120,9 @@ impl<R: Read + Drop> StripHeaderReader<R> {
         }
     }
 
-    /// Reads once from the inner reader. `None` if it returned only junk.
+    /// Reads once from the inner reader. Returns the number of bytes at the front of `buf` that are
+    /// not junk, or 0 at the end of the inner reader. Returns `None` if the inner reader returned
+    /// only junk.
     fn read_chunk(&mut self, buf: &mut [u8]) -> io::Result<Option<usize>>
         requires not_empty { 0 < length buf.old }
         requires sound { has_failed self.old ≡ false }
@@ -132,7 +136,8 @@ impl<R: Read + Drop> StripHeaderReader<R> {
         }
     }
 
-    /// Reads until there are bytes from after the header, or the inner reader is at its end.
+    /// Reads until `buf` has bytes that are not junk, or the inner reader is at its end. Returns
+    /// the number of these bytes.
     fn read_after_junk(&mut self, buf: &mut [u8]) -> io::Result<usize>
         requires not_empty { 0 < length buf.old }
         requires sound { has_failed self.old ≡ false }
@@ -196,8 +201,8 @@ impl<R: Read + Drop> Read for StripHeaderReader<R> {
         ensures bound { ReadsAtMost result buf.new }
         ensures bytes { ReadConsumes (remaining_of R.remaining self.old)
             (remaining_of R.remaining self.new) result buf.new }
-        // each read into a buffer that is not empty refuses an invalid header, and no read gets
-        // past the header
+        // if the header is invalid, each read into a buffer that is not empty returns an error, and
+        // no read gets past the header
         ensures refused { HasInvalidHeader R.remaining self.old → 0 < length buf.old
             → IsErr result }
         ensures stays { HasInvalidHeader R.remaining self.old
@@ -207,7 +212,7 @@ impl<R: Read + Drop> Read for StripHeaderReader<R> {
         ensures again { IsTrue (has_failed self.old) → IsErr result × IsTrue (has_failed self.new) }
         ensures error { IfErr result (λ e. IsTrue (has_failed self.new)
             → error_kind e ≡ InvalidData) }
-        // the error is only reported if the bytes in the buffer prove that the header is invalid
+        // the header is only found to be invalid if the bytes in the buffer prove it
         ensures in_buffer { has_failed self.old ≡ false → IsTrue (has_failed self.new)
             → ContainsInvalidHeader buf.new }
         ensures sound { OnOk result (has_failed self.new ≡ false) }

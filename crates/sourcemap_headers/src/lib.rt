@@ -1,4 +1,4 @@
-//! What surrounds the JSON of a source map: junk headers, data URLs; and debug ids.
+//! Junk headers, data URLs and debug ids of source maps.
 #![tactic(auto)]
 
 pub mod data_url;

@@ -8,24 +8,24 @@ use Rattle.sourcemap_hermes_scopes.specs.ScopeLists.{ScopeEntry}
 use Rattle.sourcemap_hermes_scopes.specs.SourceScopes.{AreOfEntries}
 use Rattle.sourcemap_hermes.specs.Map.{HermesValue, AreFewScopes}
 
--- what a record with these scopes of its sources decodes to;
--- the error that there are too many scopes comes before the errors of the regular map
+-- the result of decoding a record with these scopes of its sources. The error that there are too many scopes comes
+-- before the errors of the regular map
 abbrev pub EntriesDecode : Fields → List ScopeEntry → Result HermesValue Error → Type 0
 EntriesDecode r entries (Ok h) =
     AreFewScopes entries × RecordDecodes r (Ok h.map) × (h.scopes.entries ≡ entries) × AreOfEntries h.scopes
 EntriesDecode r entries (Err e) =
     ((¬ AreFewScopes entries) × (e ≡ IncompatibleSourceMap)) ⊎ (AreFewScopes entries × RecordDecodes r (Err e))
 
--- what a record decodes to, by whether it has scopes
+-- the result of decoding a record with these scopes of its sources; a record without scopes is an error
 abbrev pub DecodesWith : Fields → Option (List ScopeEntry) → Result HermesValue Error → Type 0
 DecodesWith r None answer = answer ≡ Err IncompatibleSourceMap
 DecodesWith r (Some entries) answer = EntriesDecode r entries answer
 
--- what a record decodes to as a Hermes map
+-- the Hermes map that a record with these keys decodes to, or the error of decoding
 abbrev pub HermesDecodes : Fields → Result HermesValue Error → Type 0
 HermesDecodes r answer = DecodesWith r r.x_facebook_sources answer
 
--- what a record of any kind decodes to as a Hermes map; the record of an index map is an error
+-- the result of decoding a record of any kind as a Hermes map; the record of an index map is an error
 abbrev pub RecordDecodesAsHermes : Tree → Result HermesValue Error → Type 0
 RecordDecodesAsHermes (plain fields) answer = HermesDecodes fields answer
 RecordDecodesAsHermes (indexed _ _) answer = answer ≡ Err IncompatibleSourceMap

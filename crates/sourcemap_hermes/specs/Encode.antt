@@ -1,4 +1,4 @@
--- The record that a Hermes map is written as, and what of the map is kept when it is decoded again.
+-- The record that a Hermes map is written as, and the parts of the map that are kept when the record is decoded again.
 use Rattle.std.specs.Prelude.{◌≡◌, ℕ, List, Some, Result, Ok, Err}
 use Rattle.serde_json.specs.Written.{compact_text}
 use Rattle.sourcemap_errors.specs.declared.errors.Error.{Error}
@@ -21,16 +21,16 @@ scoped (indexed fields sections) entries = indexed (with_scopes fields entries) 
 abbrev pub IsRecordOf : HermesValue → Tree → Type 0
 IsRecordOf h t = (r : Tree) × IsRecordOfRegular h.map r × (t ≡ scoped r h.scopes.entries)
 
--- the compact text of the value of a record that the map is written as
+-- the compact JSON text of a record that the map is written as
 abbrev pub IsCompactTextOf : HermesValue → List ℕ → Type 0
 IsCompactTextOf h text = (t : Tree) × IsRecordOf h t × (text ≡ compact_text (written t))
 
--- `back` has the functions of the sources of `h`, and its regular map restores that of `h`
+-- `back` has the same scopes as `h`, and its regular map restores the regular map of `h`
 abbrev pub Restores : (h back : HermesValue) → Type 0
 Restores h back = RestoresRegular h.map back.map × (back.scopes ≡ h.scopes)
 
--- the result of a call that encodes a map: a record that the map is written as, no error but out of memory;
--- the record of a well-formed map reads back
+-- the result of encoding a map: its record. If the map is well-formed, the record decodes to a map that restores the
+-- encoded map (`Restores`). This definition permits no error, but `IsAnswer` also permits `OutOfMemory`
 abbrev pub RecordAnswer : HermesValue → Result Tree Error → Type 0
 RecordAnswer h (Ok t) = IsRecordOf h t × IsFine t × (IsWellFormed h → ReadsBack (HermesDecodes (flat t)) (Restores h))
 RecordAnswer h (Err _) = ⊥

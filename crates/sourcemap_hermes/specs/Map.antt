@@ -16,7 +16,8 @@ pub record HermesValue : Type 0 where
 abbrev pub hermes_value : SourceMapHermes → HermesValue
 hermes_value h = record { map = h.sm; scopes = h.scopes }
 
--- the regular map is well-formed, the scopes are few, and the function maps are those of the entries
+-- the regular map is well-formed, there are at most 4294967295 entries of scopes, and each function map is the one that
+-- its entry encodes
 pub record IsWellFormed (h : HermesValue) : Type 0 where
   pub map : IsWellFormedRegular h.map
   pub few : AreFewScopes h.scopes.entries
@@ -30,6 +31,6 @@ token_scope scopes t = scope_at scopes t.raw.src_id ((says t).line, (says t).col
 abbrev pub function_name : HermesValue → ℕ → Option (List ℕ)
 function_name h offset = option_and_then (token_scope h.scopes) (lookup h.map (0, offset))
 
--- the regular map is borrowed: what is written to it is in the Hermes map afterwards, with the scopes unchanged
+-- when the borrow ends, the regular map of the Hermes map has the value of the borrowed map; the scopes are unchanged
 abbrev pub LendsMap : MutBor SourceMapHermes → MutBor MapValue → Fml
 LendsMap self result = Lends hermes_row map_row self result (λ m. record self.now { sm = m })

@@ -9,14 +9,16 @@ use Rattle.sourcemap_map_regular.specs.Token.{token_at}
 use Rattle.sourcemap_hermes_scopes.specs.SourceScopes.{IsInOrderAt, picked_scopes}
 use Rattle.sourcemap_hermes.specs.Map.{HermesValue, token_scope, function_name}
 
--- the rewritten map: each source has the functions of the old id by which a token first uses it, or none
+-- the rewritten map. Each source has the scopes of one old id: the source id of the first token that uses the source.
+-- If this old id has no scopes, the source has no scopes
 abbrev pub rewritten : Removal → HermesValue → HermesValue
 rewritten removal h = record {
   map = map_rewritten removal h.map;
   scopes = picked_scopes h.scopes (first_ids h.map);
 }
 
--- the result of a rewriting: that of the regular map, with the scopes of `rewritten`
+-- the result of `rewrite`: the rewritten regular map with the scopes of `rewritten`, or the error for a folder that is
+-- not absolute
 abbrev pub Rewrites : RewriteOptions → HermesValue → Result HermesValue Error → Type 0
 Rewrites options h (Ok new) = MapRewrites options h.map (Ok new.map) × (new.scopes ≡ picked_scopes h.scopes (first_ids h.map))
 Rewrites options h (Err e) = LacksFolder options e
@@ -25,12 +27,12 @@ Rewrites options h (Err e) = LacksFolder options e
 abbrev pub HasDistinctSources : HermesValue → Type 0
 HasDistinctSources h = AreDistinct (resolved_sources h.map)
 
--- the scope of the token at an index, looked up at a position `extra_columns` after the token
+-- the scope of the token at an index, with `extra_columns` added to the original column of the token
 abbrev pub scope_at_distance : HermesValue → (index extra_columns : ℕ) → Option (List ℕ)
 scope_at_distance h index extra_columns =
     option_and_then (λ t. token_scope h.scopes (record t { extra_columns = extra_columns })) (token_at h.map index)
 
--- the functions of the source of this token, if there is one, are sorted
+-- if there is a token, the functions of its source are sorted
 abbrev pub IsInOrderOf : HermesValue → Option TokenValue → Type 0
 IsInOrderOf h token = IfSome token (λ t. IsInOrderAt h.scopes t.raw.src_id)
 

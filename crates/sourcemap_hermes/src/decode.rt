@@ -21,13 +21,13 @@ use std::io::Read;
 // The most sources that may have scopes.
 const SCOPE_LIMIT: usize = 4294967295;
 
-/// The Hermes map of a record. Sections are ignored. Returns `IncompatibleSourceMap` for a record
-/// without scopes of sources, and for one with scopes of more than 4294967295 sources, before
-/// anything else is decoded. Other errors are those of `decode_regular`. Invalid scope mappings are
-/// no error: the source has no function map then.
+/// Decodes a record to a Hermes map. Sections of the record are ignored. Returns
+/// `IncompatibleSourceMap` if the record has no scopes of sources, or has scopes of more than
+/// 4294967295 sources. This is checked before anything is decoded. Other errors are those of
+/// `decode_regular`. Invalid scope mappings are not an error: their source has no function map.
 pub fn decode_hermes(alloc: Global, rsm: RawSourceMap) -> Result<SourceMapHermes>
     ensures answer { IsAnswer hermes_value (HermesDecodes (flat (tree rsm))) result }
-    // The result is determined.
+    // The record determines the result, unless memory runs out.
     ensures only { (due : Result HermesValue Error) → HermesDecodes (flat (tree rsm)) due
         → Gives hermes_value result due }
     ensures well_formed { IfOk result (λ h. IsWellFormed (hermes_value h)) }
@@ -78,7 +78,7 @@ fn hermes_in(alloc: Global, bytes: &[u8]) -> Result<SourceMapHermes>
     decode_unless_index(alloc, raw)
 }
 
-// `hermes_in` of bytes that are dropped as soon as their JSON value is read.
+// Decodes bytes as `hermes_in` does. The bytes are dropped as soon as their JSON value is read.
 fn hermes_in_owned(alloc: Global, bytes: Vec<u8>) -> Result<SourceMapHermes>
     ensures answer { IsAnswer hermes_value
         (BytesHaveResult RecordDecodesAsHermes bytes.items) result }
@@ -89,14 +89,16 @@ fn hermes_in_owned(alloc: Global, bytes: Vec<u8>) -> Result<SourceMapHermes>
 }
 
 impl SourceMapHermes {
-    /// Decodes a Hermes map from JSON, after a junk header if there is one. Errors: `Io` of kind
-    /// `InvalidData` for an invalid header, `BadJson(Parse)` for invalid JSON after it,
-    /// `BadJson(Shape)` for JSON that is no source map, `IncompatibleSourceMap` for a source map of
-    /// another kind, before anything of it is decoded. Other errors are those of `decode_hermes`.
+    /// Decodes the JSON in these bytes to a Hermes map. A junk header before the JSON is skipped.
+    /// An invalid header is `Io` of kind `InvalidData`. Bytes that are not JSON are
+    /// `BadJson(Parse)`, and JSON that is not a source map is `BadJson(Shape)`. A source map of
+    /// another kind is `IncompatibleSourceMap`, and nothing of it is decoded. Other errors are
+    /// those of `decode_hermes`.
     pub fn from_slice(alloc: Global, bytes: &[u8]) -> Result<Self>
         ensures answer { IsAnswer hermes_value
             (BytesHaveResult RecordDecodesAsHermes bytes.now) result }
-        // The result is determined.
+        // Unless memory runs out, the bytes determine the result. Of an `Io` error they determine
+        // the kind.
         ensures only { (due : Result HermesValue Error)
             → BytesHaveResult RecordDecodesAsHermes bytes.now due
             → IsAnswer hermes_value (AreSame due) result }

@@ -1,4 +1,4 @@
-//! A Hermes map used as the regular map in it.
+//! Dereferencing a Hermes map gives its regular map.
 ghost use Rattle.std.specs.Prelude.{◌≡◌};
 ghost use Rattle.std.specs.Borrow.{sem};
 ghost use Rattle.sourcemap_hermes.specs.Map.{hermes_value, LendsMap};

@@ -21,13 +21,14 @@ use std::io::Write;
 impl Encodable for SourceMapHermes {
     ghost encodes = { λ h. RecordAnswer (hermes_value h) };
 
-    /// The record of the regular map, with the scopes of sources as decoded. The only error is
-    /// `OutOfMemory`.
+    /// The record of the regular map, with the scopes of its sources as they were decoded. The only
+    /// error is `OutOfMemory`.
     fn as_raw_sourcemap(&self) -> Result<RawSourceMap>
         ensures answer { IsAnswer tree (RecordAnswer (hermes_value self.now)) result }
         ensures fine { IfOk result (λ r. IsFine (tree r)) }
-        // Decoded again, a well-formed map has the same meaning at every position, the parts that
-        // `KeepsParts` names, and the functions of its sources.
+        // If the map is well-formed, the record decodes to a map with the same meaning at every
+        // position, with the parts that `KeepsParts` names, and with the same functions of its
+        // sources.
         ensures reads_back { IfOk result (λ r. IsWellFormed (hermes_value self.now)
             → ReadsBack (HermesDecodes (flat (tree r))) (Restores (hermes_value self.now))) }
     {
@@ -49,8 +50,8 @@ impl SourceMapHermes {
     }
 
     /// Writes the map as compact JSON. An error of the writer is `Io`; the only other error is
-    /// `OutOfMemory`. The writer is consumed, so its contents are tested, not proved; `encode_to`
-    /// proves them for a borrowed writer.
+    /// `OutOfMemory`. The writer is consumed, so no clause says what it contains afterwards.
+    /// `encode_to` borrows its writer and has such a clause.
     pub fn to_writer<W: Write + Drop>(&self, writer: W) -> Result<()>
         ensures encoded { OnOk result ((text : List ℕ)
             × IsEncoded (RecordAnswer (hermes_value self.now)) text) }
@@ -67,28 +68,28 @@ fn with_scopes(mut raw: RawSourceMap, entries: ScopeLists) -> RawSourceMap
     raw
 }
 
-/// A law: the record that a map is written as is determined.
+/// A law: a map determines its record.
 pub fn written_records_are_determined()
     ensures { (h : HermesValue) (a b : Tree) → IsRecordOf h a → IsRecordOf h b → a ≡ b }
 {}
 
-/// A law: the bytes that a map is written as are the compact text of its record's value. No number
-/// in this value has a fraction.
+/// A law: if a map is encoded, the bytes are the compact text of the JSON value of its record. No
+/// number in this value has a fraction.
 pub fn written_maps_are_compact()
     ensures { (h : HermesValue) (text : List ℕ)
         → IsEncoded (RecordAnswer h) text → IsCompactTextOf h text }
 {}
 
-/// A law: the bytes that a well-formed map is written as decode to a map with the same meaning at
-/// every position, and with the functions of its sources. Its regular map keeps the parts that
-/// `KeepsParts` names.
+/// A law: if a well-formed map is encoded, the bytes decode to a map with the same meaning at every
+/// position and the same functions of its sources. `KeepsParts` says which parts of the regular map
+/// are kept.
 pub fn written_maps_read_back()
     ensures { (h : HermesValue) (text : List ℕ)
         → IsEncoded (RecordAnswer h) text → IsWellFormed h
         → ReadsBack (BytesHaveResult RecordDecodesAsHermes text) (Restores h) }
 {}
 
-/// A law: a map that restores another has the same function name at each bytecode offset.
+/// A law: if a map restores another map, both have the same function name at each bytecode offset.
 pub fn restored_maps_name_functions_alike()
     ensures { (h back : HermesValue) (offset : ℕ) → Restores h back
         → function_name back offset ≡ function_name h offset }

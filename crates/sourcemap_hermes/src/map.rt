@@ -18,8 +18,9 @@ impl SourceMapHermes {
     ghost use Rattle.sourcemap_hermes_scopes.specs.SourceScopes.{AreFewScopes, AreOfEntries, IsInOrderAt};
     ghost use Rattle.sourcemap_hermes.specs.Map.{hermes_value, function_name, token_scope};
 
-    /// The number of entries for scopes, by source id: a source whose id is not below it has no
-    /// scopes. An entry may be empty. Each function map is the one that its entry encodes.
+    /// The number of entries of scopes. The index of an entry is the id of its source: a source has
+    /// no scopes if its id is this number or greater. An entry may be empty. Each function map is
+    /// the one that its entry encodes.
     pub fn scope_count(&self) -> u32
         ensures count { result ≡ length (hermes_value self.now).scopes.entries }
         ensures few { AreFewScopes (hermes_value self.now).scopes.entries }
@@ -28,11 +29,11 @@ impl SourceMapHermes {
         self.scopes.count()
     }
 
-    /// The name of the function that contains a token's original position. After a lookup on the
-    /// line of a range token, the original column includes the columns from the token to the
-    /// position. `None` where the source has no function map, no function starts so early, or the
-    /// function has no name. Requires functions of the source sorted by where they start; otherwise
-    /// the result is unspecified.
+    /// The name of the function that contains a token's original position. The original column is
+    /// the result of `get_src_col`: it includes the columns that a lookup adds for a range token.
+    /// `None` if the source has no function map, if no function starts at or before the original
+    /// position, or if the function has no name. Requires functions of the source sorted by where
+    /// they start; otherwise the result is unspecified.
     pub fn get_scope_for_token(&self, token: Token<'_>) -> Option<&str>
         ensures { IsInOrderAt (hermes_value self.now).scopes (token_value token.entry).raw.src_id
             → option_copied result
@@ -43,8 +44,9 @@ impl SourceMapHermes {
     }
 
     /// The name of the function at a bytecode offset: the result of `get_scope_for_token` for the
-    /// closest token to column `bytecode_offset` of generated line 0. `None` where there is no such
-    /// token, or no name for it.
+    /// token closest to column `bytecode_offset` of generated line 0. `None` if there is no such
+    /// token, or if that result is `None`. Requires functions of the token's source sorted by where
+    /// they start; otherwise the result is unspecified.
     pub fn get_original_function_name(&self, bytecode_offset: u32) -> Option<&str>
         ensures { IfSome (lookup (hermes_value self.now).map (0, bytecode_offset))
             (λ t. IsInOrderAt (hermes_value self.now).scopes t.raw.src_id)

@@ -13,15 +13,15 @@ use sourcemap_map_rewrite::options::RewriteOptions;
 use std::rt::Files;
 
 impl SourceMapHermes {
-    /// Rewrites the regular map as its `rewrite` does: the result has each source and each name
-    /// that a token uses, once. A source that had several ids gets the scopes of the id that tokens
-    /// use first, or none if that id had none. Scopes are moved, not copied. If the map is
-    /// well-formed, and no two sources resolve against `sourceRoot` to the same text, each token
-    /// keeps its scope.
+    /// Rewrites the regular map as `SourceMap::rewrite` does: the result has only the sources and
+    /// names that tokens use, each once. Scopes are moved, not copied. If several old ids have the
+    /// same resolved source, this source gets the scopes of the old id that a token uses first. If
+    /// that old id has no scopes, the source has no scopes. If the map is well-formed, and no two
+    /// sources resolve against `sourceRoot` to the same text, each token keeps its scope.
     ///
-    /// With `load_local_source_contents`, sources without contents are read from files, as by
-    /// `rewrite` of the regular map. Returns `Io` of kind `InvalidInput` if the folder is not
-    /// absolute; the only other error is `OutOfMemory`.
+    /// With `load_local_source_contents`, missing contents are read from files, as by
+    /// `SourceMap::rewrite`. The error is then `Io` of kind `InvalidInput` if the folder is not
+    /// absolute. The only other error is `OutOfMemory`.
     pub fn rewrite<F: Files>(self, rt: &F, options: &RewriteOptions<'_>) -> Result<SourceMapHermes>
         ensures value { IsAnswer hermes_value (Rewrites options.now (hermes_value self)) result }
         // The meaning of each position is unchanged, except for what the options remove.
@@ -29,7 +29,7 @@ impl SourceMapHermes {
             (hermes_value self).map (hermes_value h).map) }
         ensures tokens { IfOk result (λ h. TokensMeanLess (removal_of options.now)
             (hermes_value self).map (hermes_value h).map) }
-        // Where names are kept and no prefix is cut, each position keeps its meaning.
+        // If names are kept and no prefix is cut, each position keeps its meaning.
         ensures same { LeavesMeaning (removal_of options.now)
             → IfOk result (λ h. MeansTheSame (hermes_value h).map (hermes_value self).map) }
         ensures well_formed { IfOk result
@@ -50,15 +50,16 @@ impl SourceMapHermes {
     }
 }
 
-/// A law: if no two sources of a well-formed map resolve against `sourceRoot` to the same text, the
-/// rewritten map has the same scope for each token, and the same function name at each bytecode
-/// offset.
+/// A law: if a well-formed map has at most 4294967295 sources, and no two of them resolve against
+/// `sourceRoot` to the same text, the rewritten map has the same scope for each token, and the same
+/// function name at each bytecode offset.
 pub fn rewriting_keeps_scopes()
     ensures { (removal : Removal) (h : HermesValue) → length h.map.sources ≤ 4294967295
         → IsWellFormed h → HasDistinctSources h → KeepsScopes h (rewritten removal h) }
 {}
 
-/// A law: rewriting with default options twice gives the same map as once, with its scopes.
+/// A law: if a map has at most 4294967295 sources and at most 4294967295 names, rewriting it twice
+/// with default options gives the same map and the same scopes as rewriting it once.
 pub fn default_rewriting_keeps_scopes()
     ensures { (h : HermesValue) → length h.map.sources ≤ 4294967295
         → length h.map.names ≤ 4294967295

@@ -1,4 +1,4 @@
--- The functions of a source by their start, and the one that contains an original position.
+-- The functions of a source, and the function that contains an original position.
 use Rattle.std.specs.Prelude.{ℕ, ◌+◌, List, Bool, Option, IsSortedByKey, nat_eq}
 use Rattle.std.specs.Ordering.{on, eq_of_both}
 use Rattle.std.specs.Cmp.{IsEquivalence}
@@ -21,7 +21,7 @@ offset_name offset = offset.name_index
 abbrev pub AreOffsetsInOrder : List HermesScopeOffset → Type 0
 AreOffsetsInOrder offsets = IsSortedByKey offset_position position_cmp offsets
 
--- the offset closest to an original position, whose line counts from 0
+-- the offset closest to an original position, whose line counts from 0; `None` if all offsets are after the position
 abbrev pub closest_offset : List HermesScopeOffset → ℕ × ℕ → Option HermesScopeOffset
 closest_offset offsets p = closest_item offset_position position_cmp offsets (p.0 + 1, p.1)
 

@@ -1,6 +1,6 @@
--- The scope mappings of a source, decoded: where its functions start. `;` separates lines, `,` the
--- parts of a line. A part that is not empty is a segment of three deltas: of the column, of the
--- index of the name and of the line.
+-- The scope mappings of a source, decoded: where its functions start. `;` separates lines, `,` separates the parts of
+-- a line. A part that is not empty is a segment. Its first three numbers are the deltas of the column, of the index of
+-- the name and of the line. A missing number is 0, and further numbers are ignored.
 use Rattle.std.specs.Prelude.{◌≡◌, ◌≢◌, ℕ, ◌+◌, ◌%◌, ◌^◌, List, [], ◌∷◌, ◌++◌, Option, Some, None, Any}
 use Rattle.sourcemap_errors.specs.declared.errors.Error.{Error}
 use Rattle.sourcemap_vlq.specs.Vlq.{Reads, HasError}
@@ -8,7 +8,8 @@ use Rattle.sourcemap_mappings.specs.Segment.{Segment, sum_at, parts_of}
 use Rattle.sourcemap_mappings.specs.Read.{lines_of}
 use Rattle.sourcemap_hermes_scopes.specs.declared.offsets.HermesScopeOffset.{HermesScopeOffset}
 
--- the offset of a segment: `here` are the segments of its line, `all` those of the text, both up to and with it
+-- the offset of a segment: `here` are the segments of its line, and `all` are the segments of the text, both up to and
+-- including this segment
 abbrev pub segment_offset : List Segment → List Segment → HermesScopeOffset
 segment_offset here all = record {
   line = (1 + sum_at 2 all) % 2 ^ 32;
@@ -16,7 +17,8 @@ segment_offset here all = record {
   name_index = sum_at 1 all;
 }
 
--- the offsets of some segments of a line, after `here` in the line and `before` in earlier lines
+-- the offsets of some segments of a line. These segments follow the segments `here` of the same line, and the segments
+-- `before` of earlier lines
 abbrev pub line_offsets : List Segment → List Segment → List Segment → List HermesScopeOffset
 line_offsets before here [] = []
 line_offsets before here (s ∷ later) =
@@ -30,7 +32,8 @@ offsets_of_lines before (line ∷ decoded_lines) = line_offsets before [] line +
 
 -- Texts and what they decode to.
 
--- the segments of some parts, empty parts skipped; the index of a segment in its line is set to 0
+-- the parts that are not empty decode to these segments, and empty parts are skipped. The field `index` of each segment
+-- is 0, since no offset depends on it
 abbrev pub SegmentsRead : List (List ℕ) → List Segment → Type 0
 SegmentsRead [] segments = segments ≡ []
 SegmentsRead ([] ∷ parts) segments = SegmentsRead parts segments
@@ -48,7 +51,7 @@ ScopeLinesRead (line ∷ lines) (segments ∷ decoded_lines) = SegmentsRead (par
 abbrev pub IsUnreadable : List ℕ → Type 0
 IsUnreadable part = (part ≢ []) × ((e : Error) × HasError part e)
 
--- what a text encodes: the offsets of its lines, or none if a part of it is invalid
+-- a text encodes the offsets of its lines, or `None` if a part of a line is invalid
 abbrev pub StandsFor : List ℕ → Option (List HermesScopeOffset) → Type 0
 StandsFor text (Some offsets) =
     (decoded_lines : List (List Segment)) × ScopeLinesRead (lines_of text) decoded_lines × (offsets ≡ offsets_of_lines [] decoded_lines)

@@ -10,7 +10,7 @@ use Rattle.sourcemap_records.specs.declared.jsontypes.FacebookScopeMapping.{Face
 use Rattle.sourcemap_hermes_scopes.specs.Offsets.{StandsFor}
 use Rattle.sourcemap_hermes_scopes.specs.declared.offsets.HermesScopeOffset.{HermesScopeOffset}
 
--- the entry of a source: a list of scopes, or none
+-- the entry of a source: a list of scopes, or `None`
 abbrev pub ScopeEntry : Type 0
 ScopeEntry = Option (List Scopes)
 
@@ -23,15 +23,15 @@ entry_in entry = option_map list_in entry
 abbrev pub entries_in : Vec (Option (Vec FacebookScopeMapping Global)) Global → List ScopeEntry
 entries_in entries = map entry_in entries.items
 
--- the first scopes of the list are the ones that are used
+-- the first item of the list, the only item that is used; `None` if there is no list or the list is empty
 abbrev pub first_scopes : ScopeEntry → Option Scopes
 first_scopes entry = option_and_then (λ list. slice_get list 0) entry
 
--- the names of the functions of a source
+-- the names of the functions of a source; empty if it has no scopes
 abbrev pub names_of : ScopeEntry → List (List ℕ)
 names_of entry = option_map_or (λ scopes. scopes.names) (first_scopes entry) []
 
--- the function map that scopes encode, if there are any
+-- the function map that scopes encode; `None` if there are no scopes or their mappings are invalid
 abbrev pub ScopesStandFor : Option Scopes → Option (List HermesScopeOffset) → Type 0
 ScopesStandFor None function_map = function_map ≡ None
 ScopesStandFor (Some scopes) function_map = StandsFor scopes.mappings function_map
@@ -47,6 +47,6 @@ same_scopes =
     (on (λ s. s.names) (pointwise same_text))
     (on (λ s. s.mappings) same_text)
 
--- both none, or equal lists of scopes
+-- both `None`, or equal lists of scopes
 abbrev pub same_entry : ScopeEntry → ScopeEntry → Bool
 same_entry = option_eq (pointwise same_scopes)

@@ -13,7 +13,7 @@ use Rattle.sourcemap_hermes_scopes.specs.Picks.{items_at}
 use Rattle.sourcemap_hermes_scopes.specs.ScopeLists.{ScopeEntry, EntryStandsFor, names_of, same_entry}
 use Rattle.sourcemap_hermes_scopes.specs.declared.offsets.HermesScopeOffset.{HermesScopeOffset}
 
--- by source id, the entries as decoded, and the function maps that they encode
+-- the entries as the JSON record has them, and the function maps that the entries encode, both by source id
 pub record SourceScopesValue : Type 0 where
   pub entries : List ScopeEntry
   pub function_maps : List (Option (List HermesScopeOffset))
@@ -30,16 +30,18 @@ AreOfEntries scopes = AllZip EntryStandsFor scopes.entries scopes.function_maps
 abbrev pub IsInOrderAt : SourceScopesValue → ℕ → Type 0
 IsInOrderAt scopes id = IfSome (item_at scopes.function_maps id) AreOffsetsInOrder
 
--- the index of the name of the function that contains a position of the source with this id
+-- the index of the name of the function that contains a position of the source with this id; line and column count
+-- from 0; `None` if there is no such function
 abbrev pub name_index : SourceScopesValue → ℕ → ℕ × ℕ → Option ℕ
 name_index scopes id p =
     option_and_then (λ offsets. option_map offset_name (closest_offset offsets p)) (item_at scopes.function_maps id)
 
--- the name of the function that contains a position of the source with this id; line and column count from 0
+-- the name of the function that contains a position of the source with this id; line and column count from 0; `None`
+-- if there is no such function or it has no name
 abbrev pub scope_at : SourceScopesValue → ℕ → ℕ × ℕ → Option (List ℕ)
 scope_at scopes id p = option_and_then (λ index. slice_get (names_of (item_at scopes.entries id)) index) (name_index scopes id p)
 
--- the scopes of the sources with these ids, in this order; none for an id that has none
+-- the scopes of the sources with these ids, in this order; `None` for an id without scopes
 abbrev pub picked_scopes : SourceScopesValue → List ℕ → SourceScopesValue
 picked_scopes scopes ids = record {
   entries = items_at scopes.entries ids;

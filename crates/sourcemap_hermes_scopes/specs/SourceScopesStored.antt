@@ -6,7 +6,7 @@ use Rattle.sourcemap_hermes_scopes.specs.declared.source_scopes.SourceScopes.The
 abbrev pub source_scopes_in : Inside → SourceScopesValue
 source_scopes_in a = record { entries = entries_in a.entries; function_maps = a.function_maps.items }
 
--- the entries are few, and the function maps are those of the entries
+-- there are at most 4294967295 entries, and each function map is the one that its entry encodes
 pub record AreStored (a : Inside) : Type 0 where
   pub few : AreFewScopes (entries_in a.entries)
   pub of_entries : AreOfEntries (source_scopes_in a)

@@ -16,8 +16,8 @@ use sourcemap_tokens::search::greatest_lower_bound;
 use std::alloc::Global;
 use std::marker::Model;
 
-/// The functions of one source of a Hermes map, by where they start. A function is given by the
-/// index of its name in the source's scopes.
+/// The functions of one source of a Hermes map. Each function is given by the original position
+/// where it starts, and by the index of its name in the source's scopes.
 #[derive(Debug, Drop)]
 pub struct HermesFunctionMap {
     offsets: Vec<HermesScopeOffset>,
@@ -69,7 +69,7 @@ impl HermesFunctionMap {
         Some(offset.name_index)
     }
 
-    /// A copy. The only error is `OutOfMemory`.
+    /// Copies the function map. The only error is `OutOfMemory`.
     pub fn clone(&self) -> Result<HermesFunctionMap>
         ensures { Gives (λ map. map) result (Ok self.now) }
     {

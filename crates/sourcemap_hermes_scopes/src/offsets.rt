@@ -31,7 +31,8 @@ const START: HermesScopeOffset = HermesScopeOffset {
     name_index: 0,
 };
 
-// Adds the segment's fields to the previous offset.
+// Returns the offset of a segment: `last`, the offset before it, plus the first three numbers of
+// the segment, modulo 2^32.
 #[inline]
 fn next_offset(last: HermesScopeOffset, read: &Numbers) -> HermesScopeOffset
     ensures { (before here : List Segment) (s : Segment) → IsLastOffset before here last
@@ -65,8 +66,8 @@ fn add_part(
     Ok(next)
 }
 
-// Appends the offsets of a line's segments. Returns the last of them, or `last` at column 0 if
-// there are none.
+// Appends the offsets of a line's segments. Returns the last of these offsets. Returns `last` with
+// column 0 if the line has no segments.
 fn add_parts(
     offsets: &mut Vec<HermesScopeOffset>,
     text: &[u8],
@@ -105,7 +106,8 @@ pub(crate) fn read_offsets(alloc: Global, text: &str) -> Result<Vec<HermesScopeO
     Ok(offsets)
 }
 
-/// A law: a text encodes at most one list of offsets, and none at all if a segment is invalid.
+/// A law: a text encodes at most one list of offsets, and it encodes no list if a segment is
+/// invalid.
 pub fn scope_mappings_are_determined()
     ensures { (text : List ℕ) (a b : Option (List HermesScopeOffset)) → StandsFor text a
         → StandsFor text b → a ≡ b }

@@ -69,7 +69,7 @@ fn copy_entry(
     }
 }
 
-/// A copy. The only error is `OutOfMemory`.
+/// Copies the scopes of all sources. The only error is `OutOfMemory`.
 pub fn copy_scope_lists(
     alloc: Global,
     entries: &[Option<Vec<FacebookScopeMapping>>],

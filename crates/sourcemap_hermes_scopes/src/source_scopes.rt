@@ -1,4 +1,5 @@
-//! The scopes of the sources of a Hermes map, as decoded, with their function maps.
+//! The scopes of the sources of a Hermes map, as the JSON record has them, with their function
+//! maps.
 ghost use Rattle.std.specs.Prelude.{◌≡◌, ◌≤◌, ℕ, List, length, Some, Ok, IfOk, IsOkUnless, nat_eq, option_map, slice_get};
 ghost use Rattle.std.specs.Bool.{Decides};
 ghost use Rattle.std.specs.Cmp.{partial_equiv_from_equiv};
@@ -19,9 +20,9 @@ use sourcemap_errors::errors::Result;
 use std::alloc::Global;
 use std::marker::Model;
 
-/// The scopes of sources, by source id. `entries` has the list of each source as decoded, and
-/// `function_maps` the function map that the list encodes. A source may have neither, or only a
-/// list.
+/// The scopes of sources, by source id. `entries` has the list of each source as in the JSON
+/// record. `function_maps` has the function map that this list encodes. A source may have no list,
+/// or a list without a function map.
 #[derive(Debug, Drop)]
 pub struct SourceScopes {
     entries: ScopeLists,
@@ -101,9 +102,9 @@ impl SourceScopes {
         self.name(source, index)
     }
 
-    /// The scopes of the sources with these ids, in this order, moved and not copied. An id that
-    /// has no scopes has none in the result. If an id is repeated, the result is unspecified. The
-    /// only error is `OutOfMemory`. Requires at most 4294967295 ids.
+    /// The scopes of the sources with these ids, in the order of `ids`, moved and not copied. An id
+    /// without scopes gives a source without scopes. If an id is repeated, the result is
+    /// unspecified. The only error is `OutOfMemory`. Requires at most 4294967295 ids.
     pub fn select(self, alloc: Global, ids: &[u32]) -> Result<SourceScopes>
         requires { length ids.now ≤ 4294967295 }
         ensures select { IsDistinct nat_eq ids.now
@@ -122,7 +123,7 @@ impl SourceScopes {
         })
     }
 
-    /// The scopes as decoded, moved and not copied.
+    /// The scopes as in the JSON record, moved and not copied.
     pub fn into_entries(self) -> ScopeLists
         ensures entries { entries_in result ≡ self.entries }
         ensures function_maps { AreOfEntries self }
@@ -130,7 +131,7 @@ impl SourceScopes {
         self.entries
     }
 
-    /// A copy of the scopes as decoded. The only error is `OutOfMemory`.
+    /// A copy of the scopes as in the JSON record. The only error is `OutOfMemory`.
     pub fn copy_entries(&self) -> Result<ScopeLists>
         ensures entries { Gives entries_in result (Ok self.now.entries) }
         ensures function_maps { AreOfEntries self.now }
@@ -138,7 +139,7 @@ impl SourceScopes {
         copy_scope_lists(*self.entries.allocator(), self.entries.as_slice())
     }
 
-    /// A copy. The only error is `OutOfMemory`.
+    /// Copies the scopes and the function maps. The only error is `OutOfMemory`.
     pub fn clone(&self) -> Result<SourceScopes>
         ensures { Gives (λ scopes. scopes) result (Ok self.now) }
     {
@@ -181,8 +182,9 @@ pub fn entries_determine_function_maps()
         → a.function_maps ≡ b.function_maps }
 {}
 
-/// A law: if scopes are selected by id, each selected source keeps its functions, in their order.
-/// The function maps are still those that the selected entries hold.
+/// A law: if scopes are selected by id, each lookup in a selected source finds the same function
+/// name as before. Functions that were sorted stay sorted. The function maps are still those that
+/// the selected entries encode.
 pub fn picked_scopes_answer_alike()
     ensures of_entries { (scopes : SourceScopesValue) (ids : List ℕ)
         → AreOfEntries scopes → AreOfEntries (picked_scopes scopes ids) }

@@ -1,4 +1,4 @@
--- The maps that JSON values, bytes and data URLs stand for, and the sections and index maps that records stand for.
+-- The maps that JSON values, bytes and data URLs decode to, and the sections and index maps that records decode to.
 use Rattle.std.specs.Prelude.{◌≡◌, ℕ, List, Some, None, nat_lt, MatchOption, Result, Ok, Err}
 use Rattle.std.specs.Bool.{MatchBool}
 use Rattle.serde_json.specs.Data.{Data}
@@ -11,44 +11,45 @@ use Rattle.sourcemap_records.specs.Bytes.{ValueHasResult, BytesHaveResult, UrlHa
 use Rattle.sourcemap_index_model.specs.MapTree.{MapTree, MapSection, IndexParts, IndexValue}
 use Rattle.sourcemap_index_model.specs.Decode.{Then, TreeDecodes, SectionsDecode, count, by_offset, index_parts}
 
--- the section that a record's section stands for, or the first error of its map
+-- the section that a section of a record decodes to, or the first error of its map
 abbrev pub SectionDecodes : Section → Result MapSection Error → Type 0
 SectionDecodes s answer = MatchOption s.map
     (answer ≡ Ok (record { head = s.head; map = None }))
     (λ t. Then (λ a. TreeDecodes t a) (λ m a. a ≡ Ok (record { head = s.head; map = Some m })) answer)
 
--- an index of these parts and sections
+-- an index map of these parts and sections
 abbrev pub index_with : IndexParts → List MapSection → IndexValue
 index_with parts ss = record { parts = parts; sections = ss }
 
--- the index of these keys of a record, and of these sections sorted by offset
+-- the index map with the parts from these keys of a record, and with these sections sorted by offset
 abbrev pub index_in : Fields → List MapSection → IndexValue
 index_in fields ss = record { parts = index_parts fields; sections = by_offset ss }
 
--- the index that a record with sections stands for, or its first error
+-- the index map that a record with these keys and sections decodes to, or the first error
 abbrev pub PartsDecode : Fields → Sections → Result IndexValue Error → Type 0
 PartsDecode fields sections answer =
     MatchBool (nat_lt 4294967295 (count sections))
     (answer ≡ Err IncompatibleSourceMap)
     (Then (λ a. SectionsDecode sections a) (λ ss a. a ≡ Ok (index_in fields ss)) answer)
 
--- the index that a record stands for; a record without sections is an error before its keys are decoded
+-- the index map that a record decodes to, or the error. A record without sections is an error, and its keys are not
+-- decoded
 abbrev pub IndexDecodes : Tree → Result IndexValue Error → Type 0
 IndexDecodes (plain fields) answer = answer ≡ Err IncompatibleSourceMap
 IndexDecodes (indexed fields sections) answer = PartsDecode fields sections answer
 
--- the map that a JSON value stands for
+-- the map that a JSON value decodes to, or the error
 abbrev pub ValueDecodes : Data → Result MapTree Error → Type 0
 ValueDecodes d answer = ValueHasResult TreeDecodes d answer
 
--- the map that bytes stand for
+-- the map that bytes decode to, or the error
 abbrev pub BytesDecode : List ℕ → Result MapTree Error → Type 0
 BytesDecode bytes answer = BytesHaveResult TreeDecodes bytes answer
 
--- the map that a data URL stands for
+-- the map that a data URL decodes to, or the error
 abbrev pub UrlDecodes : List ℕ → Result MapTree Error → Type 0
 UrlDecodes url answer = UrlHasResult TreeDecodes url answer
 
--- a text that is no data URL: it holds no bytes
+-- the text is not a data URL of any bytes
 abbrev pub IsNoUrl : List ℕ → Type 0
 IsNoUrl url = (bytes : List ℕ) → ¬ Holds url bytes

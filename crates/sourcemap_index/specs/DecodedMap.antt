@@ -28,7 +28,8 @@ IsValueOf t d = (r : Tree) × IsRecordOf t r × (d ≡ written r)
 abbrev pub IsTextOf : MapTree → List ℕ → Type 0
 IsTextOf t text = (d : Data) × IsValueOf t d × (text ≡ compact_text d)
 
--- how deep index maps are nested; the JSON text of a map has more levels
+-- how deep index maps are nested: 0 for a regular map or a Hermes map, 1 for an index map that contains no other index
+-- map. The JSON of a map has more levels than this number
 abbrev mutual
   pub levels : MapTree → ℕ
   levels (leaf l) = 0
@@ -40,6 +41,7 @@ abbrev mutual
   deepest (filled head t rest) = max (levels t) (deepest rest)
 
 -- the map is written as JSON of at most 127 levels. A regular map takes two levels, a Hermes map up to five. An index
--- takes three more than the deepest of its maps, and at most four if it has no maps
+-- map takes three levels more than the deepest map in its sections. An index map without maps in its sections takes at
+-- most four
 abbrev pub IsShallow : MapTree → Type 0
 IsShallow t = (d : Data) → IsValueOf t d → depth d ≤ max_depth

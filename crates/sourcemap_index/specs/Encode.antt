@@ -5,7 +5,8 @@ use Rattle.sourcemap_records.specs.Jsontypes.{Tree, Section, Sections, IsInRange
 use Rattle.sourcemap_index_model.specs.Encode.{IsLeafAnswer, IsWrittenBy, AreWrittenBy}
 use Rattle.sourcemap_index_model.specs.MapTree.{MapTree, MapSections, MapSection}
 
--- a record of the map; the only error is out of memory
+-- the result of encoding a map: a record of the map. This definition permits no error, but `IsAnswer` also permits
+-- `OutOfMemory`
 abbrev pub MapWrites : MapTree → Result Tree Error → Type 0
 MapWrites t (Ok r) = IsWrittenBy IsLeafAnswer t r × IsInRange r
 MapWrites t (Err _) = ⊥

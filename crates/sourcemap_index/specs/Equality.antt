@@ -1,4 +1,4 @@
--- Equality of sections and of indexes, by all their parts.
+-- Equality of sections and of index maps, by all their parts.
 use Rattle.std.specs.Prelude.{Bool}
 use Rattle.std.specs.Option.{option_eq}
 use Rattle.std.specs.Ordering.{on, eq_of_both}

@@ -1,4 +1,4 @@
--- A map of any kind, an index and a section as contracts see them.
+-- A map of any kind, an index map and a section as contracts see them.
 use Rattle.std.specs.Prelude.{map, option_map, string_bytes}
 use Rattle.sourcemap_records.specs.Jsontypes.{text_view}
 use Rattle.sourcemap_hermes.specs.Map.{hermes_value}
@@ -34,7 +34,7 @@ section_step s = record {
 abbrev pub map_tree : DecodedMap → MapTree
 map_tree = fold-DecodedMap MapTree IndexValue MapSection map_step index_step section_step
 
--- all that an index holds
+-- all that an index map holds
 abbrev pub index_value : SourceMapIndex → IndexValue
 index_value = fold-SourceMapIndex MapTree IndexValue MapSection map_step index_step section_step
 

@@ -1,4 +1,4 @@
--- An index flattened section by section.
+-- An index map flattened section by section.
 use Rattle.std.specs.Prelude.{◌≡◌, ℕ, List, Option, Some, None, IfSome, Result, Ok, Err}
 use Rattle.sourcemap_errors.specs.declared.errors.Error.{Error}
 use Rattle.sourcemap_records.specs.Jsontypes.{SectionHead}
@@ -14,11 +14,12 @@ use Rattle.sourcemap_index_flatten.specs.declared.gathering.Gathering.{Gathering
 use Rattle.sourcemap_index_flatten.specs.declared.gathering.FlatMap.{FlatMap}
 use Rattle.sourcemap_map_rewrite.specs.declared.options.RewriteOptions.{RewriteOptions}
 
--- these pieces and one more: the flat map of this map, from this offset on
+-- these pieces and one more, which is the flat map of `t` at this offset; or the error of flattening or adding it
 abbrev pub map_added : List Piece → ℕ × ℕ → MapTree → Result (List Piece) (List ℕ)
 map_added before offset t = on_ok (flat t) (λ m. with_piece before (offset, m))
 
--- these pieces and one more: the flat map of the section's map; an error if the section has no map
+-- these pieces and one more, which is the flat map of the section's map at the section's offset; or the error. A
+-- section without a map is an error
 abbrev pub section_map_added : List Piece → SectionHead → Option MapTree → Result (List Piece) (List ℕ)
 section_map_added before head None = Err (unresolved head.url)
 section_map_added before head (Some t) = map_added before (offset_of head) t
@@ -38,21 +39,21 @@ IsFlatOf due flat = (pieces : List Piece) × (due ≡ Ok pieces) × IsFlat piece
 abbrev pub IsSectionInOrder : MapSection → Type 0
 IsSectionInOrder s = IfSome s.map HasTokensInOrder
 
--- An index flattened, and then rewritten.
+-- An index map flattened, and then rewritten.
 
 -- the error of flattening, or the result of rewriting the flat map
 abbrev pub RewriteAnswer : RewriteOptions → MapTree → Result MapValue Error → Type 0
 RewriteAnswer options t answer = Then (FlatAnswer t) (λ m a. Rewrites options m a) answer
 
--- token by token the map says what the flat map says, without what is removed
+-- `m` has, in order, the positions and meanings of the tokens of the flat map, without what is removed
 abbrev pub SaysFlatLess : Removal → MapTree → MapValue → Type 0
 SaysFlatLess removal t m = (whole : MapValue) × (flat t ≡ Ok whole) × SaysFlat t whole × TokensMeanLess removal whole m
 
--- at every position the map means what the flat map does, without what is removed
+-- at every position, `m` has the meaning that the flat map has, without what is removed
 abbrev pub MeansFlatLess : Removal → MapTree → MapValue → Type 0
 MeansFlatLess removal t m = (whole : MapValue) × (flat t ≡ Ok whole) × MeansLess removal whole m
 
--- wherever a position has a meaning in the index, it has the same in the map, without what is removed
+-- each position with a meaning in the index map has the same meaning in `m`, without what is removed
 abbrev pub AnswersLess : Removal → MapTree → MapValue → Type 0
 AnswersLess removal t m =
     (whole : MapValue) × (flat t ≡ Ok whole)

@@ -1,4 +1,4 @@
--- An index of which one part is changed, or one section is borrowed mutably.
+-- An index map of which one part is changed, or one section is borrowed mutably.
 use Rattle.std.specs.Prelude.{◌≡◌, ℕ, List, slice_set, Option, None}
 use Rattle.std.specs.Option.{OnSome}
 use Rattle.std.specs.Borrow.{LendsSo, MutBor, Fml}
@@ -9,7 +9,7 @@ use Rattle.sourcemap_index.specs.contracts.family.SourceMapSection.{the_row as s
 use Rattle.sourcemap_index.specs.declared.family.SourceMapIndex.{SourceMapIndex}
 use Rattle.sourcemap_index.specs.declared.family.SourceMapSection.{SourceMapSection}
 
--- an index of these parts, without a debug id
+-- an index map of these parts, without a debug id
 abbrev pub index_made : Option (List ℕ) → List MapSection → Option (List (Option ℕ)) → Option (List (List ℕ)) → IndexValue
 index_made file sections offsets paths = record {
   parts = record { file = file; debug_id = None; x_facebook_offsets = offsets; x_metro_module_paths = paths };
@@ -22,11 +22,12 @@ with_file i file = record i { parts = record i.parts { file = file } }
 abbrev pub with_debug_id : IndexValue → Option (List ℕ) → IndexValue
 with_debug_id i id = record i { parts = record i.parts { debug_id = id } }
 
--- the index with its section `id` replaced by this one
+-- the index map with its section `id` replaced by this one
 abbrev pub with_section : IndexValue → ℕ → MapSection → IndexValue
 with_section i id s = record i { sections = slice_set i.sections id s }
 
--- what is written to the borrowed section is in the index afterwards; all else stays
+-- when the borrow ends, section `id` of the index map has the value of the borrowed section, and all else is unchanged;
+-- without a borrowed section, nothing is changed
 abbrev pub LendsSection : MutBor SourceMapIndex → ℕ → Option (MutBor SourceMapSection) → Fml
 LendsSection self id result = LendsSo index_row section_row self result
     (λ new s. OnSome result (index_value new ≡ with_section (index_value self.now) id (section_value s)))

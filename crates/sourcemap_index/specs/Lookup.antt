@@ -3,7 +3,7 @@ use Rattle.std.specs.Prelude.{◌≡◌, ◌⊎◌, ℕ, List, Some, slice_get}
 use Rattle.sourcemap_map_regular.specs.Token.{TokenValue, lookup as lookup_regular}
 use Rattle.sourcemap_index_model.specs.MapTree.{MapTree, leaf, index, held, MapSections, no_sections, hollow, filled, MapSection}
 
--- the section is one of these
+-- the section is in the list
 abbrev pub IsAmong : List MapSection → MapSection → Type 0
 IsAmong ss s = (k : ℕ) × (slice_get ss k ≡ Some s)
 

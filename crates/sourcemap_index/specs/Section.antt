@@ -20,7 +20,8 @@ with_url s url = record s { head = record s.head { url = url } }
 abbrev pub with_map : MapSection → Option MapTree → MapSection
 with_map s t = record s { map = t }
 
--- what is written to the borrowed map is in the section afterwards; all else stays
+-- when the borrow ends, the map of the section has the value of the borrowed map, and all else is unchanged; without a
+-- borrowed map, nothing is changed
 abbrev pub LendsMap : MutBor SourceMapSection → Option (MutBor DecodedMap) → Fml
 LendsMap self result = LendsSo section_row map_row self result
     (λ new m. OnSome result (section_value new ≡ with_map (section_value self.now) (Some (map_tree m))))

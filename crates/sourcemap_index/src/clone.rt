@@ -67,7 +67,8 @@ fn copy_sections(alloc: Global, sections: &Vec<SourceMapSection>) -> Result<Vec<
 }
 
 impl SourceMapIndex {
-    /// An equal index, with copies of its sections and their maps. The only error is `OutOfMemory`.
+    /// An equal index map, with copies of its sections and their maps. The only error is
+    /// `OutOfMemory`.
     #[cycle(clone)]
     pub fn clone(&self) -> Result<Self>
         ensures { Gives index_value result (Ok (index_value self.now)) }

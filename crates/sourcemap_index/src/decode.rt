@@ -1,4 +1,5 @@
-//! Decodes JSON values, bytes, readers and data URLs to maps of any kind, or to index maps alone.
+//! Decodes JSON values, bytes, readers and data URLs to maps of any kind, and bytes and readers to
+//! index maps.
 ghost use Rattle.std.specs.Prelude.{◌≡◌, ℕ, List, Err, IfErr, IfOk, IfSome, Result};
 ghost use Rattle.serde_json.specs.Data.{Data};
 ghost use Rattle.serde_json.specs.View.{view};
@@ -39,7 +40,7 @@ fn decode_bytes(alloc: Global, bytes: &[u8]) -> Result<DecodedMap>
     decode_map(alloc, raw)
 }
 
-// The map of bytes, which are dropped once their JSON value is read.
+// Decodes bytes to a map. The bytes are dropped once their JSON value is read.
 fn decode_owned(alloc: Global, bytes: Vec<u8>) -> Result<DecodedMap>
     ensures answer { IsAnswer map_tree (BytesDecode bytes.items) result }
     ensures well_formed { IfOk result (λ m. IsWellFormed (map_tree m)) }
@@ -48,16 +49,21 @@ fn decode_owned(alloc: Global, bytes: Vec<u8>) -> Result<DecodedMap>
     decode_map(alloc, raw)
 }
 
-/// Returns the map in these bytes, after a junk header if there is one. Errors come in this order:
-/// an invalid header is `Io` of kind `InvalidData`; bytes that are not JSON are `BadJson(Parse)`;
-/// JSON that is no record is `BadJson(Shape)`. If the record has no sections, the errors of
-/// `decode_hermes` follow if its sources have scopes, else those of `decode_regular`. A record with
-/// sections is an index map, and its own scopes are ignored. More than 4294967295 sections are
-/// `IncompatibleSourceMap`. Then follows the first error of the sections' maps, in the order of the
-/// text.
+/// Decodes the JSON in these bytes to a map. A junk header before the JSON is skipped. The record,
+/// which is the JSON object of the map, is an index map if it has sections; its own scopes are then
+/// ignored. Without sections, it is a Hermes map if it has scopes of sources, otherwise a regular
+/// map. The sections of an index map are sorted by offset.
+///
+/// The errors are, in this order: `Io` of kind `InvalidData` for an invalid header;
+/// `BadJson(Parse)` for bytes that are not JSON; `BadJson(Shape)` for JSON that is not a record.
+/// Then a Hermes map has the errors of `decode_hermes`, and a regular map those of
+/// `decode_regular`. An index map with more than 4294967295 sections is `IncompatibleSourceMap`.
+/// Otherwise its error is the first error of the maps in its sections, in the order of the JSON
+/// text. `OutOfMemory` can come at any time.
 pub fn decode_slice(alloc: Global, bytes: &[u8]) -> Result<DecodedMap>
     ensures answer { IsAnswer map_tree (BytesDecode bytes.now) result }
-    // No other answer is right.
+    // Unless memory runs out, the bytes determine the result. Of an `Io` error they determine the
+    // kind.
     ensures only { (due : Result MapTree Error) → BytesDecode bytes.now due
         → IsAnswer map_tree (AreSame due) result }
     ensures well_formed { IfOk result (λ m. IsWellFormed (map_tree m)) }
@@ -69,7 +75,8 @@ pub fn decode_slice(alloc: Global, bytes: &[u8]) -> Result<DecodedMap>
 /// the map is made.
 pub fn decode_vec(alloc: Global, input: Vec<u8>) -> Result<DecodedMap>
     ensures answer { IsAnswer map_tree (BytesDecode input.items) result }
-    // No other answer is right.
+    // Unless memory runs out, the bytes determine the result. Of an `Io` error they determine the
+    // kind.
     ensures only { (due : Result MapTree Error) → BytesDecode input.items due
         → IsAnswer map_tree (AreSame due) result }
     ensures well_formed { IfOk result (λ m. IsWellFormed (map_tree m)) }
@@ -77,8 +84,8 @@ pub fn decode_vec(alloc: Global, input: Vec<u8>) -> Result<DecodedMap>
     decode_owned(alloc, input)
 }
 
-/// Returns the map in a reader's bytes, with the errors of `decode_slice`. The reader is read to
-/// its end first; an error of a read is `Io`.
+/// Decodes a reader's bytes to a map, as `decode_slice` does. The reader is read to its end first;
+/// an error of the reader is `Io`.
 pub fn decode<R: Read + Drop>(alloc: Global, reader: R) -> Result<DecodedMap>
     ensures answer { Reading (R.remaining reader)
         (λ bytes. IsAnswerRead map_tree (BytesDecode bytes) result) }
@@ -98,14 +105,16 @@ fn decode_url(alloc: Global, url: &str) -> Result<DecodedMap>
     decode_owned(alloc, held)
 }
 
-/// Returns the map in a data URL. A text that is no data URL is `InvalidDataUrl`; else the result
-/// is that of `decode_slice` for its payload, which is never `InvalidDataUrl`.
+/// Decodes the map in a data URL. A text that is not a valid data URL (see `data_url_bytes`) is
+/// `InvalidDataUrl`. For a valid data URL, the result is that of `decode_slice` for the decoded
+/// bytes, and this result is never `InvalidDataUrl`.
 pub fn decode_data_url(alloc: Global, url: &str) -> Result<DecodedMap>
     ensures answer { IsAnswer map_tree (UrlDecodes url.now) result }
-    // No other answer is right.
+    // Unless memory runs out, the URL determines the result. Of an `Io` error it determines the
+    // kind.
     ensures only { (due : Result MapTree Error) → UrlDecodes url.now due
         → IsAnswer map_tree (AreSame due) result }
-    // Errors in the payload are never reported as `InvalidDataUrl`.
+    // An error in the decoded bytes is never `InvalidDataUrl`.
     ensures no_url { IfErr result (λ e. e ≡ InvalidDataUrl → IsNoUrl url.now) }
     ensures well_formed { IfOk result (λ m. IsWellFormed (map_tree m)) }
 {
@@ -120,7 +129,7 @@ fn index_in(alloc: Global, bytes: &[u8]) -> Result<SourceMapIndex>
     only_index(alloc, raw)
 }
 
-// The index of bytes, which are dropped once their JSON value is read.
+// Decodes bytes to an index map. The bytes are dropped once their JSON value is read.
 fn index_in_owned(alloc: Global, bytes: Vec<u8>) -> Result<SourceMapIndex>
     ensures answer { IsAnswer index_value (BytesHaveResult IndexDecodes bytes.items) result }
     ensures well_formed { IfOk result (λ i. IsWellFormed (index_tree (index_value i))) }
@@ -130,12 +139,13 @@ fn index_in_owned(alloc: Global, bytes: Vec<u8>) -> Result<SourceMapIndex>
 }
 
 impl SourceMapIndex {
-    /// Returns the index map in these bytes, after a junk header if there is one. The errors are
-    /// those of `decode_slice`. A record without sections is `IncompatibleSourceMap`, before its
-    /// keys are decoded.
+    /// Decodes the JSON in these bytes to an index map, as `decode_slice` does and with its errors.
+    /// A record without sections is `IncompatibleSourceMap`, and then its other keys are not
+    /// decoded.
     pub fn from_slice(alloc: Global, bytes: &[u8]) -> Result<Self>
         ensures answer { IsAnswer index_value (BytesHaveResult IndexDecodes bytes.now) result }
-        // No other answer is right.
+        // Unless memory runs out, the bytes determine the result. Of an `Io` error they determine
+        // the kind.
         ensures only { (due : Result IndexValue Error) → BytesHaveResult IndexDecodes bytes.now due
             → IsAnswer index_value (AreSame due) result }
         ensures well_formed { IfOk result (λ i. IsWellFormed (index_tree (index_value i))) }
@@ -143,8 +153,8 @@ impl SourceMapIndex {
         index_in(alloc, bytes)
     }
 
-    /// Returns the index map in a reader's bytes, with the errors of `from_slice`. The reader is
-    /// read to its end first; an error of a read is `Io`.
+    /// Decodes a reader's bytes to an index map, as `from_slice` does. The reader is read to its
+    /// end first; an error of the reader is `Io`.
     pub fn from_reader<R: Read + Drop>(alloc: Global, reader: R) -> Result<Self>
         ensures answer { Reading (R.remaining reader)
             (λ bytes. IsAnswerRead index_value (BytesHaveResult IndexDecodes bytes) result) }
@@ -158,8 +168,8 @@ impl SourceMapIndex {
     }
 }
 
-/// A law: a JSON value, bytes or a data URL stands for one map, or for none because of one error.
-/// Of the error for an invalid header, only the kind is determined.
+/// A law: decoding a JSON value, bytes or a data URL has one result, which is a map or an error. Of
+/// the `Io` error for an invalid header, only the kind is determined.
 pub fn answers_are_determined()
     ensures values { (d : Data) (a b : Result MapTree Error)
         → ValueDecodes d a → ValueDecodes d b → a ≡ b }
@@ -169,8 +179,8 @@ pub fn answers_are_determined()
         → UrlDecodes url a → UrlDecodes url b → AreSame a b }
 {}
 
-/// A law: decoding a text as a data URL gives `InvalidDataUrl` exactly if the text is no data URL.
-/// Decoding a JSON value, bytes or a payload never gives it.
+/// A law: decoding a text as a data URL gives `InvalidDataUrl` exactly if the text is not a valid
+/// data URL. Decoding a JSON value or bytes never gives `InvalidDataUrl`.
 pub fn only_urls_give_invalid_data_url()
     ensures values { (d : Data) → ¬ ValueDecodes d (Err InvalidDataUrl) }
     ensures bytes { (bytes : List ℕ) → ¬ BytesDecode bytes (Err InvalidDataUrl) }

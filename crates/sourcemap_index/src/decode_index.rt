@@ -16,10 +16,10 @@ use sourcemap_map_regular::decode::decode_regular;
 use sourcemap_records::jsontypes::{RawSection, RawSourceMap};
 use std::alloc::Global;
 
-// The most sections that an index may have.
+// The greatest number of sections of an index map.
 const SECTION_LIMIT: usize = 4294967295;
 
-/// The map that a record stands for, as by `decode_slice`.
+/// Decodes a record to a map. The errors are those that `decode_slice` returns for the record.
 pub(crate) fn decode_map(alloc: Global, raw: RawSourceMap) -> Result<DecodedMap>
     ensures answer { IsAnswer map_tree (TreeDecodes (tree raw)) result }
     ensures well_formed { IfOk result (λ m. IsWellFormed (map_tree m)) }
@@ -27,8 +27,8 @@ pub(crate) fn decode_map(alloc: Global, raw: RawSourceMap) -> Result<DecodedMap>
     decode_record(alloc, raw)
 }
 
-/// The index that a record stands for. A record without sections is `IncompatibleSourceMap`, before
-/// its keys are decoded.
+/// Decodes a record to an index map. A record without sections is `IncompatibleSourceMap`, and then
+/// its other keys are not decoded.
 pub(crate) fn only_index(alloc: Global, mut raw: RawSourceMap) -> Result<SourceMapIndex>
     ensures { IsAnswer index_value (IndexDecodes (tree raw)) result }
 {
@@ -48,7 +48,8 @@ fn decode_record(alloc: Global, mut raw: RawSourceMap) -> Result<DecodedMap>
     }
 }
 
-// The map of a record, its sections ignored: a Hermes map if its sources have scopes.
+// Decodes a record to a Hermes map if it has scopes of sources, otherwise to a regular map.
+// Sections of the record are ignored.
 fn decode_leaf(alloc: Global, raw: RawSourceMap) -> Result<DecodedMap>
     ensures { IsAnswer map_tree
         (LeafDecodes (flat (tree raw)) (flat (tree raw)).x_facebook_sources) result }
@@ -62,7 +63,8 @@ fn decode_leaf(alloc: Global, raw: RawSourceMap) -> Result<DecodedMap>
     }
 }
 
-// The index of a record's keys and sections. Sections are decoded in order, then sorted.
+// Decodes a record, whose sections were moved to `sections`, to an index map. The sections are
+// decoded in order, then sorted by offset.
 #[cycle(decode)]
 fn decode_parts(
     alloc: Global,

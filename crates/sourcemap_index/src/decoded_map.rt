@@ -1,4 +1,4 @@
-//! Calls of a map of any kind: its debug id, and its record, JSON value and JSON text.
+//! Methods of a map of any kind: its debug id, and its record, JSON value and JSON text.
 ghost use Rattle.std.specs.Prelude.{◌≡◌, ℕ, List, Result, IfOk, IfErr, IfSome, OnOk};
 ghost use Rattle.serde_json.specs.View.{view};
 ghost use Rattle.sourcemap_errors.specs.Answer.{UnlessMemory, Gives, IsAnswer};
@@ -57,11 +57,12 @@ impl DecodedMap {
         }
     }
 
-    /// The map as a JSON value, with its keys in byte order. The only error is `OutOfMemory`.
+    /// The map as a JSON value. The keys of each JSON object are in byte order. The only error is
+    /// `OutOfMemory`.
     pub fn to_value(&self) -> Result<Value>
         ensures written { IfOk result (λ v. IsValueOf (map_tree self.now) (view v)) }
-        // Read back, a well-formed map means the same at every position, and `KeepsParts` says
-        // which parts it keeps.
+        // If the map is well-formed, the value decodes to a map with the same meaning at every
+        // position. `KeepsParts` says which parts of the map are kept.
         ensures reads_back { IfOk result (λ v. IsWellFormed (map_tree self.now)
             → ReadsBack (ValueDecodes (view v)) (Restores (map_tree self.now))) }
         ensures memory { IfErr result (λ e. e ≡ OutOfMemory) }
@@ -70,20 +71,20 @@ impl DecodedMap {
         raw.into_value(self.allocator())
     }
 
-    /// The record of `as_raw_sourcemap`, from a map that is consumed: all texts are moved, those of
-    /// sections too. The only error is `OutOfMemory`.
+    /// Returns the record that `as_raw_sourcemap` returns, but consumes the map and moves all
+    /// texts, also those of sections. The only error is `OutOfMemory`.
     pub fn into_raw_sourcemap(self) -> Result<RawSourceMap>
         ensures { IsAnswer tree (RecordAnswer (map_tree self)) result }
     {
         map_into_record(self)
     }
 
-    /// The value of `to_value`, from a map that is consumed: all texts are moved. The only error is
-    /// `OutOfMemory`.
+    /// Returns the value that `to_value` returns, but consumes the map and moves all texts. The
+    /// only error is `OutOfMemory`.
     pub fn into_value(self) -> Result<Value>
         ensures written { IfOk result (λ v. IsValueOf (map_tree self) (view v)) }
-        // Read back, a well-formed map means the same at every position, and `KeepsParts` says
-        // which parts it keeps.
+        // If the map is well-formed, the value decodes to a map with the same meaning at every
+        // position. `KeepsParts` says which parts of the map are kept.
         ensures reads_back { IfOk result (λ v. IsWellFormed (map_tree self)
             → ReadsBack (ValueDecodes (view v)) (Restores (map_tree self))) }
         ensures memory { IfErr result (λ e. e ≡ OutOfMemory) }
@@ -93,8 +94,8 @@ impl DecodedMap {
         raw.into_value(alloc)
     }
 
-    /// Returns the map of a JSON value. The error is `BadJson(Shape)` if the value is no record.
-    /// Other errors are those that `decode_slice` returns for the record.
+    /// Decodes a JSON value to a map. The error is `BadJson(Shape)` if the value is not the record
+    /// of a source map. Other errors are those that `decode_slice` returns for the record.
     pub fn from_value(alloc: Global, value: &Value) -> Result<Self>
         ensures answer { IsAnswer map_tree (ValueDecodes (view value.now)) result }
         ensures only { (due : Result MapTree Error) → ValueDecodes (view value.now) due
@@ -104,7 +105,7 @@ impl DecodedMap {
         decode_value(alloc, value)
     }
 
-    /// Returns the map in a reader's bytes, as `decode` does.
+    /// Decodes a reader's bytes to a map, as `decode` does.
     pub fn from_reader<R: Read + Drop>(alloc: Global, reader: R) -> Result<Self>
         ensures answer { Reading (R.remaining reader)
             (λ bytes. IsAnswerRead map_tree (BytesDecode bytes) result) }
@@ -115,9 +116,9 @@ impl DecodedMap {
         decode(alloc, reader)
     }
 
-    /// Writes the map's compact JSON text. An error of the writer is `Io`; the only other one is
-    /// `OutOfMemory`. The writer is consumed, so its contents are tested, not proved; `encode_to`
-    /// proves them of a borrowed writer.
+    /// Writes the map's compact JSON text. An error of the writer is `Io`; the only other error is
+    /// `OutOfMemory`. The writer is consumed, so no clause says what it contains afterwards.
+    /// `encode_to` borrows its writer and has such a clause.
     pub fn to_writer<W: Write + Drop>(&self, writer: W) -> Result<()>
         ensures encoded { OnOk result ((text : List ℕ)
             × IsEncoded (RecordAnswer (map_tree self.now)) text) }

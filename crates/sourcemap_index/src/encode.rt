@@ -27,9 +27,10 @@ use std::io::Write;
 impl Encodable for DecodedMap {
     ghost encodes = { λ m. RecordAnswer (map_tree m) };
 
-    /// The record of the map. A Hermes map keeps the scopes of its sources as they were read. An
-    /// index has version 3, its sections (offset, URL, the record of the map), and file, debug id
-    /// and bundle lists if there are any. The only error is `OutOfMemory`.
+    /// The record of the map. For a Hermes map it contains the scopes of the sources as they were
+    /// decoded. For an index map it contains version 3 and the sections, each with its offset, its
+    /// URL and the record of its map. If the index map has a file, a debug id, `x_facebook_offsets`
+    /// or `x_metro_module_paths`, the record contains them too. The only error is `OutOfMemory`.
     fn as_raw_sourcemap(&self) -> Result<RawSourceMap>
         ensures answer { IsAnswer tree (RecordAnswer (map_tree self.now)) result }
         ensures fine { IfOk result (λ r. IsFine (tree r)) }
@@ -43,7 +44,7 @@ impl Encodable for DecodedMap {
 impl Encodable for SourceMapIndex {
     ghost encodes = { λ i. RecordAnswer (index_tree (index_value i)) };
 
-    /// The record of the index, as for a `DecodedMap`.
+    /// The record of the index map, as for a `DecodedMap`. The only error is `OutOfMemory`.
     fn as_raw_sourcemap(&self) -> Result<RawSourceMap>
         ensures answer { IsAnswer tree (RecordAnswer (index_tree (index_value self.now))) result }
         ensures fine { IfOk result (λ r. IsFine (tree r)) }
@@ -55,17 +56,17 @@ impl Encodable for SourceMapIndex {
 }
 
 impl SourceMapIndex {
-    /// The record of `as_raw_sourcemap`, from an index that is consumed: its texts and those of its
-    /// sections are moved. The only error is `OutOfMemory`.
+    /// Returns the record that `as_raw_sourcemap` returns, but consumes the index map and moves all
+    /// texts, also those of sections. The only error is `OutOfMemory`.
     pub fn into_raw_sourcemap(self) -> Result<RawSourceMap>
         ensures { IsAnswer tree (RecordAnswer (index_tree (index_value self))) result }
     {
         index_into_record(self)
     }
 
-    /// Writes the index's compact JSON text. An error of the writer is `Io`; the only other one is
-    /// `OutOfMemory`. The writer is consumed, so its contents are tested, not proved; `encode_to`
-    /// proves them of a borrowed writer.
+    /// Writes the index map's compact JSON text. An error of the writer is `Io`; the only other
+    /// error is `OutOfMemory`. The writer is consumed, so no clause says what it contains
+    /// afterwards. `encode_to` borrows its writer and has such a clause.
     pub fn to_writer<W: Write + Drop>(&self, writer: W) -> Result<()>
         ensures encoded { OnOk result ((text : List ℕ)
             × IsEncoded (RecordAnswer (index_tree (index_value self.now))) text) }
@@ -235,7 +236,7 @@ fn record_with(
     }
 }
 
-// Returns the same lines. Its use is the clause `small`: each line is below 2^32.
+// Returns `lines` unchanged. The call is needed for the clause `small`: each line is below 2^32.
 fn checked_lines(lines: Option<Vec<Option<u32>>>) -> Option<Vec<Option<u32>>>
     ensures value { option_map (λ v. v.items) result ≡ option_map (λ v. v.items) lines }
     ensures small { IfSome result (λ v. AllByRecursion (λ n. IfSome n FitsU32) v.items) }
@@ -258,7 +259,7 @@ fn look_at(numbers: &[Option<u32>])
     }
 }
 
-// Returns the same number. Its use is the clause `small`: the number is below 2^32.
+// Returns `number` unchanged. The call is needed for the clause `small`: the number is below 2^32.
 fn check_number(number: Option<u32>) -> Option<u32>
     ensures value { result ≡ number }
     ensures small { IfSome result FitsU32 }

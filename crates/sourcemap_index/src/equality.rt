@@ -110,7 +110,8 @@ impl PartialEq for SourceMapSection {
     }
 }
 
-/// Indexes are equal exactly if their files, debug ids, bundle lists and lists of sections are.
+/// Index maps are equal exactly if their files, debug ids, `x_facebook_offsets`,
+/// `x_metro_module_paths` and lists of sections are equal.
 impl PartialEq for SourceMapIndex {
     ghost eq = { on index_value same_index };
 

@@ -1,11 +1,13 @@
-//! The types of maps of any kind, of index maps and of sections, which hold one another.
+//! The types of a map of any kind, of an index map and of a section. Values of each type may
+//! contain values of the others.
 use sourcemap_hermes::map::SourceMapHermes;
 use sourcemap_map_regular::map::SourceMap;
 use sourcemap_records::jsontypes::DebugId;
 use std::alloc::Global;
 
-/// A section of an index map: an offset in the generated text, with the map from there on, the URL
-/// of this map, both or neither. Lines and columns count from 0, columns in UTF-16 units.
+/// A section of an index map. It starts at its offset, which is a generated line and column. It has
+/// the map of the generated text from the offset on, the URL of that map, both or neither. Lines
+/// and columns count from 0, columns in UTF-16 units.
 #[derive(Debug, Drop)]
 #[cycle(family)]
 pub struct SourceMapSection {
@@ -15,7 +17,8 @@ pub struct SourceMapSection {
     pub(crate) alloc: Global,
 }
 
-/// An index map: a map for each section of the generated text.
+/// An index map: a list of sections. Each section may have the map of its part of the generated
+/// text.
 #[derive(Debug, Drop)]
 #[cycle(family)]
 pub struct SourceMapIndex {

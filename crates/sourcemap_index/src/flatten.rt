@@ -21,21 +21,23 @@ use std::alloc::Global;
 use std::rt::Files;
 
 impl SourceMapIndex {
-    /// The index as one regular map. It has the tokens of all sections, each moved by the offset of
-    /// its section and sorted stably. Each resolved source and each name is there once. A source
-    /// has the last contents given for it, and is on the ignore list if the map of one of its
-    /// tokens ignores it. A Hermes map counts as its regular map, without scopes. The file is that
-    /// of the index; there is no root and no debug id.
+    /// Returns the index map as one regular map. This map has the tokens of all sections. Each
+    /// token is moved by the offset of its section, and the tokens are sorted stably by position.
+    /// Each resolved source and each name appears once. A source has the last contents given for
+    /// it. A source is on the ignore list if one of its tokens comes from a map whose ignore list
+    /// has the source. A Hermes map counts as its regular map, without scopes. The file is that of
+    /// the index map; `sourceRoot` and debug id are `None`.
     ///
-    /// The error is `CannotFlatten` for the first section, in order, that cannot be added. It has
-    /// no map, or its map cannot be flattened itself. Or with it there are more than 4294967295
-    /// sources or names, or one of its tokens passes line or column 4294967295. Any other error is
+    /// Sections are added in order, up to the first error. The error is `CannotFlatten` if a
+    /// section has no map, or if its map is an index map that cannot be flattened. It is also
+    /// `CannotFlatten` if a section raises the number of sources or of names above 4294967295, or
+    /// if one of its tokens moves past line or column 4294967295. The only other error is
     /// `OutOfMemory`.
     pub fn flatten(&self) -> Result<SourceMap>
         ensures answer { IsAnswer (λ m. m) (FlatAnswer (index_tree (index_value self.now))) result }
         ensures tokens { IfOk result (SaysFlat (index_tree (index_value self.now))) }
-        // Wherever a position has a meaning in the index, it has the same in the flat map. The
-        // premise: no section reaches into the next one.
+        // If no section reaches into the next one, each position with a meaning in the index map
+        // has the same meaning in the flat map.
         ensures meaning { IfOk result (λ m. IsOrderly (index_tree (index_value self.now))
             → AnswersLike (index_tree (index_value self.now)) m) }
         ensures well_formed { IfOk result (λ m. IsWellFormed (index_tree (index_value self.now))
@@ -45,10 +47,11 @@ impl SourceMapIndex {
         flat.into_map(self.alloc, self.get_file())
     }
 
-    /// The flat map of `flatten`, rewritten as by `SourceMap::rewrite`. With
-    /// `load_local_source_contents`, contents that are still missing are read from files. Returns
-    /// the errors of `flatten` first, then those of `rewrite`: `Io` of kind `InvalidInput` if
-    /// contents are to be loaded and the folder is not absolute, else `OutOfMemory` only.
+    /// Flattens the index map as `flatten` does, and rewrites the flat map as `SourceMap::rewrite`
+    /// does. With `load_local_source_contents`, contents that the rewritten map lacks are read from
+    /// files. The errors of `flatten` come first. After them the error is `Io` of kind
+    /// `InvalidInput` if contents are to be read and the folder is not absolute. The only other
+    /// error is `OutOfMemory`.
     pub fn flatten_and_rewrite<F: Files>(
         self,
         rt: &F,
@@ -58,16 +61,17 @@ impl SourceMapIndex {
             (RewriteAnswer options.now (index_tree (index_value self))) result }
         ensures tokens { IfOk result
             (SaysFlatLess (removal_of options.now) (index_tree (index_value self))) }
-        // At every position the result means what the flat map means, less what the options remove.
-        // This also holds if sections are out of order.
+        // At every position the result has the meaning that the flat map has, without what the
+        // options remove. This also holds if sections are out of order.
         ensures means { IfOk result
             (MeansFlatLess (removal_of options.now) (index_tree (index_value self))) }
-        // Wherever a position has a meaning in the index, it has the same in the result, less what
-        // the options remove. The premise: no section reaches into the next one.
+        // If no section reaches into the next one, each position with a meaning in the index map
+        // has the same meaning in the result, without what the options remove.
         ensures meaning { IfOk result (λ m. IsOrderly (index_tree (index_value self))
             → AnswersLess (removal_of options.now) (index_tree (index_value self)) m) }
-        // If names are kept and no prefix is cut, the options remove nothing: the meaning is the
-        // same.
+        // Suppose that the options keep names and cut no prefix, and that no section reaches into
+        // the next one. Then each position with a meaning in the index map has the same meaning in
+        // the result.
         ensures same { LeavesMeaning (removal_of options.now) → IfOk result (λ m.
             IsOrderly (index_tree (index_value self))
             → AnswersLike (index_tree (index_value self)) m) }
@@ -93,8 +97,8 @@ impl SourceMapIndex {
         gathering.finish()
     }
 
-    // The number of tokens of the maps in its sections, without those of nested indexes. No result
-    // depends on it; it avoids copies of a growing list.
+    // The number of tokens in the maps of all sections, without those in nested index maps. It is
+    // only a capacity, which saves reallocations: no result depends on it.
     fn token_capacity(&self) -> usize {
         let mut capacity: usize = 0;
         for section in &self.sections {
@@ -125,7 +129,7 @@ impl SourceMapSection {
 }
 
 impl DecodedMap {
-    // The number of its tokens, 0 for an index.
+    // The number of tokens of a regular map or a Hermes map; 0 for an index map.
     fn token_capacity(&self) -> usize {
         match self {
             DecodedMap::Regular(map) => map.get_token_count() as usize,
@@ -134,7 +138,7 @@ impl DecodedMap {
         }
     }
 
-    // Adds the map to the gathered ones, from this line and column on.
+    // Adds the map to `gathering`. Its tokens are moved by the offset (`line`, `col`).
     #[cycle(flatten)]
     fn gather<'a>(
         &'a self,

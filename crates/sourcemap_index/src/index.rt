@@ -18,8 +18,8 @@ impl SourceMapIndex {
     ghost use Rattle.sourcemap_index.specs.Index.{index_made, with_file, with_debug_id, LendsSection};
     ghost use Rattle.sourcemap_index.specs.Section.{sections_left};
 
-    /// An index of these sections, without bundle lists and debug id. Lookups require sections
-    /// sorted by offset.
+    /// An index map with these sections. The debug id, `x_facebook_offsets` and
+    /// `x_metro_module_paths` are `None`. Lookups require sections sorted by offset.
     pub fn new(alloc: Global, file: Option<String>, sections: Vec<SourceMapSection>) -> Self
         ensures { index_value result
             ≡ index_made (text_view file) (map section_value sections.items) None None }
@@ -27,9 +27,10 @@ impl SourceMapIndex {
         SourceMapIndex::new_ram_bundle_compatible(alloc, file, sections, None, None)
     }
 
-    /// An index of these sections and bundle lists, without debug id. `x_facebook_offsets` has the
-    /// line at which each module of a bundle starts, `x_metro_module_paths` the path of each
-    /// module.
+    /// An index map with these sections and the two lists of a RAM bundle. The debug id is `None`.
+    /// Item `n` of `x_facebook_offsets` is the line, counted from 0, at which module `n` of the
+    /// bundle starts, or `None` if there is no module `n`. `x_metro_module_paths` has the path of
+    /// each module.
     pub fn new_ram_bundle_compatible(
         alloc: Global,
         file: Option<String>,
@@ -59,7 +60,7 @@ impl SourceMapIndex {
         self.file.as_deref()
     }
 
-    /// Sets the name of the generated file. The only error is `OutOfMemory`; the index is then
+    /// Sets the name of the generated file. The only error is `OutOfMemory`; the index map is then
     /// unchanged.
     pub fn set_file(&mut self, file: Option<&str>) -> Result<()>
         ensures { Changes result (index_value self.old) (index_value self.new)
@@ -81,14 +82,14 @@ impl SourceMapIndex {
         self.debug_id = debug_id;
     }
 
-    /// The number of sections, at most 4294967295.
+    /// The number of sections; 4294967295 if there are more.
     pub fn get_section_count(&self) -> u32
         ensures { result ≡ min (length (index_value self.now).sections) 4294967295 }
     {
         u32::try_from(self.sections.len()).unwrap_or(u32::MAX)
     }
 
-    /// The section with this id, counted from 0, or `None`.
+    /// The section with the index `id`, counted from 0. `None` if there is no such section.
     pub fn get_section(&self, id: u32) -> Option<&SourceMapSection>
         ensures { option_map (λ s. section_value s.now) result
             ≡ slice_get (index_value self.now).sections id }
@@ -96,7 +97,8 @@ impl SourceMapIndex {
         self.sections.get(id as usize)
     }
 
-    /// The section with this id, borrowed mutably, or `None`.
+    /// The section with the index `id`, counted from 0, borrowed mutably. `None` if there is no
+    /// such section.
     pub fn get_section_mut(&mut self, id: u32) -> Option<&mut SourceMapSection>
         ensures* writes_back { sem 𝓛 (LendsSection self.entry id result) }
         ensures value { option_map (λ s. section_value s.now) result
@@ -114,7 +116,8 @@ impl SourceMapIndex {
         }
     }
 
-    /// Whether the index has both lists of a bundle.
+    /// Whether the index map has both lists of a RAM bundle, `x_facebook_offsets` and
+    /// `x_metro_module_paths`.
     pub fn is_for_ram_bundle(&self) -> bool
         ensures { Decides result (((index_value self.now).parts.x_facebook_offsets ≢ None)
             × ((index_value self.now).parts.x_metro_module_paths ≢ None)) }
@@ -123,8 +126,9 @@ impl SourceMapIndex {
         self.x_facebook_offsets.is_some() & self.x_metro_module_paths.is_some()
     }
 
-    /// The line, from 0, at which each module of a bundle starts, if the index has that list. An
-    /// item of the list is `None` if no module has its number.
+    /// The line, counted from 0, at which each module of a bundle starts, by the number of the
+    /// module. An item is `None` if there is no module with its number. The result is `None` if the
+    /// index map has no such list.
     pub fn x_facebook_offsets(&self) -> Option<&[Option<u32>]>
         ensures { option_map (λ xs. xs.now) result
             ≡ (index_value self.now).parts.x_facebook_offsets }
@@ -132,7 +136,7 @@ impl SourceMapIndex {
         self.x_facebook_offsets.as_deref()
     }
 
-    /// The path of each module of a bundle, if the index has that list.
+    /// The path of each module of a bundle. `None` if the index map has no such list.
     pub fn x_metro_module_paths(&self) -> Option<&[String]>
         ensures { option_map (λ xs. map string_bytes xs.now) result
             ≡ (index_value self.now).parts.x_metro_module_paths }

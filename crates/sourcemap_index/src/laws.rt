@@ -16,8 +16,8 @@ ghost use Rattle.sourcemap_index_model.specs.WellFormed.{HasTokensInOrder, IsWel
 ghost use Rattle.sourcemap_index.specs.Decode.{BytesDecode, UrlDecodes, ValueDecodes};
 ghost use Rattle.sourcemap_index.specs.DecodedMap.{IsShallow, IsTextOf, IsValueOf, levels};
 
-/// A law: a JSON value, bytes or a data URL stand for a regular map exactly if they stand for it as
-/// a map of any kind.
+/// A law: decoding a JSON value, bytes or a data URL as a map of any kind gives a regular map
+/// exactly if decoding as a regular map gives the same map.
 pub fn regular_maps_are_of_a_kind()
     ensures values { (d : Data) (m : MapValue)
         → ValueHasResult RegularDecodes d (Ok m) ↔ ValueDecodes d (Ok (leaf (regular m))) }
@@ -27,8 +27,8 @@ pub fn regular_maps_are_of_a_kind()
         → UrlHasResult RegularDecodes url (Ok m) ↔ UrlDecodes url (Ok (leaf (regular m))) }
 {}
 
-/// A law: a JSON value, bytes or a data URL stand for a Hermes map exactly if they stand for it as
-/// a map of any kind.
+/// A law: decoding a JSON value, bytes or a data URL as a map of any kind gives a Hermes map
+/// exactly if decoding as a Hermes map gives the same map.
 pub fn hermes_maps_are_of_a_kind()
     ensures values { (d : Data) (h : HermesValue)
         → ValueHasResult RecordDecodesAsHermes d (Ok h) ↔ ValueDecodes d (Ok (leaf (hermes h))) }
@@ -39,8 +39,8 @@ pub fn hermes_maps_are_of_a_kind()
         → UrlHasResult RecordDecodesAsHermes url (Ok h) ↔ UrlDecodes url (Ok (leaf (hermes h))) }
 {}
 
-/// A law: the map that a JSON value, bytes or a data URL stand for is well-formed, and has its
-/// tokens in order, as the laws of flat maps require.
+/// A law: a map that is decoded from a JSON value, bytes or a data URL is well-formed, and its
+/// tokens are sorted at every level. The laws on flattened maps require this.
 pub fn read_maps_are_well_formed()
     ensures values { (d : Data) (t : MapTree) → ValueDecodes d (Ok t)
         → IsWellFormed t × HasTokensInOrder t }
@@ -50,28 +50,28 @@ pub fn read_maps_are_well_formed()
         → IsWellFormed t × HasTokensInOrder t }
 {}
 
-/// A law: a map is written as one text. No number of the JSON value that it is written as has a
-/// fraction, so the value is printed as this text.
+/// A law: a map determines the compact JSON text that it is written as. The JSON value of the map
+/// contains no number with a fraction, so its printed text is determined.
 pub fn written_values_have_one_text()
     ensures whole { (t : MapTree) (d : Data) → IsValueOf t d → has_float d ≡ false }
     ensures once { (t : MapTree) (a b : List ℕ) → IsTextOf t a → IsTextOf t b → a ≡ b }
 {}
 
-/// A law: the bytes that a map of any kind is written as are the compact text of its record's JSON
-/// value. The reason is that no number of this value has a fraction.
+/// A law: if a map of any kind is encoded, the bytes are the compact text of the JSON value of its
+/// record. The reason is that this value contains no number with a fraction.
 pub fn encoded_texts_are_compact()
     ensures { (t : MapTree) (text : List ℕ) → IsEncoded (RecordAnswer t) text → IsTextOf t text }
 {}
 
-/// A law: a map in which at most 40 indexes are nested is written as JSON of few enough levels to
-/// be read.
+/// A law: if index maps are nested at most 40 levels deep, the JSON of the map has at most 127
+/// levels. More levels cannot be read.
 pub fn maps_of_forty_levels_are_shallow()
     ensures { (t : MapTree) → levels t ≤ 40 → IsShallow t }
 {}
 
-/// A law: the bytes that a well-formed map of any kind is written as, and a data URL of them, stand
-/// for a map of the same meaning at every position. `KeepsParts` says which parts that map keeps.
-/// The law requires JSON of few enough levels to be read.
+/// A law: if a well-formed map of any kind is encoded, the bytes decode to a map with the same
+/// meaning at every position, and so does a data URL of the bytes. `KeepsParts` says which parts of
+/// the map are kept. The law requires that the JSON has at most 127 levels (`IsShallow`).
 pub fn encoded_texts_read_back()
     ensures bytes { (t : MapTree) (text : List ℕ)
         → IsEncoded (RecordAnswer t) text → IsWellFormed t → IsShallow t

@@ -1,5 +1,5 @@
-//! Maps of any kind and their calls. The maps are decoded from records, JSON values, bytes and
-//! data URLs.
+//! Source maps of any kind and their methods. The maps are decoded from records, JSON values, bytes
+//! and data URLs.
 #![tactic(auto)]
 
 mod clone;

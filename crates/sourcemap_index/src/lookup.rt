@@ -11,8 +11,9 @@ use crate::family::{DecodedMap, SourceMapIndex, SourceMapSection};
 use sourcemap_map_regular::token::Token;
 use sourcemap_tokens::search::greatest_lower_bound;
 
-// A position relative to the offset of its section. The differences stop at 0, which matters only
-// if sections are out of order.
+// The position relative to `offset`, the offset of its section. The offset's column is subtracted
+// only on the section's first line. `offset` is never after the position, so `saturating_sub` gives
+// the exact difference.
 fn relative_position(offset: (u32, u32), line: u32, col: u32) -> (u32, u32)
     ensures { result ≡ relative_position offset (line, col) }
 {
@@ -44,7 +45,7 @@ impl SourceMapIndex {
         Some(section)
     }
 
-    // The closest token, by the closest section.
+    // Looks the position up in the map of the closest section.
     #[cycle(lookup)]
     fn closest_token(&self, line: u32, col: u32) -> Option<Token<'_>>
         ensures value { IsInOrder (index_tree (index_value self.now))
@@ -61,12 +62,15 @@ impl SourceMapIndex {
         }
     }
 
-    /// The closest token to a generated position. It is looked up in the section with the closest
-    /// offset, at the position relative to this offset. The offset's column counts only on the
-    /// section's first line. The token is one of the section's own map, with its index there. There
-    /// is none if no section is at or before the position, if the closest section has no map, or if
-    /// this map has no closest token. Requires sorted sections at every depth; otherwise the result
-    /// is some token of one of the maps in the index, or none.
+    /// The token closest to a generated position. Only one section is searched: the first section
+    /// whose offset is the position, or else the last section whose offset is before it. The
+    /// position is looked up in the map of this section, relative to the offset. The offset's
+    /// column is subtracted only on the section's first line. The index and the generated position
+    /// of the token are those in the section's map.
+    ///
+    /// `None` if no section starts at or before the position, if the closest section has no map, or
+    /// if the lookup in this map finds no token. Requires sections sorted by offset at every depth;
+    /// otherwise the result is some token of one of the maps in the index map, or `None`.
     pub fn lookup_token(&self, line: u32, col: u32) -> Option<Token<'_>>
         ensures value { IsInOrder (index_tree (index_value self.now))
             → option_map token_value result
@@ -85,7 +89,8 @@ impl DecodedMap {
     ghost use Rattle.sourcemap_index.specs.Family.{map_tree};
     ghost use Rattle.sourcemap_index.specs.Lookup.{HasToken};
 
-    // The closest token. A map that is no index uses the table of its lines.
+    // The token that `lookup_token` returns. A regular map or a Hermes map is searched with its
+    // table of lines.
     #[inline(always)]
     fn closest_token(&self, line: u32, col: u32) -> Option<Token<'_>>
         ensures value { IsInOrder (map_tree self.now)
@@ -99,7 +104,8 @@ impl DecodedMap {
         }
     }
 
-    // The closest token of a map that is one of many.
+    // The token that `lookup_token` returns, found without tables of lines. This is faster if the
+    // map is one of many, such as the maps of the sections of an index map.
     #[cycle(lookup)]
     fn closest_among_many(&self, line: u32, col: u32) -> Option<Token<'_>>
         ensures value { IsInOrder (map_tree self.now)
@@ -113,10 +119,11 @@ impl DecodedMap {
         }
     }
 
-    /// The closest token to a generated position: the first one at the position, else the last one
-    /// before it, on its line or an earlier one. If a range token is on the line of the position,
-    /// the columns from the token to the position are added to its source column, up to 4294967295.
-    /// In an index it is the token of the closest section, as by `SourceMapIndex::lookup_token`.
+    /// The token closest to a generated position: the first token at the position, or else the last
+    /// token before it, on its line or on an earlier one. `None` if all tokens are after the
+    /// position. If the token is a range token on the line of the position, its original column
+    /// includes the columns from the token to the position; the sum is at most 4294967295. In an
+    /// index map only the closest section is searched, as by `SourceMapIndex::lookup_token`.
     #[inline(always)]
     pub fn lookup_token(&self, line: u32, col: u32) -> Option<Token<'_>>
         ensures value { IsInOrder (map_tree self.now)

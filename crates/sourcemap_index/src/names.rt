@@ -13,11 +13,13 @@ use sourcemap_source_views::sourceview::SourceView;
 impl SourceMapIndex {
     ghost use Rattle.sourcemap_index.specs.Family.{index_value};
 
-    /// The original name of the function at a generated position, as by
-    /// `SourceMap::get_original_function_name`. The walk begins at the token that `lookup_token`
-    /// returns, and goes back over the tokens of one map alone, that of the token's section. The
-    /// view is read at the generated positions of these tokens, which are relative to the section.
-    /// Allocates nothing.
+    /// Guesses the original name of the function at a generated position, as
+    /// `SourceMap::get_original_function_name` does. The search starts at the token that
+    /// `lookup_token` returns, and goes back over the tokens of one map only, the map of this
+    /// token. `view`, a view of the generated text, is read at the generated positions of these
+    /// tokens, which are relative to their section. `None` if the search finds no token, if the
+    /// token that it finds has no name, or if `minified_name` is no identifier. Allocates no
+    /// memory.
     pub fn get_original_function_name(
         &self,
         line: u32,
@@ -37,10 +39,11 @@ impl SourceMapIndex {
 impl DecodedMap {
     ghost use Rattle.sourcemap_index.specs.Family.{map_tree};
 
-    /// The original name of the function at a generated position. A Hermes map has names only for
-    /// columns of line 0, the bytecode, and ignores the minified name and the view. Other maps
-    /// guess the name by the minified name and a view of the generated text. They return `None` if
-    /// one of these is missing. Allocates nothing.
+    /// The original name of the function at a generated position. In a Hermes map only line 0 has
+    /// names, and `col` is the bytecode offset; `minified_name` and `source_view` are ignored. In
+    /// any other map the name is guessed from `minified_name` and `source_view`, a view of the
+    /// generated text. The result is then `None` if `minified_name` or `source_view` is `None`.
+    /// Allocates no memory.
     pub fn get_original_function_name(
         &self,
         line: u32,

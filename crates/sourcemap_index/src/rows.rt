@@ -1,4 +1,4 @@
-//! The sections of an index map moved down.
+//! Adds a number of lines to the offset of each section in an index map.
 ghost use Rattle.std.specs.Prelude.{◌≡◌, map};
 ghost use Rattle.std.specs.Bool.{Decides, MatchBool};
 ghost use Rattle.sourcemap_index_model.specs.Shift.{HaveRowsLeft, shifted};
@@ -7,7 +7,7 @@ ghost use Rattle.sourcemap_index.specs.Rows.{with_sections};
 
 use crate::family::{SourceMapIndex, SourceMapSection};
 
-// Whether `rows` can be added to the line of each section's offset.
+// Whether the line of each section's offset plus `rows` is at most 4294967295.
 fn have_rows_left(sections: &[SourceMapSection], rows: u32) -> bool
     ensures { Decides result (HaveRowsLeft rows (map section_value sections.now)) }
 {
@@ -29,9 +29,9 @@ fn move_down(sections: &mut [SourceMapSection], rows: u32)
 }
 
 impl SourceMapIndex {
-    /// Adds `rows` to the line of each section's offset and returns true. Returns false, and
-    /// changes nothing, if a line would pass 4294967295. The maps in the sections and the bundle
-    /// lists are unchanged.
+    /// Adds `rows` to the line of each section's offset and returns `true`. If a line would exceed
+    /// 4294967295, changes nothing and returns `false`. The maps in the sections,
+    /// `x_facebook_offsets` and `x_metro_module_paths` are unchanged in both cases.
     pub fn adjust_sections_offset_rows(&mut self, rows: u32) -> bool
         ensures possible { Decides result (HaveRowsLeft rows (index_value self.old).sections) }
         ensures value { MatchBool result (index_value self.new

@@ -24,7 +24,7 @@ impl SourceMapSection {
     ghost use Rattle.sourcemap_index.specs.Family.{map_tree, section_value};
     ghost use Rattle.sourcemap_index.specs.Section.{section_made, with_url, with_map, LendsMap};
 
-    /// A section from this line and column of the generated text on, with its map, the URL of the
+    /// A section that starts at `offset`, a generated line and column. It has a map, the URL of its
     /// map, both or neither. The only error is `OutOfMemory`.
     pub fn new(
         alloc: Global,
@@ -66,7 +66,7 @@ impl SourceMapSection {
         self.offset
     }
 
-    /// The URL of the section's map, if the section has one.
+    /// The URL of the section's map. `None` if the section has no URL.
     pub fn get_url(&self) -> Option<&str>
         ensures { option_copied result ≡ (section_value self.now).head.url }
     {
@@ -90,7 +90,7 @@ impl SourceMapSection {
         self.map.as_deref()
     }
 
-    /// The map of the section, borrowed mutably, or `None`.
+    /// The map of the section, borrowed mutably. `None` if the section has no map.
     pub fn get_sourcemap_mut(&mut self) -> Option<&mut DecodedMap>
         ensures* writes_back { sem 𝓛 (LendsMap self.entry result) }
         ensures value { option_map (λ m. map_tree m.now) result ≡ (section_value self.old).map }

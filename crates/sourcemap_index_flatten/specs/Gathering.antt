@@ -13,11 +13,11 @@ use Rattle.sourcemap_index_flatten.specs.declared.gathering.Gathering.{Gathering
 use Rattle.sourcemap_index_flatten.specs.declared.gathering.Part.{Part}
 use Rattle.sourcemap_index_flatten.specs.declared.gathering.FlatMap.{FlatMap}
 
--- the names of a map, without contents
+-- the entries of a map's names, which have no contents
 abbrev pub name_entries : MapValue → List TextEntry
 name_entries m = map (λ name. (name, None)) m.names
 
--- the entries of all pieces
+-- the source entries of all pieces
 abbrev pub all_source_entries : List Piece → List TextEntry
 all_source_entries pieces = flat_map (λ piece. source_entries piece.1) pieces
 
@@ -30,38 +30,38 @@ all_moved_tokens pieces = flat_map (λ piece. map (token_in pieces piece) piece.
 abbrev pub all_ignored_ids : List Piece → List ℕ
 all_ignored_ids pieces = rising (flat_map (ignored_in pieces) pieces)
 
--- exactly these pieces were added
+-- exactly these pieces were added, in this order
 pub record Gathers (pieces : List Piece) (g : Gathering) : Type 0 where
   pub sources : IsTable (all_source_entries pieces) g.sources
   pub names : IsTable (all_name_entries pieces) g.names
   pub tokens : g.tokens.items ≡ all_moved_tokens pieces
   pub ignored : g.ignored.keys ≡ all_ignored_ids pieces
 
--- the lists of a map, with borrowed texts
+-- `part` has the lists of `m`, with borrowed texts
 pub record IsPartOf (m : MapValue) (part : Part) : Type 0 where
   pub tokens : part.tokens.now ≡ m.tokens
   pub ignored : part.ignored.now.keys ≡ m.ignored
   pub sources : entry_values part.sources.now ≡ source_entries m
   pub names : entry_values part.names.now ≡ name_entries m
 
--- the piece fits, and was added to those before it
+-- `piece` can be added to `before` without an error, and exactly these pieces and `piece` were added
 pub record GathersMore (before : List Piece) (piece : Piece) (g : Gathering) : Type 0 where
   pub gathered : Gathers (before ++ piece ∷ []) g
   pub due : with_piece before piece ≡ Ok (before ++ piece ∷ [])
 
--- the error for the reason that is due, or out of memory
+-- `due` is an error and `e` gives its reason, or `e` is `OutOfMemory`
 abbrev pub RefusesFor : Result (List Piece) (List ℕ) → Error → Type 0
 RefusesFor due e = UnlessMemory e ((reason : List ℕ) × (due ≡ Err reason) × GivesReason reason e)
 
 abbrev pub RefusesPiece : List Piece → Piece → Error → Type 0
 RefusesPiece before piece e = RefusesFor (with_piece before piece) e
 
--- each source and each name has an id
+-- there are at most 4294967295 sources and at most 4294967295 names, so each has an id
 pub record HasFewTexts (flat : FlatMap) : Type 0 where
   pub sources : vec_len flat.sources ≤ 4294967295
   pub names : vec_len flat.names ≤ 4294967295
 
--- the concatenation of these pieces without a file name, with borrowed texts
+-- `flat` is the concatenation of `pieces`, with borrowed texts. It has no file name
 pub record IsFlat (pieces : List Piece) (flat : FlatMap) : Type 0 where
   pub few : HasFewTexts flat
   pub tokens : flat.tokens ≡ in_order (all_moved_tokens pieces)

@@ -1,4 +1,4 @@
--- Tokens moved to the offset of their map, with the ids of the whole.
+-- Tokens moved by the offset of their map, with the source ids and name ids of the flattened map.
 use Rattle.std.specs.Prelude.{◌≡◌, ℕ, Bool, false, nat_eq, List, ◌++◌, map, filter, slice_get, unwrap_or}
 use Rattle.std.specs.List.{list_any}
 use Rattle.sourcemap_tokens.specs.Tokens.{destination, no_id}
@@ -32,7 +32,7 @@ pub record AreMoved (to : Move) (tokens old new : List RawToken) : Type 0 where
   pub appended : new ≡ old ++ map (moved_by to) tokens
   pub within : list_any (is_past_end to) tokens ≡ false
 
--- the new ids of the ignored sources, token by token
+-- the new source id of each token whose old source id is ignored, in the order of the tokens
 abbrev pub ignored_numbers : (ignored sources : List ℕ) → List RawToken → List ℕ
 ignored_numbers ignored sources tokens =
     map (λ t. new_number sources t.src_id) (filter (λ t. list_any (nat_eq t.src_id) ignored) tokens)

@@ -1,4 +1,4 @@
--- Texts entered with contents, and the table of them.
+-- Texts that are entered with contents, and the table of these texts.
 use Rattle.std.specs.Prelude.{◌≡◌, ◌≤◌, ℕ, Bool, ◌&&◌, cond, nat_lt, List, [], ◌∷◌, ◌++◌, length, map, slice_set, Option, Some, is_some, option_and_then}
 use Rattle.std.specs.Option.{option_copied}
 use Rattle.std.specs.Str.{bytes_eq}
@@ -31,32 +31,32 @@ contents_entered entered text =
 abbrev pub entries_kept : List TextEntry → List TextEntry
 entries_kept entered = map (λ text. (text, contents_entered entered text)) (texts_entered entered)
 
--- the number of each of these texts among all that were entered
+-- for each of `entries`, the number of its text among the distinct texts of `entered`
 abbrev pub numbers_among : List TextEntry → List TextEntry → List ℕ
 numbers_among entered entries = map (λ e. number_in (texts_entered entered) (Some e.0)) entries
 
--- more texts than ids
+-- there are more than 4294967295 texts, and so more texts than ids
 abbrev pub are_too_many : List (List ℕ) → Bool
 are_too_many texts = nat_lt 4294967295 (length texts)
 
--- the table after `entered`
+-- `t` is the table after all of `entered` were entered
 pub record IsTable (entered : List TextEntry) (t : Table) : Type 0 where
   pub index : t.ids ≡ texts_entered entered
   pub kept : entry_values t.entries.items ≡ entries_kept entered
   pub few : length (texts_entered entered) ≤ 4294967295
 
--- the table after `entered`, and the number of its last text
+-- `t` is the table after all of `entered` were entered, and `number` is the number of `text` in it
 pub record IsEntered (entered : List TextEntry) (text : List ℕ) (number : ℕ) (t : Table) : Type 0 where
   pub table : IsTable entered t
   pub text_id : id_of text (texts_entered entered) ≡ Some number
 
--- the table after `entered`, and the numbers of `entries`
+-- `t` is the table after all of `entered` were entered, and `numbers` are the numbers of `entries` in it
 pub record AreEntered (entered entries : List TextEntry) (numbers : List ℕ) (t : Table) : Type 0 where
   pub table : IsTable entered t
   pub each : numbers ≡ numbers_among entered entries
 
--- the entries after `e` was entered: appended if its number is new, otherwise in place of the earlier entry, but only
--- if `e` has contents
+-- the entries after `e` was entered. If `number` is new, `e` is appended. Otherwise, if `e` has contents, `e` replaces
+-- the entry that has this number
 abbrev pub put_at : ℕ → TextEntry → List TextEntry → List TextEntry
 put_at number e entries =
     cond (nat_lt number (length entries))

@@ -1,4 +1,5 @@
-//! Sources and names of maps as borrowing entries, and owned texts of entries.
+//! Entries that borrow the sources and names of a map, and owned copies of the texts and contents
+//! of entries.
 ghost use Rattle.std.specs.Prelude.{None, Ok, map, string_bytes};
 ghost use Rattle.sourcemap_errors.specs.Answer.{Gives};
 ghost use Rattle.sourcemap_texts.specs.Texts.{texts_of};

@@ -37,8 +37,9 @@ fn unresolved_text(alloc: Global, url: Option<&str>) -> Result<String>
     Ok(text)
 }
 
-/// The error for a section without a map. Its text contains `url`, the URL of the map. If there is
-/// no URL, it contains `<unknown url>`. `OutOfMemory` if the text of the error cannot be allocated.
+/// The error `CannotFlatten` for a section without a map. Its text contains `url`, the URL of the
+/// map, or `<unknown url>` if `url` is `None`. `OutOfMemory` if the text of the error cannot be
+/// allocated.
 pub fn unresolved_error(alloc: Global, url: Option<&str>) -> Error
     ensures { Refuses (unresolved (option_copied url.entry)) result }
 {

@@ -24,7 +24,7 @@ use sourcemap_tokens::tokens::RawToken;
 use std::alloc::Global;
 use std::collections::BTreeSet;
 
-// The lists of a map to add.
+// The lists of a map that is added to a `Gathering`.
 #[derive(Clone, Copy)]
 pub(crate) struct Part<'b, 'a> {
     pub(crate) tokens: &'b [RawToken],
@@ -65,10 +65,11 @@ impl<'a> Gathering<'a> {
         })
     }
 
-    /// Adds the map of these lists at a line and a column. The column is added on the first line of
-    /// the map only. Returns `CannotFlatten` if there are more than 4294967295 sources or names
-    /// then, else if a token moves past line or column 4294967295. The only other error is
-    /// `OutOfMemory`.
+    /// Adds the map with these lists. Its tokens move down by `line`, and those on its first line
+    /// also move right by `col`. Returns `CannotFlatten` if there would then be more than
+    /// 4294967295 sources or names, or else if a token would move past line or column 4294967295.
+    /// The only other error is `OutOfMemory`. After an error, the contents of the gathering are
+    /// unspecified.
     pub fn add(&mut self, alloc: Global, line: u32, col: u32, map: &MapLists<'a>) -> Result<()>
         ensures ok { (before : List Piece) (m : MapValue) → Gathers before self.old
             → AreListsOf m map.now → OnOk result (GathersMore before ((line, col), m) self.new) }
@@ -141,8 +142,8 @@ impl<'a> Gathering<'a> {
 }
 
 impl FlatMap<'_> {
-    /// An owned map with this file name, with no `sourceRoot` and no debug id. The only error is
-    /// `OutOfMemory`.
+    /// Returns an owned map with this file name, without `sourceRoot` and debug id. The only error
+    /// is `OutOfMemory`. Requires at most 4294967295 sources and at most 4294967295 names.
     pub fn into_map(self, alloc: Global, file: Option<&str>) -> Result<SourceMap>
         requires { HasFewTexts self }
         ensures { (pieces : List Piece) → IsFlat pieces self.entry

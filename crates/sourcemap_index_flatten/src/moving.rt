@@ -1,4 +1,5 @@
-//! Tokens moved to the offset of their map, with the ids of the whole.
+//! Moves tokens by the offset of their map, and gives them the source ids and name ids of the
+//! flattened map.
 ghost use Rattle.std.specs.Prelude.{◌≡◌, ◌++◌, if◌then◌else◌, Some, None, IfErr, IfOk, OnOk, IsOkUnless, codes, map, unwrap_or, slice_get, fold, false};
 ghost use Rattle.std.specs.List.{list_any};
 ghost use Rattle.std.specs.BTreeSet.{insert_key};
@@ -26,7 +27,7 @@ pub(crate) struct Move<'a> {
     pub(crate) names: &'a [u32],
 }
 
-// The new id, `NO_ID` for an id without a source or name.
+// The item of `numbers` at the index `id`, or `NO_ID` if there is no such item.
 fn new_number(numbers: &[u32], id: u32) -> u32
     ensures { result ≡ new_number numbers.now id }
 {
@@ -36,7 +37,8 @@ fn new_number(numbers: &[u32], id: u32) -> u32
     }
 }
 
-// The generated position in the whole, if it fits 32 bits.
+// The generated position of the token in the flattened map. `None` if its line or column is above
+// 4294967295.
 fn absolute_position(line: u32, col: u32, token: RawToken) -> Option<(u32, u32)>
     ensures { result ≡ (if passes_the_end (absolute_position (line, col) (destination token)) then None
         else Some (absolute_position (line, col) (destination token))) }
@@ -68,7 +70,7 @@ fn move_token(alloc: Global, token: RawToken, to: Move<'_>) -> Result<RawToken>
     }
 }
 
-// Appends moved tokens to `all`. `all` is empty after an error.
+// Moves `tokens` and appends them to `all`. After an error, `all` is empty.
 pub(crate) fn move_all(
     alloc: Global,
     all: &mut Vec<RawToken>,
@@ -79,7 +81,7 @@ pub(crate) fn move_all(
     ensures refused { IfErr result (RefusesBy (list_any (is_past_end to.entry) tokens.now)
         (codes "a position passes 4294967295")) }
 {
-    // owned while it grows: each push through a reference would load and store its length
+    // owned while it grows: each push through `all` would load and store the length of the list
     let mut list = mem::replace(all, Vec::new(alloc));
     list.reserve(tokens.len())?;
     for token in tokens {
@@ -91,7 +93,7 @@ pub(crate) fn move_all(
     Ok(())
 }
 
-// Adds the new source id of each token whose source is ignored.
+// Adds to `all` the new source id of each token whose old source id is in `ignored`.
 pub(crate) fn add_ignored(
     all: &mut BTreeSet<u32>,
     tokens: &[RawToken],

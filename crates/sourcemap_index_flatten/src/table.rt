@@ -14,7 +14,7 @@ use std::alloc::Global;
 // The largest number of ids.
 const MOST: usize = 4294967295;
 
-// A source with its contents, if it has any, or a name, which has none.
+// A source with its contents, if it has any; or a name, which has no contents.
 #[derive(Clone, Copy)]
 pub(crate) struct Entry<'a> {
     pub(crate) text: &'a str,
@@ -96,8 +96,8 @@ fn is_full(ids: &TextIndex<'_>, text: &str) -> bool
     !ids.contains(text)
 }
 
-// Appends `item` if its number is new. Otherwise puts it in place of the entry with this number, if
-// `item` has contents.
+// Appends `item` if `number` is new. Otherwise, if `item` has contents, `item` replaces the entry
+// that has this number.
 fn push_or_replace<'a>(entries: &mut Vec<Entry<'a>>, number: usize, item: Entry<'a>) -> Result<()>
     ensures ok { OnOk result (entry_values entries.new.items
         ≡ put_at number (entry_value item.entry) (entry_values entries.old.items)) }

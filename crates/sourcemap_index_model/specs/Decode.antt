@@ -1,4 +1,4 @@
--- The map that a record decodes to, of any kind.
+-- The map of any kind that a record decodes to.
 use Rattle.std.specs.Prelude.{◌≡◌, ◌⊎◌, ℕ, ◌+◌, List, [], ◌∷◌, Option, Some, None, option_map, nat_lt, Result, Ok, Err, IsErrAnd}
 use Rattle.std.specs.Bool.{MatchBool}
 use Rattle.sourcemap_errors.specs.declared.errors.Error.{Error}
@@ -11,7 +11,7 @@ use Rattle.sourcemap_hermes_scopes.specs.ScopeLists.{ScopeEntry}
 use Rattle.sourcemap_hermes.specs.Decode.{EntriesDecode}
 use Rattle.sourcemap_index_model.specs.MapTree.{regular, hermes, IndexParts, MapTree, leaf, index, MapSection, section_offset, sections_from}
 
--- the result of two steps: the error of the first step, or what the second makes of the value of the first
+-- the result of two steps: the error of the first step, or the result of the second step for the value of the first
 abbrev pub Then : {X Y : Type 0} → (Result X Error → Type 0) → (X → Result Y Error → Type 0) → Result Y Error → Type 0
 Then First Next answer = ((x : _) × First (Ok x) × Next x answer) ⊎ IsErrAnd answer (λ e. First (Err e))
 

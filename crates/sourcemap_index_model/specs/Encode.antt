@@ -1,4 +1,4 @@
--- The record that a map is written as, and what of the map is kept when it is decoded again.
+-- The record that a map is written as, and the parts of the map that are kept when the record is decoded again.
 use Rattle.std.specs.Prelude.{◌≡◌, Some, None, option_map, Result, Ok, Err}
 use Rattle.serde_json.specs.Data.{string}
 use Rattle.sourcemap_errors.specs.declared.errors.Error.{Error}
@@ -28,7 +28,7 @@ index_fields parts = record {
   debug_id = parts.debug_id;
 }
 
--- the map is written as this record; `IsOf` says which records its regular and Hermes maps are written as
+-- the map is written as this record; `IsOf l r` means that the regular or Hermes map `l` is written as the record `r`
 abbrev mutual
   pub IsWrittenBy : (LeafMap → Tree → Type 0) → MapTree → Tree → Type 0
   IsWrittenBy IsOf (leaf l) r = IsOf l r
@@ -49,7 +49,7 @@ IsLeafRecord (hermes h) r = IsRecordOfHermes h r
 abbrev pub IsRecordOf : MapTree → Tree → Type 0
 IsRecordOf t r = IsWrittenBy IsLeafRecord t r
 
--- `back` is of the same kind, and restores `l`
+-- `back` is of the same kind as `l`, and restores `l`
 abbrev pub RestoresLeaf : (l back : LeafMap) → Type 0
 RestoresLeaf (regular m) (regular back) = RestoresRegular m back
 RestoresLeaf (hermes h) (hermes back) = RestoresHermes h back
@@ -72,13 +72,14 @@ abbrev mutual
 abbrev pub Restores : (t back : MapTree) → Type 0
 Restores t back = MeansTheSame back t × KeepsParts back t
 
--- the result of a call that encodes a map: a record that the map is written as; if the map is well-formed, the record
--- reads back; no error but out of memory
+-- the result of encoding a map: its record. If the map is well-formed, the record decodes to a map that restores the
+-- encoded map (`Restores`). This definition permits no error, but `IsAnswer` also permits `OutOfMemory`
 abbrev pub RecordAnswer : MapTree → Result Tree Error → Type 0
 RecordAnswer t (Ok r) = IsRecordOf t r × IsFine r × (IsWellFormed t → ReadsBack (TreeDecodes r) (Restores t))
 RecordAnswer t (Err _) = ⊥
 
--- a record that a regular or Hermes map is written as; if the map is well-formed, the record reads back
+-- the record of a regular map or a Hermes map. If the map is well-formed, the record decodes to a map that restores the
+-- encoded map
 abbrev pub IsLeafAnswer : LeafMap → Tree → Type 0
 IsLeafAnswer (regular m) r = RecordAnswerRegular m (Ok r)
 IsLeafAnswer (hermes h) r = RecordAnswerHermes h (Ok r)

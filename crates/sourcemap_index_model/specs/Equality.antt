@@ -1,4 +1,4 @@
--- Equality of maps of any kind: of all their parts.
+-- Equality of maps of any kind, by all their parts.
 use Rattle.std.specs.Prelude.{nat_eq, Bool, true, false, ◌&&◌}
 use Rattle.std.specs.Option.{option_eq}
 use Rattle.std.specs.Ordering.{on, eq_of_both}

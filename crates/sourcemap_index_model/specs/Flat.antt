@@ -21,24 +21,25 @@ use Rattle.sourcemap_index_model.specs.FlatList.{absolute_position, flat_list}
 abbrev pub Piece : Type 0
 Piece = (ℕ × ℕ) × MapValue
 
--- the sources, resolved against `sourceRoot`, and the names of all pieces, each once
+-- the sources of all pieces, resolved against `sourceRoot`, each once
 abbrev pub sources_in : List Piece → List (List ℕ)
 sources_in pieces = kept_once (flat_map (λ piece. resolved_sources piece.1) pieces)
 
+-- the names of all pieces, each once
 abbrev pub names_in : List Piece → List (List ℕ)
 names_in pieces = kept_once (flat_map (λ piece. piece.1.names) pieces)
 
--- a map's sources, each with its contents
+-- the resolved sources of a map, each with its contents if it has any
 abbrev pub source_entries : MapValue → List (List ℕ × Option (List ℕ))
 source_entries m = map (λ source. (source.1, contents_of m source.0)) (enumerate_from 0 (resolved_sources m))
 
--- the last contents among the sources with this text
+-- the contents of the last source, over all pieces, that resolves to `text` and has contents; otherwise `None`
 abbrev pub contents_in : List Piece → List ℕ → Option (List ℕ)
 contents_in pieces text =
     option_and_then (λ source. source.1)
     (find_last (λ source. bytes_eq source.0 text && is_some source.1) (flat_map (λ piece. source_entries piece.1) pieces))
 
--- a token of a piece with its generated position and its ids in the whole
+-- a token of a piece, with the generated position and the ids that it has in the concatenation
 abbrev pub token_in : List Piece → Piece → RawToken → RawToken
 token_in pieces piece t = record t {
   dst_line = (absolute_position piece.0 (destination t)).0;
@@ -110,10 +111,10 @@ FlatAnswer t (Err _) = ⊥
 
 -- Meaning of the flattened map.
 
--- the meanings of the map's tokens are the flat list, sorted stably by position
+-- the tokens of `m` have the positions and meanings in `flat_list t`, sorted stably by position
 abbrev pub SaysFlat : MapTree → MapValue → Type 0
 SaysFlat t m = token_meanings m ≡ sorted_by {K = ℕ × ℕ} (λ entry. entry.0) position_cmp (flat_list t)
 
--- where a position has a meaning in the first map, it has the same in the second
+-- each position with a meaning in `t` has the same meaning in `m`
 abbrev pub AnswersLike : MapTree → MapValue → Type 0
 AnswersLike t m = (p : ℕ × ℕ) → IfSome (meaning t p) (λ says. meaning_regular m p ≡ Some says)

@@ -8,14 +8,15 @@ use Rattle.sourcemap_map_regular.specs.Map.{Meaning}
 use Rattle.sourcemap_map_regular.specs.Rewrite.{token_meanings}
 use Rattle.sourcemap_index_model.specs.MapTree.{MapTree, leaf, index, held, MapSections, no_sections, hollow, filled, offset_of, AtEachLevel}
 
--- a position relative to a section as a position in the whole; the column moves on the section's first line only
+-- a position relative to the offset of a section, as a position in the index map; the offset's column is added on the
+-- section's first line only
 abbrev pub absolute_position : (offset p : ℕ × ℕ) → ℕ × ℕ
 absolute_position offset p = (p.0 + offset.0, (if p.0 == 0 then p.1 + offset.1 else p.1))
 
 abbrev pub absolute_entry : (offset : ℕ × ℕ) → (ℕ × ℕ) × Meaning → (ℕ × ℕ) × Meaning
 absolute_entry offset entry = (absolute_position offset entry.0, entry.1)
 
--- the meanings of the tokens, each with its position, section after section
+-- the meanings of the tokens, each with the generated position of its token in the whole map, section after section
 abbrev mutual
   pub flat_list : MapTree → List ((ℕ × ℕ) × Meaning)
   flat_list (leaf l) = token_meanings (held l)
@@ -26,7 +27,7 @@ abbrev mutual
   flat_lists (hollow head rest) = flat_lists rest
   flat_lists (filled head t rest) = map (absolute_entry (offset_of head)) (flat_list t) ++ flat_lists rest
 
--- each section's offset, with the positions of its tokens in the whole
+-- each section's offset, with the positions of its tokens in the index map
 abbrev pub spans : MapSections → List ((ℕ × ℕ) × List (ℕ × ℕ))
 spans no_sections = []
 spans (hollow head rest) = (offset_of head, []) ∷ spans rest
@@ -42,6 +43,6 @@ AreApart (span ∷ []) = Unit {0}
 AreApart (span ∷ next ∷ rest) =
     IsBefore span.0 next.0 × AllByRecursion (λ p. IsBefore p next.0) span.1 × AreApart (next ∷ rest)
 
--- sections do not overlap, at every level
+-- at every level, the sections do not overlap
 abbrev pub IsOrderly : MapTree → Type 0
 IsOrderly t = AtEachLevel (λ l. Unit {0}) (λ ss. AreApart (spans ss)) t

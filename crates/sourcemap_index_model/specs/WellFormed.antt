@@ -9,7 +9,7 @@ use Rattle.sourcemap_index_model.specs.MapTree.{LeafMap, regular, hermes, held, 
 abbrev pub AreSectionsInOrder : MapSections → Type 0
 AreSectionsInOrder ss = IsSortedByKey {K = ℕ × ℕ} section_offset position_cmp (section_list ss)
 
--- sections are sorted at every level, so that a binary search finds the closest section
+-- at every level, the sections are sorted by offset. The binary search of a lookup needs this
 abbrev pub IsInOrder : MapTree → Type 0
 IsInOrder t = AtEachLevel (λ l. Unit {0}) AreSectionsInOrder t
 

@@ -29,7 +29,8 @@ pub fn well_formed_maps_are_in_order()
     ensures { (t : MapTree) → IsWellFormed t → IsInOrder t }
 {}
 
-/// A law: the sections of an orderly map are sorted at every level.
+/// A law: if no section reaches into the next one at any level (`IsOrderly`), the sections are
+/// sorted at every level.
 pub fn orderly_maps_are_in_order()
     ensures { (t : MapTree) → IsOrderly t → IsInOrder t }
 {}
@@ -40,13 +41,16 @@ pub fn same_tree_decides()
     ensures equivalence { IsEquivalence same_tree }
 {}
 
-/// A law: the tokens of a flattened map are those of the sections, with the same sources and names.
-/// Each has its generated position in the whole map. They are sorted stably by this position.
+/// A law: if the tokens of each map are sorted, the flattened map has the tokens of all sections
+/// with the same meanings. Each token has its generated position in the whole map. The tokens are
+/// sorted stably by this position.
 pub fn flat_maps_say_the_flat_list()
     ensures { (t : MapTree) (m : MapValue) → HasTokensInOrder t → flat t ≡ Ok m → SaysFlat t m }
 {}
 
-/// A law: where a lookup in an orderly map finds a token, the flattened map has the same meaning.
+/// A law: if no section reaches into the next one at any level (`IsOrderly`), and the tokens of
+/// each map are sorted, each position with a meaning in the map has the same meaning in the
+/// flattened map.
 pub fn flat_maps_answer_alike()
     ensures { (t : MapTree) (m : MapValue) → HasTokensInOrder t → IsOrderly t → flat t ≡ Ok m
         → AnswersLike t m }
@@ -58,15 +62,16 @@ pub fn flat_maps_are_well_formed()
         → IsWellFormedRegular m }
 {}
 
-/// A law: the record that a map is written as is determined.
+/// A law: a map determines its record.
 pub fn maps_are_written_once()
     ensures { (t : MapTree) (a b : Tree) → IsRecordOf t a → IsRecordOf t b → a ≡ b }
 {}
 
-/// A law: if each regular and each Hermes map in a map is written as the contracts demand, so is
-/// the whole map. Then a well-formed map reads back with its meaning, and with the parts that
-/// `KeepsParts` names. The premise `IsInRange` holds for every record of the code: numbers are
-/// below 2^32, a debug id has 16 bytes.
+/// A law: if each regular map and each Hermes map in a map is written as `IsLeafAnswer` requires,
+/// the record of the whole map is as `RecordAnswer` requires. In particular, the record of a
+/// well-formed map decodes to a map with the same meaning at every position. `KeepsParts` says
+/// which parts are kept. The premise `IsInRange` holds for every record in memory: numbers are
+/// below 2^32, and a debug id has 16 bytes.
 pub fn written_records_read_back()
     ensures { (t : MapTree) (r : Tree) → IsWrittenBy IsLeafAnswer t r
         → IsInRange r → RecordAnswer t (Ok r) }

@@ -10,7 +10,7 @@ abbrev pub is_text : List ℕ → Option (List ℕ) → Bool
 is_text text None = false
 is_text text (Some other) = bytes_eq text other
 
--- the id, if its string is equal to `text`
+-- the id, if its string is equal to `text`; otherwise `None`
 abbrev pub matching_id : List (List ℕ) → List ℕ → Option ℕ → Option ℕ
 matching_id texts text None = None
 matching_id texts text (Some id) = cond (is_text text (slice_get texts id)) (Some id) None

@@ -3,7 +3,7 @@ use Rattle.std.specs.Prelude.{ℕ, ◌+◌, ◌*◌, ◌/◌, ◌%◌, ◌^◌, 
 use Rattle.std.specs.Int.{w64, from_le_bytes}
 use Rattle.std.specs.Simd.{first_chunks}
 
--- the sum of both halves of a product of 128 bits
+-- the sum of both halves of a product of 128 bits, modulo 2^64
 abbrev pub fold_halves : ℕ → ℕ
 fold_halves product = (product / 2 ^ 64 + product % 2 ^ 64) % 2 ^ 64
 

@@ -5,7 +5,7 @@ use Rattle.std.specs.Str.{bytes_eq}
 use Rattle.sourcemap_errors.specs.declared.errors.Error.{Error}
 use Rattle.sourcemap_errors.specs.declared.errors.Error.TheVariants.{IncompatibleSourceMap}
 
--- the id of a string: its index in the list
+-- the id of a string: its index in the list; `None` if the list does not have it
 abbrev pub id_of : List ℕ → List (List ℕ) → Option ℕ
 id_of text texts = position_from (bytes_eq text) 0 texts
 
@@ -13,7 +13,7 @@ id_of text texts = position_from (bytes_eq text) 0 texts
 abbrev pub AreDistinct : List (List ℕ) → Type 0
 AreDistinct texts = (text : List ℕ) (id : ℕ) → slice_get texts id ≡ Some text → id_of text texts ≡ Some id
 
--- the strings with one more appended, unless they contain it
+-- the strings, with `text` appended if it is not yet among them
 abbrev pub with_text : List (List ℕ) → List ℕ → List (List ℕ)
 with_text texts text = cond (is_some (id_of text texts)) texts (texts ++ text ∷ [])
 

@@ -1,4 +1,4 @@
--- A hash table with open addressing from the hash of a text to its number.
+-- A hash table with open addressing. It finds the number of a text by the hash of the text.
 use Rattle.std.specs.Prelude.{◌≡◌, ◌≢◌, ◌≤◌, ◌<◌, ◌+◌, ◌/◌, ◌^◌, ◌⊎◌, ℕ, List, length, slice_get, Option, Some}
 use Rattle.std.specs.BTreeMap.{BTreeMap, get_by}
 use Rattle.std.specs.Cmp.Lexicographic.{slice_cmp}
@@ -19,7 +19,7 @@ hash_of text = folding.finish (folding.write folding.initial text) / 2 ^ 32
 unfoldable pub start_of : (mask hash : ℕ) → ℕ
 start_of mask hash = bit_and hash mask
 
--- the number of a text in the overflow tree
+-- the number of a text in the overflow tree; `None` if the tree does not have the text
 abbrev pub number_in_tree : BTreeMap (Bor (List ℕ)) ℕ → List ℕ → Option ℕ
 number_in_tree tree text = get_by (λ key. slice_cmp nat_cmp text key.now) tree
 
@@ -52,7 +52,7 @@ IsProbed texts slots start text (Free slot_index) =
     (k : ℕ) × (k < 32) × (slot_index ≡ start + k) × IsFree slots slot_index × ArePassed texts slots start text k
 IsProbed texts slots start text Full = ArePassed texts slots start text 32
 
--- the number is in one of the 32 slots from `start` on, after slots that are all taken
+-- one of the 32 slots from `start` on has the number `number`, and all earlier slots of these 32 are taken
 pub record IsReached (slots : List Slot) (start number : ℕ) : Type 0 where
   pub steps : ℕ
   pub few : steps < 32

@@ -21,10 +21,10 @@ const MOST: usize = 4294967295;
 #[derive(Drop)]
 pub struct Interner {
     texts: Vec<String>,
-    // The id of the first string with each digest. A tree bounds the time for strings that were
-    // constructed to have equal digests.
+    // The id of the first string with each digest.
     firsts: BTreeMap<u64, u32>,
-    // The ids of the other strings, whose digests are in `firsts`.
+    // The ids of the other strings, whose digests are in `firsts`. This tree finds one of n strings
+    // in log n time, also if these strings were constructed to have equal digests.
     others: BTreeMap<String, u32>,
 }
 
@@ -45,7 +45,7 @@ impl Model for Interner {
 }
 
 impl Interner {
-    /// An empty interner. It allocates nothing now; later calls use `alloc`.
+    /// Returns an empty interner. This call does not allocate. Later calls allocate with `alloc`.
     pub fn new(alloc: Global) -> Interner
         ensures { result ≡ [] }
     {
@@ -56,9 +56,10 @@ impl Interner {
         }
     }
 
-    /// Returns the id of `text`, and adds it under the next id if it is new. Allocates only for a
-    /// new string. Returns `IncompatibleSourceMap` for a new string if there are 4294967295
-    /// already, otherwise only `OutOfMemory`. After an error nothing has changed.
+    /// Returns the id of `text`. A new string is added under the next id. Only a new string
+    /// allocates. The error is `IncompatibleSourceMap` if the string is new and there are
+    /// 4294967295 strings already. Any other error is `OutOfMemory`. An error leaves the interner
+    /// unchanged.
     pub fn add(&mut self, text: &str) -> Result<u32>
         ensures id { Gives (λ id. id) result (id_for self.old text.now) }
         ensures texts { OnOk result (self.new ≡ with_text self.old text.now) }
@@ -66,7 +67,8 @@ impl Interner {
         // equal strings have equal ids, and `get` of the id returns the string
         ensures index { IfOk result (λ id. id_of text.now self.new ≡ Some id) }
         ensures text { IfOk result (λ id. slice_get self.new id ≡ Some text.now) }
-        // only a new string within the limit allocates
+        // an existing string causes no error; a new string, if no id is left for it, always causes
+        // `IncompatibleSourceMap`
         ensures existing { IsSome (id_of text.now self.old) → IsOk result }
         ensures full { id_for self.old text.now ≡ Err IncompatibleSourceMap
             → result ≡ Err IncompatibleSourceMap }
@@ -92,7 +94,7 @@ impl Interner {
         Ok(id)
     }
 
-    /// The string with this id, or `None`.
+    /// The string with this id, or `None` if no string has this id.
     pub fn get(&self, id: u32) -> Option<&str>
         ensures text { option_map (λ text. text.now) result ≡ slice_get self.now id }
     {
@@ -141,7 +143,7 @@ fn text_at(texts: &[String], id: u32) -> Option<&str>
     }
 }
 
-// Two strings may have equal digests, so the candidate is compared.
+// Two strings may have equal digests, so the whole strings are compared.
 fn matching_id(texts: &[String], text: &str, id: Option<u32>) -> Option<u32>
     ensures { result ≡ matching_id (map string_bytes texts.now) text.now id }
 {

@@ -1,5 +1,5 @@
-//! An interner: numbers texts in the order in which they first occur. The time is n log n at worst,
-//! also for texts that are made to collide.
+//! Numbers texts in the order in which they first occur. The time for n texts is n log n at worst,
+//! also if the texts were constructed to have equal hashes.
 #![tactic(auto)]
 
 mod digests;

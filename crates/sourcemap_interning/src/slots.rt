@@ -1,4 +1,4 @@
-//! A hash table with open addressing from the hash of a text to its number.
+//! A hash table with open addressing. It finds the number of a text by the hash of the text.
 ghost use Rattle.std.specs.Prelude.{◌≡◌, ◌≤◌, ◌+◌, ℕ, List, map, length, slice_get, Some};
 ghost use Rattle.std.specs.Str.{bytes_eq};
 ghost use Rattle.sourcemap_interning.specs.Slots.{AreRight, IsProbed, IsRight, hash_of, start_of};
@@ -22,14 +22,14 @@ pub(crate) struct Slot {
 pub(crate) enum Probe {
     // the number of the text
     Found(u32),
-    // the text is in no slot; the index of the first free one
+    // the text is in no slot that the search reads; the index of the first free slot
     Free(usize),
-    // the text is in no slot, and none is free
+    // all slots that the search reads are taken by other texts
     Full,
 }
 
-// The seed of the kit's hash is fixed, so texts that collide are easy to make. `TextIndex` bounds
-// what they cost.
+// The seed of `FoldHasher` is fixed, so texts with equal hashes are easy to construct. `TextIndex`
+// limits the time that such texts cost.
 pub(crate) fn hash_of(text: &str) -> u32
     ensures { result ≡ hash_of text.now }
 {

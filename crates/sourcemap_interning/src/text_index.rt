@@ -41,7 +41,7 @@ impl<'a> Model for TextIndex<'a> {
 }
 
 impl<'a> TextIndex<'a> {
-    // An empty index whose searches start at slots up to `mask`.
+    // An empty index. A search starts at one of the slots from 0 to `mask`, inclusive.
     fn with_mask(alloc: Global, mask: usize) -> Result<Self, AllocError>
         requires { mask ≤ 4294967296 * 64 }
         ensures { IfOk result (λ index. index ≡ []) }
@@ -87,8 +87,9 @@ impl<'a> TextIndex<'a> {
         }
     }
 
-    /// The number of a text. A new text gets the next number; there must be fewer than 4294967295
-    /// others. The only error is `OutOfMemory`; it leaves the index unchanged.
+    /// Returns the number of a text. A new text gets the next number; before it is added, there
+    /// must be fewer than 4294967295 texts. The only error is `OutOfMemory`; it leaves the index
+    /// unchanged.
     pub fn number_of(&mut self, text: &'a str) -> errors::Result<u32>
         requires few { id_of text.now self.old ≡ None → length self.old < 4294967295 }
         ensures number { IfOk result (λ number. id_of text.now self.new ≡ Some number) }
@@ -101,7 +102,9 @@ impl<'a> TextIndex<'a> {
         Ok(number)
     }
 
-    // Grows the table once there are at least half as many texts as start slots.
+    // Grows the table if there are at least half as many texts as slots where a search can start.
+    // There are `mask` + 1 such slots. The texts and their numbers stay the same, also after an
+    // error.
     fn grow(&mut self) -> Result<(), AllocError>
         ensures { self.new ≡ self.old }
     {

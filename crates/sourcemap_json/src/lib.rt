@@ -1,5 +1,6 @@
 //! Facade for records of source maps, junk headers, data URLs, detection and references. It re-exports
-//! from the crates of headers, records, detection and references.
+//! items of `sourcemap_headers`, `sourcemap_records`, `sourcemap_detection` and
+//! `sourcemap_references`.
 #![tactic(auto)]
 
 pub mod decoder;

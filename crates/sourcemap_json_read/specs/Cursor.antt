@@ -51,14 +51,14 @@ remaining_from text position = record { tokens = tokens_from text position; byte
 abbrev pub IsStep : List ℕ → Position → Step → Position → Type 0
 IsStep text position step after = Takes (remaining_from text position) step (remaining_from text after)
 
--- the position after an opening token of one byte, which is allowed here
+-- an opening bracket is allowed at `position`, and `after` is the position after its one byte
 abbrev pub Opens : Position → Position → Type 0
 Opens position after = (may_begin (grammar_state position.state) ≡ true) × (after ≡ record { at = position.at + 1; state = Fresh })
 
--- the position after a closing token of one byte, which is allowed here
+-- a closing bracket is allowed at `position`, and `after` is the position after its one byte
 abbrev pub Closes : Position → Position → Type 0
 Closes position after = (may_close (grammar_state position.state) ≡ true) × (after ≡ record { at = position.at + 1; state = AfterValue })
 
--- the position after a word, which is allowed here
+-- `word` is at `position` and is allowed there, and `after` is the position after the word
 abbrev pub PassesWord : List ℕ → Position → List ℕ → Position → Type 0
 PassesWord text position word after = (may_begin (grammar_state position.state) ≡ true) × IsWordAt text position.at word after.at × (after.state ≡ AfterValue)

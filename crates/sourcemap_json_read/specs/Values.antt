@@ -1,4 +1,4 @@
--- What a list of JSON tokens begins with, as the kit reads it.
+-- Lists of JSON tokens that begin with a value, with the items of an array or with the members of an object.
 use Rattle.std.specs.Prelude.{◌≡◌, ℕ, List, Some}
 use Rattle.json.specs.Token.{Token}
 use Rattle.json.specs.Json as json
@@ -10,12 +10,14 @@ abbrev pub BeginsWithValue : ℕ → List Token → Data → List Token → Type
 BeginsWithValue depth old d new =
     (j : json.Json) × (json.value depth old ≡ Some (j, new)) × (of_json j ≡ Some d)
 
--- `old` begins with the items of an array and its end: fewer than `most` items, each of at most `depth` levels
+-- `old` begins with the items of an array and the closing bracket, and goes on with `new`. There are fewer than `most`
+-- items, each of at most `depth` levels
 abbrev pub BeginsWithItems : ℕ → ℕ → List Token → Items → List Token → Type 0
 BeginsWithItems depth most old ds new =
     (js : json.Items) × (json.items (json.value depth) most old ≡ Some (js, new)) × (of_items js ≡ Some ds)
 
--- `old` begins with the members of an object and its end. Inserted into `before` one after another, they give `after`
+-- `old` begins with the members of an object and the closing bracket, and goes on with `new`. There are fewer than
+-- `most` members, with values of at most `depth` levels. Inserted into `before` one after another, they give `after`
 abbrev pub BeginsWithMembers : ℕ → ℕ → List Token → Members → Members → List Token → Type 0
 BeginsWithMembers depth most old before after new =
     (ms : json.Members) × (json.members (json.value depth) most old ≡ Some (ms, new))

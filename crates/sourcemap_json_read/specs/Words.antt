@@ -3,11 +3,11 @@ use Rattle.std.specs.Prelude.{◌≡◌, ℕ, ◌+◌, List, ◌++◌, drop, len
 use Rattle.std.specs.Str.Parse.{AllDigits, digits_value}
 use Rattle.json.specs.Word.{ends_word}
 
--- the word is at `from` and ends at `end`
+-- `word` is at index `from` and ends before index `end`; punctuation, white space or the end of the text follows it
 abbrev pub IsWordAt : List ℕ → ℕ → List ℕ → ℕ → Type 0
 IsWordAt text from word end = (drop from text ≡ word ++ drop end text) × (ends_word (drop end text) ≡ true)
 
--- the digits from `from` to `end` have this value
+-- the bytes from index `from` to index `end`, exclusive, are decimal digits of the number `value`
 pub record AreDigits (text : List ℕ) (from value end : ℕ) : Type 0 where
   pub digits : List ℕ
   pub split : drop from text ≡ digits ++ drop end text

@@ -4,11 +4,11 @@ ghost use Rattle.json.specs.Filled.{Placed};
 
 use std::simd::Simd;
 
-/// Zeros to extend a buffer by. One step appends at most all of them.
+/// Zeros to extend a buffer by, at most 4096 bytes at a time.
 pub static ZEROS: [u8; 4096] = [0; 4096];
 
-/// Stores the first N bytes of `text` by one load and one store, whether all of them are needed or
-/// not.
+/// Stores the first `N` bytes of `text` at index `to` of `buffer`, by one load and one store. The
+/// caller may need fewer of these bytes.
 #[inline(always)]
 pub fn store_block<const N: usize>(buffer: &mut [u8], to: usize, text: &[u8])
     requires { (N ≤ length text.now) × (to + N ≤ length buffer.old) }

@@ -34,7 +34,7 @@ fn is_punctuation(byte: u8) -> bool
         | (byte == b',')
 }
 
-/// Whether a word ends before `at`: punctuation, white space or the end of the text follows.
+/// Whether a word ends before `at`: punctuation, white space or the end of the text is at `at`.
 #[inline(always)]
 pub(crate) fn is_word_end(text: &[u8], at: usize) -> bool
     ensures { result ≡ ends_word (drop at text.now) }
@@ -43,8 +43,8 @@ pub(crate) fn is_word_end(text: &[u8], at: usize) -> bool
     is_punctuation(byte) | is_white(byte)
 }
 
-/// Returns the index after the white space at `from`, or `from` if there is none. From either index
-/// on, the text has the same lexemes.
+/// Returns the index after the white space at `from`, or `from` if no white space is there. From
+/// either index on, the text has the same lexemes.
 #[inline(always)]
 pub(crate) fn skip_space(text: &[u8], from: usize) -> usize
     ensures same { lex between (drop result text.now) ≡ lex between (drop from text.now) }
@@ -61,8 +61,8 @@ pub(crate) fn skip_space(text: &[u8], from: usize) -> usize
     at
 }
 
-// The index after the blanks that start at `from`. Most white space of an indented text is blanks,
-// and one comparison tests for a blank.
+// The index after the run of spaces at `from`, or `from` if no space is there. Most white space of
+// an indented text is spaces, and one comparison tests for a space.
 #[inline(always)]
 fn skip_blanks(text: &[u8], from: usize) -> usize
     ensures same { lex between (drop result text.now) ≡ lex between (drop from text.now) }

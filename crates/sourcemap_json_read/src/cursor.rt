@@ -1,5 +1,6 @@
 //! A cursor over the tokens of a JSON text. It returns each string decoded, as a `String`. It
-//! supports the forms that source maps are written in, and stops with `Unsupported` at any other.
+//! supports the forms that source maps are written in, and stops with `Unsupported` at any other
+//! form.
 ghost use Rattle.std.specs.Prelude.{◌≡◌, ◌<◌, ◌+◌, ◌^◌, IfOk, drop, length};
 ghost use Rattle.std.specs.Str.{IsUtf8};
 ghost use Rattle.json.specs.Ascii.{quote};
@@ -33,7 +34,8 @@ pub(crate) enum Step {
     End,
 }
 
-/// What the last token was, and so what may follow.
+/// What the last token was, and so what may follow. `Fresh` is the state at the start of a text,
+/// and after an opening bracket or a colon.
 #[derive(Clone, Copy, Drop)]
 pub(crate) enum State {
     Fresh,
@@ -86,9 +88,10 @@ impl<'a> Model for Cursor<'a> {
 
 impl<'a> Cursor<'a> {
     /// A cursor at the start of a text. It allocates one scratch buffer for all strings with
-    /// escapes or characters past ASCII. No string decodes to more bytes than the JSON text has.
-    /// The further capacity is for blocks that are stored past the end of a decoded string. If the
-    /// text has no string with escapes or characters past ASCII, the buffer is never written.
+    /// escapes or characters past ASCII. For a valid text without such strings the buffer is never
+    /// written. The capacity of the buffer is the length of the text plus `3 * SLACK` bytes. No
+    /// string decodes to more bytes than the text has, and blocks are stored past the end of a
+    /// decoded string.
     pub(crate) fn new(alloc: Global, text: &'a [u8]) -> Result<Cursor<'a>, AllocError>
         ensures { IfOk result
             (λ cursor. cursor ≡ record { tokens = tokens text.now; bytes = text.now }) }
@@ -119,8 +122,8 @@ impl<'a> Cursor<'a> {
     }
 }
 
-// The position after white space. After a value, a comma and the white space after the comma are
-// skipped too.
+// The position after the white space at `position`. A comma after a value is skipped too, with the
+// white space that follows the comma.
 #[inline(always)]
 fn skip_comma(text: &[u8], position: Position) -> Position
     ensures same { tokens_from text.now result ≡ tokens_from text.now position }
@@ -178,7 +181,8 @@ fn read_step(
     }
 }
 
-// The position after an opening bracket, where one is allowed.
+// The position after the opening bracket at `position`. The error is `Unsupported` if no opening
+// bracket is allowed there.
 #[inline(always)]
 fn after_open(position: Position) -> Result<Position, Stop>
     requires { position.at + 1 < 2 ^ 64 }
@@ -193,7 +197,8 @@ fn after_open(position: Position) -> Result<Position, Stop>
     Err(Stop::Unsupported)
 }
 
-// The position after a closing bracket, where one is allowed.
+// The position after the closing bracket at `position`. The error is `Unsupported` if no closing
+// bracket is allowed there.
 #[inline(always)]
 fn after_close(position: Position) -> Result<Position, Stop>
     requires { position.at + 1 < 2 ^ 64 }

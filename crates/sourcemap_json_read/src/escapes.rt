@@ -10,7 +10,8 @@ use crate::blocks::store_byte;
 use crate::bytes::byte_at;
 
 /// Decodes the escape at `at` into the buffer from `to` on. Returns the index after the stored
-/// bytes in the buffer, and the index after the escape in the text.
+/// bytes in the buffer, and the index after the escape in the text. `None` if the escape is
+/// invalid.
 #[inline(always)]
 pub(crate) fn store_escape(
     buffer: &mut [u8],
@@ -34,7 +35,7 @@ pub(crate) fn store_escape(
     Some((to + 1, at + 2))
 }
 
-/// The byte that the two-byte escape at `at` decodes to, or 0 if there is none.
+/// The byte that the two-byte escape at `at` decodes to, or 0 if no such escape is there.
 #[inline(always)]
 pub(crate) fn short_escape_at(text: &[u8], at: usize) -> u8
     requires { at + 2 ≤ length text.now }
@@ -46,8 +47,8 @@ pub(crate) fn short_escape_at(text: &[u8], at: usize) -> u8
     short_escape(text[at + 1])
 }
 
-// For each byte, what a backslash and this byte decode to, or 0. A table takes the same time for
-// each byte, while branches are often mispredicted.
+// For each byte, what a backslash and this byte decode to, or 0 if they are not a two-byte escape.
+// A table takes the same time for each byte, while branches are often mispredicted.
 #[rattlefmt::skip]
 static SHORT: [u8; 256] = [
     0, 0, 0, 0, 0, 0, 0, 0, 0, 0, 0, 0, 0, 0, 0, 0,
@@ -68,7 +69,7 @@ static SHORT: [u8; 256] = [
     0, 0, 0, 0, 0, 0, 0, 0, 0, 0, 0, 0, 0, 0, 0, 0,
 ];
 
-/// The byte that a backslash and this byte decode to, or 0 if they are no escape.
+/// The byte that a backslash and this byte decode to, or 0 if they are not a two-byte escape.
 #[inline(always)]
 fn short_escape(byte: u8) -> u8
     ensures value { 0 < result → short_escape byte ≡ Some result }
@@ -104,7 +105,7 @@ fn store_bytes(buffer: &mut [u8], to: usize, bytes: &[u8])
 }
 
 /// The character of the `\u` escape at `at`, or of the two escapes there that are a surrogate pair.
-/// Also returns the index after the escape or the pair.
+/// Also returns the index after the escape or the pair. `None` if neither is there.
 fn unicode_escape(text: &[u8], at: usize) -> Option<(char, usize)>
     requires { at ≤ length text.now }
     ensures decodes { IfSome result
@@ -132,7 +133,7 @@ fn surrogate_pair(high: u32, low: u32) -> Option<char>
     char::from_u32(0x10000 + (high - 0xd800) * 1024 + (low - 0xdc00))
 }
 
-/// The UTF-16 code unit of the `\u` escape at `at`.
+/// The UTF-16 code unit of the `\u` escape at `at`, or `None` if no such escape is there.
 fn code_unit(text: &[u8], at: usize) -> Option<u32>
     requires { at ≤ length text.now + 6 }
     ensures { IfSome result (λ unit. SpellsUnit text.now at unit) }
@@ -147,7 +148,7 @@ fn code_unit(text: &[u8], at: usize) -> Option<u32>
     Some(first * 4096 + second * 256 + third * 16 + fourth)
 }
 
-/// The value of the hexadecimal digit at `at`.
+/// The value of the hexadecimal digit at `at`, or `None` if no such digit is there.
 fn digit(text: &[u8], at: usize) -> Option<u32>
     ensures value { IfSome result (λ value. value ≡ digit_value (get_or text.now at 32)) }
     ensures small { IfSome result (λ value. value < 16) }

@@ -98,7 +98,9 @@ fn fill_block(
     }
 }
 
-/// Copies plain bytes where the text or the buffer is too short for `fill`.
+/// Copies the plain bytes at `from` into the buffer from `start` on. Used where the text or the
+/// buffer is too short for `fill`. Stops before a byte that is not plain, and at the end of the
+/// text or the buffer. Returns the indices reached in the buffer and in the text.
 pub(crate) fn fill_run(buffer: &mut [u8], start: usize, text: &[u8], from: usize) -> (usize, usize)
     requires { (start ≤ length buffer.old) × (from ≤ length text.now) }
     ensures len { length buffer.new ≡ length buffer.old }

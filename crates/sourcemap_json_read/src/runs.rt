@@ -7,7 +7,7 @@ ghost use Rattle.sourcemap_json_read.specs.Runs.{is_bare, is_bare_stop, is_plain
 use std::alloc::AllocError;
 use std::simd::prelude::*;
 
-/// Returns the end of the run of plain ASCII bytes that starts at `from`.
+/// Returns the index after the run of plain ASCII bytes that starts at `from`.
 #[inline(always)]
 pub(crate) fn bare_end(text: &[u8], from: usize) -> usize
     requires { from ≤ length text.now }
@@ -25,7 +25,7 @@ pub(crate) fn bare_end(text: &[u8], from: usize) -> usize
     bare_end_by_bytes(text, at)
 }
 
-// `bare_end` byte by byte, for the end of the text.
+// `bare_end`, byte by byte. Used only near the end of a text, where fewer than 32 bytes are left.
 #[inline(never)]
 fn bare_end_by_bytes(text: &[u8], from: usize) -> usize
     requires { from ≤ length text.now }
@@ -40,7 +40,7 @@ fn bare_end_by_bytes(text: &[u8], from: usize) -> usize
 }
 
 /// Appends to `out` the run of plain bytes that starts at index `from` of `text`. Returns the index
-/// where the run ends.
+/// after the run.
 #[inline(always)]
 pub fn copy_run(out: &mut Vec<u8>, text: &[u8], from: usize) -> Result<usize, AllocError>
     requires { from ≤ length text.now }
@@ -100,8 +100,8 @@ fn bare_stops(bytes: u8x32) -> u64
     (quotes | backslashes | low | wide).to_bitmask()
 }
 
-/// The end of the run of plain bytes that starts at `from`. Searches byte by byte, for the last
-/// bytes of a text.
+/// The index after the run of plain bytes that starts at `from`. Tests byte by byte. Used only near
+/// the end of a text, where fewer than 32 bytes are left.
 #[inline(never)]
 fn run_end_by_bytes(text: &[u8], from: usize) -> usize
     requires { from ≤ length text.now }

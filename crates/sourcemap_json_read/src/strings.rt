@@ -16,8 +16,8 @@ use std::alloc::{AllocError, Global};
 use std::str::from_utf8_unchecked;
 
 /// Decodes the string whose first byte after the opening quote is at `start`. Also returns the
-/// index after the closing quote. Overwrites `scratch`, where strings with escapes or characters
-/// past ASCII are decoded first.
+/// index after the closing quote. A string with escapes or characters past ASCII is first decoded
+/// in `scratch`, and overwrites what is there. The error is `Unsupported` if the string is invalid.
 pub(crate) fn read_string(
     alloc: Global,
     text: &[u8],
@@ -39,8 +39,8 @@ pub(crate) fn read_string(
     read_escaped(alloc, text, start, scratch)
 }
 
-/// Decodes a string with escapes or characters past ASCII, and tests that the decoded bytes are
-/// UTF-8.
+/// Decodes a string with escapes or characters past ASCII. The error is `Unsupported` if the string
+/// is invalid, or if the decoded bytes are not UTF-8.
 #[inline(never)]
 fn read_escaped(
     alloc: Global,
@@ -62,9 +62,9 @@ fn read_escaped(
     Ok((String::from_str(alloc, decoded)?, end))
 }
 
-/// Decodes the string into the front of `buffer`, and overwrites what is there. The buffer grows by
-/// zeros within its capacity. Returns the number of bytes decoded and the index after the closing
-/// quote.
+/// Decodes the string into the front of `buffer`, and overwrites what is there. Appends zeros to
+/// `buffer` if it is too short. The scratch buffer of a cursor has enough capacity for these zeros.
+/// Returns the number of bytes decoded and the index after the closing quote.
 #[inline(always)]
 fn unescape(buffer: &mut Vec<u8>, text: &[u8], start: usize) -> Result<(usize, usize), Stop>
     requires { start ≤ length text.now }
@@ -91,7 +91,7 @@ fn unescape(buffer: &mut Vec<u8>, text: &[u8], start: usize) -> Result<(usize, u
     }
 }
 
-/// Extends the buffer by zeros if fewer than `SLACK` of its bytes are after `to`. Appends as many
+/// Extends the buffer by zeros if it has fewer than `SLACK` bytes from `to` on. Appends as many
 /// zeros as the last `left` bytes of the text may need, but at most all of [`ZEROS`].
 #[inline(always)]
 fn extend_with_zeros(buffer: &mut Vec<u8>, to: usize, left: usize) -> Result<(), AllocError>
@@ -107,7 +107,8 @@ fn extend_with_zeros(buffer: &mut Vec<u8>, to: usize, left: usize) -> Result<(),
 }
 
 /// Decodes what `fill` stopped at: an escape, or plain bytes near the end of the text or the
-/// buffer. Returns `None` if nothing at `at` can be decoded.
+/// buffer. Returns the indices reached in the buffer and in the text, or `None` if nothing at `at`
+/// can be decoded.
 #[inline(always)]
 fn fill_rare(buffer: &mut [u8], to: usize, text: &[u8], at: usize) -> Option<(usize, usize)>
     requires { (to + 4 ≤ length buffer.old) × (at ≤ length text.now) }

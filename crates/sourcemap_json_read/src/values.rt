@@ -1,6 +1,6 @@
 //! JSON values from bytes. The fast path follows a cursor, and moves the cursor's strings into the
-//! value. If the text has a form that the fast path does not support, the kit's reader reads the
-//! whole text again.
+//! value. If the text has a form that the fast path does not support, `serde_json` reads the whole
+//! text again.
 ghost use Rattle.std.specs.Prelude.{◌≡◌, ◌≤◌, length, Some, None, IfOk, IfErr, IsUtf8};
 ghost use Rattle.serde_json.specs.Data.{no_members, depth as nesting};
 ghost use Rattle.serde_json.specs.Errors.{IsMemory, IsOfText};
@@ -14,12 +14,13 @@ use crate::stop::Stop;
 use serde_json::{Error, Map, Value};
 use std::alloc::{AllocError, Global};
 
-// The most levels of arrays and objects that the kit's reader accepts.
+// The most levels of arrays and objects that `serde_json` accepts.
 const MAX_DEPTH: usize = 127;
 
-/// Returns the JSON value of these bytes, as the kit's `Value::from_slice` does. Returns a syntax
-/// error if they are not UTF-8, are not a JSON text or nest deeper than 127 levels. Of duplicate
-/// keys the last value is kept. Any other error is out of memory.
+/// Returns the JSON value of these bytes, as `Value::from_slice` does. Returns an error of category
+/// `Syntax` or `Eof` if they are not UTF-8, are not a JSON text, nest deeper than 127 levels or
+/// have a number too large for `f64`. Of duplicate keys the last value is kept. Any other error is
+/// out of memory.
 pub fn value_from_slice(alloc: Global, bytes: &[u8]) -> Result<Value, Error>
     ensures ok { IfOk result (λ v. IsUtf8 bytes.now × (read_json bytes.now ≡ Some (view v))) }
     ensures nests { IfOk result (λ v. nesting (view v) ≤ max_depth) }
@@ -48,7 +49,8 @@ fn read_fast(alloc: Global, bytes: &[u8]) -> Result<Value, Stop>
 }
 
 /// Reads a value of at most `depth` levels. `first` is its first step, which the cursor has just
-/// read. Inlined into the loops over items and members, so that a string or a number takes no call.
+/// read. Inlined into the loops over items and members, which saves a call for each string and each
+/// number.
 #[cycle(read)]
 #[inline(always)]
 fn read(alloc: Global, first: Step, cursor: &mut Cursor<'_>, depth: usize) -> Result<Value, Stop>
@@ -89,7 +91,7 @@ fn read_items(alloc: Global, cursor: &mut Cursor<'_>, depth: usize) -> Result<Ve
     'items: loop {
         let first = cursor.next(alloc)?;
         if let Step::EndArray = first {
-            // frees the spare capacity, so that the strings read next can use it
+            // frees the spare capacity: the strings that are read next can use this memory
             found.shrink_to_fit();
             return Ok(found);
         }

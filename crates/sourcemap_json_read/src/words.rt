@@ -28,7 +28,8 @@ pub(crate) fn word_end(text: &[u8], from: usize, word: &[u8]) -> Result<usize, S
     }
 }
 
-/// Returns the number at `from`, and the index after it.
+/// Returns the whole number at `from`, and the index after its digits. The error is `Unsupported`
+/// if anything else is there, such as a sign, a fraction, a leading zero or more than 16 digits.
 #[inline(always)]
 pub(crate) fn whole_number(text: &[u8], from: usize) -> Result<(u64, usize), Stop>
     ensures { IfOk result (λ read. IsWordAt text.now from (decimal read.0) read.1) }
@@ -53,7 +54,8 @@ fn is_shortest(text: &[u8], from: usize, end: usize) -> bool
     end - from == 1 || byte_at(text, from) != b'0'
 }
 
-// The value of the digits at `from`, and the index after them.
+// The value of the digits at `from`, and the index after them. If no digit is there, these are 0
+// and `from`. The error is `Unsupported` if the value has more than 16 digits.
 #[inline(always)]
 fn digits(text: &[u8], from: usize) -> Result<(u64, usize), Stop>
     ensures { IfOk result (λ read. AreDigits text.now from read.0 read.1) }

@@ -1,4 +1,4 @@
--- Values without fractions, with each key once and in order: their compact texts are UTF-8 and read back.
+-- Values without floats, with each key once and in order: their compact texts are UTF-8 and read back.
 use Rattle.std.specs.Prelude.{◌≡◌, Bool, Some, IsUtf8}
 use Rattle.json.specs.Print.{IsNumber}
 use Rattle.json.specs.Tree.{HasNumbers, ItemsHaveNumbers, MembersHaveNumbers}

@@ -48,8 +48,8 @@ fn put_escaped(out: &mut Vec<u8>, text: &[u8]) -> Result<(), AllocError>
     let mut try_blocks = true;
     loop {
         let from = put_blocks(out, text, at, try_blocks)?;
-        // Once `put_blocks` stops after at most `LONG` bytes of the string, no later call tries
-        // blocks: the `\u` escapes are probably close to each other.
+        // `put_blocks` stops at each byte that needs a `\u` escape. If it stops after at most
+        // `LONG` bytes, such bytes are probably close to each other, so no later call tries blocks.
         try_blocks = from - at > LONG;
         let rest = &text[from..];
         if is_plain(rest) {
@@ -65,9 +65,10 @@ fn put_escaped(out: &mut Vec<u8>, text: &[u8]) -> Result<(), AllocError>
     }
 }
 
-// Appends a part of a long string, from `from` on, escaped. `out` is first extended by many zeros
-// at once, and finally cut after the last byte written. Returns the index reached in the string,
-// which may be `from`.
+// Appends a part of the string from `from` on, escaped. Appends nothing if `try_blocks` is false,
+// or if at most `LONG` bytes of the string are left. `out` is first extended by many zeros at once,
+// and finally cut after the last byte written. Returns the index reached in the string, which may
+// be `from`.
 #[inline(always)]
 fn put_blocks(
     out: &mut Vec<u8>,
@@ -90,9 +91,9 @@ fn put_blocks(
     Ok(at)
 }
 
-// Writes the string from `from` on, escaped, into the buffer from `start` on. Stops before a byte
-// that needs a `\u` escape, near the end of the string and where the buffer is nearly full. Returns
-// the indices reached in the buffer and in the string.
+// Writes the string from `from` on, escaped, into the buffer from `start` on. Stops if the next
+// byte needs a `\u` escape, if at most 32 bytes of the string are left, or if fewer than 34 bytes
+// of the buffer are left. Returns the indices reached in the buffer and in the string.
 fn fill(buffer: &mut [u8], start: usize, text: &[u8], from: usize) -> (usize, usize)
     requires { (start ≤ length buffer.old) × (from ≤ length text.now) }
     ensures to_within { result.0 ≤ length buffer.new }
@@ -157,7 +158,8 @@ fn letter(byte: u8) -> u8
     requires { is_stop byte ≡ true }
     ensures { result ≡ escape_letter byte }
 {
-    // a table for all control bytes, since a branch would be mispredicted
+    // The table is read also for a quote and a backslash, so that the `if` only selects one of two
+    // values. A branch would be mispredicted.
     let of_control = LETTERS[usize::from(byte % 32)];
     if byte < b' ' { of_control } else { byte }
 }

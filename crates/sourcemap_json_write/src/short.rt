@@ -12,10 +12,10 @@ use sourcemap_json_read::blocks::{store_block, store_byte};
 use std::alloc::AllocError;
 use std::simd::Simd;
 
-// The length of the longest short string.
+// The length of the longest short string, in bytes.
 const SHORT: usize = 48;
 
-/// A string longer than this is written by blocks, without a test of the whole string first.
+/// A string of more bytes than this is written by blocks, without a test of the whole string first.
 pub(crate) const LONG: usize = 1024;
 
 // At least as many zeros as a short string in quotes has bytes. A vector is extended by them, with
@@ -71,7 +71,7 @@ pub(crate) fn put_between_quotes(out: &mut Vec<u8>, text: &[u8]) -> Result<(), A
     Ok(())
 }
 
-/// Appends bytes to `out`. If they are few, they are copied without a call.
+/// Appends bytes to `out`. If there are at most `SHORT` bytes, they are copied without a call.
 #[inline(always)]
 pub(crate) fn put_bytes(out: &mut Vec<u8>, text: &[u8]) -> Result<(), AllocError>
     ensures { OnOk result (out.new.items ≡ out.old.items ++ text.now) }
@@ -86,7 +86,8 @@ pub(crate) fn put_bytes(out: &mut Vec<u8>, text: &[u8]) -> Result<(), AllocError
     Ok(())
 }
 
-// The last block may overlap the one before it.
+// Whether a string needs no escape, tested by blocks of 32 bytes. The last block may overlap the
+// block before it.
 fn are_blocks_plain(text: &[u8]) -> bool
     requires { 32 ≤ length text.now }
     ensures { OnTrue result (escape text.now ≡ text.now) }

@@ -1,4 +1,4 @@
-//! JSON values as compact JSON texts. A value that holds a fraction is left to the kit's writer.
+//! JSON values as compact JSON texts. `serde_json` writes the values that hold a float.
 ghost use Rattle.std.specs.Prelude.{◌≡◌, ◌≤◌, ◌++◌, ◌∷◌, [], Some, false, IfOk, OnOk, int_lt, pos, string_bytes, FitsSigned, IsUtf8};
 ghost use Rattle.std.specs.Int.{w64};
 ghost use Rattle.json.specs.Ascii.{open_brace, open_bracket};
@@ -14,8 +14,8 @@ use itoa::Buffer;
 use serde_json::{Map, Number, Value};
 use std::alloc::{AllocError, Global};
 
-/// Returns the compact JSON text of a value, as the kit's `to_vec` does, and faster where strings
-/// have escapes. The error is out of memory.
+/// Returns the compact JSON text of a value, as `Value::to_vec` does, but faster where strings have
+/// escapes. The error is out of memory.
 pub fn value_to_vec(alloc: Global, value: &Value) -> Result<Vec<u8>, AllocError>
     ensures text { IfOk result (λ b. has_float (view value.now) ≡ false
         → b.items ≡ compact_text (view value.now)) }
@@ -45,7 +45,7 @@ pub fn value_to_string(alloc: Global, value: &Value) -> Result<String, AllocErro
 /// Why a value was not written.
 #[derive(Drop)]
 enum Refusal {
-    /// The value holds a fraction. The kit's writer then writes the whole value.
+    /// The value holds a float. `serde_json` then writes the whole value.
     Fraction,
     OutOfMemory,
 }
@@ -56,8 +56,9 @@ impl From<AllocError> for Refusal {
     }
 }
 
-/// Appends the text of a value to `out`. Inlined into the loops over items and members, so that
-/// most values take no call: a function that may recurse has a large frame.
+/// Appends the text of a value to `out`. This function is inlined into the loops over items and
+/// members. So only arrays and objects need a call of a recursive function. Such a function has a
+/// large frame.
 #[cycle(put)]
 #[inline(always)]
 fn put_value(out: &mut Vec<u8>, value: &Value) -> Result<(), Refusal>
@@ -124,7 +125,7 @@ fn put_comma(out: &mut Vec<u8>, later: bool) -> Result<(), AllocError>
     Ok(())
 }
 
-/// Appends a whole number to `out`, in decimal. For any other number the error is `Fraction`.
+/// Appends an integer to `out`, in decimal. For a float the error is `Fraction`.
 fn put_number(out: &mut Vec<u8>, number: &Number) -> Result<(), Refusal>
     ensures text { OnOk result
         (out.new.items ≡ out.old.items ++ number_text (number_view number.now)) }

@@ -28,8 +28,9 @@ BeginsLine tokens index = 0 < index → line_at tokens index ≢ line_at tokens 
 abbrev pub ContinuesLine : List RawToken → ℕ → Type 0
 ContinuesLine tokens index = (0 < index) × (line_at tokens index ≡ line_at tokens (index - 1))
 
--- the table of the first n tokens, with one row for each line that holds one of them. The tokens from the first of a
--- row up to, not including, the first of the next row are on the line of the row
+-- if the tokens are sorted, this is the table of the first n of them, with one row for each line that holds one of the
+-- n tokens. Then all tokens from the first token of a row up to, not including, the first token of the next row are on
+-- the line of the row
 pub record IsLineTable (tokens : List RawToken) (n : ℕ) (table : LineTable) : Type 0 where
   pub same_length : length table.firsts ≡ length table.lines
   pub few : length table.lines ≤ n
@@ -47,11 +48,11 @@ pub record IsLineTable (tokens : List RawToken) (n : ℕ) (table : LineTable) : 
   pub ends : 0 < length table.lines
       → line_at tokens (n - 1) ≡ Some (slice_index table.lines (length table.lines - 1))
 
--- the table of a list of tokens in order
+-- the tokens are sorted by generated position, and this is the table of all of them
 abbrev pub IsTableOf : List RawToken → LineTable → Type 0
 IsTableOf tokens table = AreInOrder tokens × IsLineTable tokens (length tokens) table
 
--- the tokens on the line are those from low up to, not including, high
+-- if the tokens are sorted, those on the line are the tokens from index `low` up to, not including, `high`
 pub record IsSpan (tokens : List RawToken) (line low high : ℕ) : Type 0 where
   pub ordered : low ≤ high
   pub inside : high ≤ length tokens
@@ -60,11 +61,11 @@ pub record IsSpan (tokens : List RawToken) (line low high : ℕ) : Type 0 where
   pub on_line : (index : ℕ) (d : RawToken) → low ≤ index → index < high
       → (slice_index_or tokens index d).dst_line ≡ line
 
--- the numbers do not fall from one index to the next, from low up to, not including, high
+-- the numbers do not fall from one index to the next, from index `low` up to, not including, `high`
 abbrev pub Rises : (ℕ → ℕ) → (low high : ℕ) → Type 0
 Rises number low high = (index : ℕ) → low ≤ index → index + 1 < high → number index ≤ number (index + 1)
 
--- the column of the token at this index, that of d if there is none
+-- the column of the token at this index, or that of `d` if the index is past the end
 abbrev pub col_at : List RawToken → RawToken → ℕ → ℕ
 col_at tokens d index = (slice_index_or tokens index d).dst_col
 

@@ -9,19 +9,19 @@ pub record AreColumns (tokens : List RawToken) (columns : List ℕ) : Type 0 whe
   pub own : (k : ℕ) (d : RawToken) → k < length columns → slice_index columns k ≡ col_at tokens d (8 * k)
   pub all : length tokens ≤ 8 * length columns
 
--- there are no samples, or they are the columns of every eighth token. In the second case lines hold at least 32
--- tokens on average, so that a search by samples stays within its bound of comparisons
+-- there are no samples, or they are the columns of every eighth token. In the second case the lines hold at least 32
+-- tokens on average. With shorter lines, a search by samples could exceed the bound on comparisons
 abbrev pub AreSamples : (tokens : List RawToken) (lines : ℕ) (columns : List ℕ) → Type 0
 AreSamples tokens lines columns = 0 < length columns → AreColumns tokens columns × (32 * lines ≤ length tokens)
 
--- the columns of the tokens from first up to, not including, end do not fall
+-- the columns of the tokens from index `first` up to, not including, `end` do not fall
 pub record HasRisingColumns (tokens : List RawToken) (first end : ℕ) : Type 0 where
   pub ordered : first ≤ end
   pub within : end ≤ length tokens
   pub rises : (d : RawToken) → Rises (col_at tokens d) first end
 
--- of the tokens from first up to, not including, end, the index of the first that is not left of a column; end if there
--- is no such token
+-- for columns that do not fall: `index` is the index of the first token from index `first` up to, not including, `end`
+-- whose column is at least `col`, or `end` if there is no such token
 pub record IsFirstAtColumn (tokens : List RawToken) (first end col index : ℕ) : Type 0 where
   pub at_least : first ≤ index
   pub at_most : index ≤ end

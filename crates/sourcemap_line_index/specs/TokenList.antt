@@ -8,7 +8,7 @@ use Rattle.std.specs.Cmp.Lexicographic.{pointwise}
 use Rattle.std.proofs.Common.{rules}
 use Rattle.sourcemap_tokens.specs.declared.tokens.RawToken.{RawToken}
 
--- tokens with equal fields
+-- whether two tokens are equal in all fields
 abbrev pub same_raw : RawToken → RawToken → Bool
 same_raw =
     eq_of_both (on (λ t. t.dst_line) nat_eq)
@@ -19,7 +19,7 @@ same_raw =
     (eq_of_both (on (λ t. t.name_id) nat_eq)
     (on (λ t. t.is_range) beq))))))
 
--- lists of equal tokens
+-- whether two lists have the same length, and equal tokens at each index
 abbrev pub same_tokens : List RawToken → List RawToken → Bool
 same_tokens = pointwise same_raw
 

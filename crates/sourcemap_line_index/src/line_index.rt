@@ -18,7 +18,7 @@ use std::marker::Model;
 /// The generated lines that hold tokens, each with the index of its first token.
 #[derive(Debug, Drop)]
 pub struct LineIndex {
-    // apart from `firsts`, so that a search for a line reads little memory
+    // the lines, separate from `firsts` so that a search for a line reads little memory
     lines: Vec<u32>,
     // the index of the first token of each line
     firsts: Vec<usize>,
@@ -33,7 +33,8 @@ impl Model for LineIndex {
 }
 
 impl LineIndex {
-    /// Builds the table of tokens in order. The only error is out of memory.
+    /// Builds the table of tokens that are sorted by generated position. The only error is out of
+    /// memory.
     pub fn new(alloc: Global, tokens: &[RawToken]) -> Result<LineIndex>
         requires { AreInOrder tokens.now }
         ensures table { IfOk result (λ table. IsTableOf tokens.now table) }
@@ -48,7 +49,7 @@ impl LineIndex {
                 firsts.push(index)?;
             }
         }
-        // the capacity is too high where lines between tokens are empty
+        // the capacity may be too high if some lines hold no token
         lines.shrink_to_fit();
         firsts.shrink_to_fit();
         Ok(LineIndex { lines, firsts })
@@ -85,10 +86,11 @@ impl LineIndex {
         })
     }
 
-    /// Returns the index of the token closest to the probe's position, in the list that the table
-    /// was built from. If tokens are at that position, this is the first of them, else the last
-    /// token before it. Allocates nothing. With d binary digits in the count of tokens it makes at
-    /// most 2 (d + 1) comparisons, however many tokens have the same position.
+    /// Returns the index of the token closest to the probe's position: the first token at the
+    /// position, else the last token before it. Returns `None` if all tokens are after the
+    /// position. `tokens` is the list that the table was built from. If the count of tokens has d
+    /// binary digits, the search makes at most 2 (d + 1) comparisons, however many tokens have the
+    /// same position. Allocates nothing.
     pub fn closest<P: Probe>(&self, tokens: &[RawToken], probe: &mut P) -> Option<usize>
         requires { IsTableOf tokens.now self.now }
         ensures answer { result
@@ -127,15 +129,16 @@ impl LineIndex {
         }
         let (first, end) = self.span_of(tokens, probe);
         let index = first_by_samples(tokens, samples, first, end, probe);
-        // arithmetic instead of a branch, which is mispredicted for every third position
+        // this uses arithmetic instead of a branch, which would be mispredicted for a third of the
+        // positions
         let nearest = index.min(tokens.len() - 1);
         let is_hit = (index < end) & probe.column(tokens[nearest].dst_col).is_eq();
         index.checked_sub(usize::from(!is_hit))
     }
 
-    // The range of the tokens on the probe's line, as first index and end. If the line holds no
-    // token, both are the index of the first token of a later line, or the token count if there is
-    // none.
+    // Returns the range of the tokens on the probe's line: its first index, and its end, which is
+    // the index after its last token. If the line holds no token, both are the index of the first
+    // token on a later line, or the token count if there is no such token.
     #[inline(always)]
     fn span_of<P: Probe>(&self, tokens: &[RawToken], probe: &mut P) -> (usize, usize)
         requires { IsTableOf tokens.now self.now }
@@ -164,7 +167,7 @@ impl LineIndex {
         self.lines.len()
     }
 
-    // The index of the first token of this row's line, `end` after the last row.
+    // The index of the first token of this row's line, or `end` if there is no such row.
     #[inline(always)]
     fn first_of(&self, row: usize, end: usize) -> usize
         ensures within { row < length self.now.firsts → result ≡ slice_index self.now.firsts row }
@@ -178,8 +181,8 @@ impl LineIndex {
     }
 }
 
-// `span_of` for tokens that are all on one line, as in most minified code. It reads no index, so
-// the search that follows need not wait for one.
+// As `span_of`, for tokens that are all on one line, as in most minified code. It reads no index
+// from the table, so the search that follows need not wait for such a read.
 #[inline(always)]
 fn span_of_one<P: Probe>(line: u32, count: usize, probe: &mut P) -> (usize, usize)
     ensures same { (P.position probe.old).0 ≡ line → result ≡ (0, count) }
@@ -195,7 +198,8 @@ fn span_of_one<P: Probe>(line: u32, count: usize, probe: &mut P) -> (usize, usiz
     }
 }
 
-// An upper bound for the number of lines, so that the lists of rows are allocated once.
+// An upper bound for the number of lines that hold tokens. With this capacity, each list of the
+// table is allocated once.
 fn rows_at_most(tokens: &[RawToken]) -> usize {
     match tokens.last() {
         None => 0,
@@ -213,7 +217,8 @@ fn begins_line(tokens: &[RawToken], index: usize) -> bool
     index == 0 || tokens[index].dst_line != tokens[index - 1].dst_line
 }
 
-// The row of the first line that is not before the probe's line, or the number of rows.
+// The index of the first row whose line is at or after the probe's line, or the number of rows if
+// there is no such row.
 #[inline(always)]
 fn first_at_line<P: Probe>(lines: &[u32], probe: &mut P) -> usize
     requires { Rises (slice_index lines.now) 0 (length lines.now) }
@@ -238,7 +243,7 @@ fn first_at_line<P: Probe>(lines: &[u32], probe: &mut P) -> usize
     row
 }
 
-/// A law: a count is below the power of two of its binary digits, and no fewer digits suffice.
+/// A law: a count with d binary digits is below 2^d, but not below a smaller power of 2.
 pub fn binary_digits_are_fewest()
     ensures enough { (count : ℕ) → count < 2 ^ binary_digits count }
     ensures fewest { (count digits : ℕ) → count < 2 ^ digits → binary_digits count ≤ digits }

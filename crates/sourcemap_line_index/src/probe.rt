@@ -107,15 +107,15 @@ impl Probe for KeyProbe {
 // For more steps than this, `if_less` uses an `if`, which compiles to a conditional move.
 const FAR: usize = 4096;
 
-// `steps` if `a < b`, else 0. A branch would be mispredicted half of the time, so `steps` is
-// masked.
+// `steps` if `a < b`, else 0. A branch would be mispredicted half of the time, so `steps` is masked
+// if it is at most `FAR`.
 fn if_less(a: u32, b: u32, steps: usize) -> usize
     ensures { result ≡ (if nat_lt a b then steps else 0) }
 {
     if steps > FAR {
         return if a < b { steps } else { 0 };
     }
-    // the high half is set exactly if the difference is negative
+    // the high 32 bits of the difference are all 1 if `a < b`, else all 0
     let mask = u64::from(a).wrapping_sub(u64::from(b)) >> 32;
     steps & mask as usize
 }

@@ -11,18 +11,18 @@ use std::marker::Model;
 // The distance between two samples, in tokens.
 const SPACING: usize = 8;
 
-// Fewer tokens fit in the first-level cache and need no samples.
+// Fewer tokens than this fit in the first-level cache, and need no samples.
 const MANY: usize = 1024;
 
-// A list of this length does not fit in a core's second-level cache. Its bound on comparisons is
-// high enough for a linear search of a short line.
+// A list of at least this many tokens does not fit in a core's second-level cache. The bound on
+// comparisons for such a list is high enough for a linear search of a short line.
 const LARGE: usize = 1 << 16;
 
 // The longest line that is searched linearly, in tokens.
 const FEW: usize = 16;
 
 // The least average length of a line for which samples are kept, in tokens. With shorter lines, a
-// search by samples could exceed its bound of comparisons.
+// search by samples could exceed the bound on comparisons.
 const LONG: usize = 32;
 
 /// The columns of every eighth token of a long list with long lines. Empty for any other list.
@@ -76,8 +76,9 @@ fn columns_of(alloc: Global, tokens: &[RawToken]) -> Result<Vec<u32>, AllocError
     Ok(columns)
 }
 
-// The index of the first token between `first` and `end` whose column is not left of the probe's,
-// or `end`. Uses the samples in this range, if any, before the tokens.
+// Returns the index of the first token from `first` up to, not including, `end` whose column is at
+// or after the probe's column, or `end` if there is no such token. If there are samples, and the
+// range holds at least `SPACING` tokens, it first searches the samples of the range, then tokens.
 #[inline(always)]
 pub(crate) fn first_by_samples<P: Probe>(
     tokens: &[RawToken],
@@ -102,14 +103,14 @@ pub(crate) fn first_by_samples<P: Probe>(
     let low = first.div_ceil(SPACING);
     let high = end.div_ceil(SPACING);
     let index = SPACING * first_sample(samples, low, high, probe);
-    // the sample before the token at `index` is left of the column, so the result is after that
-    // sample
+    // the last sample before `index` is also before `first`, or its column is before the probe's
+    // column; in both cases the result is after that sample
     let from = first.max(index.saturating_sub(SPACING - 1));
     first_linear(tokens, from, end.min(index), probe)
 }
 
-// The index of the first sample between `first` and `end` that is not left of the probe's column,
-// or `end`.
+// Returns the index of the first sample from `first` up to, not including, `end` that is at or
+// after the probe's column, or `end` if there is no such sample. All these indices count samples.
 fn first_sample<P: Probe>(samples: &[u32], first: usize, end: usize, probe: &mut P) -> usize
     requires ordered { first ≤ end }
     requires within { end ≤ length samples.now }
@@ -135,8 +136,8 @@ fn first_sample<P: Probe>(samples: &[u32], first: usize, end: usize, probe: &mut
     sample
 }
 
-// `first_by_samples` without samples. It searches linearly where the line is short and the list so
-// long that it is not in the processor's cache.
+// As `first_by_samples`, but without samples. If the line is short, and the list is too long for
+// the processor's cache, it uses a linear search, otherwise a binary search.
 #[inline(always)]
 fn first_without_samples<P: Probe>(
     tokens: &[RawToken],
@@ -157,8 +158,8 @@ fn first_without_samples<P: Probe>(
     first_at_column(tokens, first, end, probe)
 }
 
-// The index of the first token between `first` and `end` whose column is not left of the probe's,
-// or `end`. A binary search.
+// Returns the index of the first token from `first` up to, not including, `end` whose column is at
+// or after the probe's column, or `end` if there is no such token. Uses a binary search.
 #[inline(always)]
 fn first_at_column<P: Probe>(tokens: &[RawToken], first: usize, end: usize, probe: &mut P) -> usize
     requires { HasRisingColumns tokens.now first end }
@@ -179,8 +180,8 @@ fn first_at_column<P: Probe>(tokens: &[RawToken], first: usize, end: usize, prob
     index
 }
 
-// `first_at_column` by a linear search. For few tokens this is faster, since the processor can
-// fetch ahead.
+// As `first_at_column`, but by a linear search. For few tokens this is faster, since the processor
+// can fetch ahead.
 fn first_linear<P: Probe>(tokens: &[RawToken], first: usize, end: usize, probe: &mut P) -> usize
     requires { HasRisingColumns tokens.now first end }
     ensures found { IsFirstAtColumn tokens.now first end (P.position probe.old).1 result }

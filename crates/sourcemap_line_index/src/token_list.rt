@@ -16,7 +16,8 @@ use std::alloc::Global;
 use std::marker::Model;
 
 /// Tokens sorted by generated position, with the table of their lines, and samples of their columns
-/// if lines are long. No method changes the tokens, so the table and the samples always match them.
+/// if the list and its lines are long. No method changes the tokens, so the table and the samples
+/// always match them.
 #[derive(Debug)]
 pub struct TokenList {
     tokens: Vec<RawToken>,
@@ -50,7 +51,8 @@ impl Drop for TokenList {
 }
 
 impl TokenList {
-    /// Sorts tokens by generated position. The sort is stable. The only error is out of memory.
+    /// Sorts tokens by generated position. The sort is stable. The only error is out of memory, and
+    /// the tokens are dropped then.
     pub fn from_unsorted(mut tokens: Vec<RawToken>) -> Result<TokenList>
         ensures { Gives (λ list. list) result (Ok (in_order tokens.items)) }
     {
@@ -58,8 +60,8 @@ impl TokenList {
         TokenList::of_sorted(tokens)
     }
 
-    /// Takes tokens that are in order. The only error is out of memory, and the tokens are dropped
-    /// then.
+    /// Takes tokens that are sorted by generated position. The only error is out of memory, and the
+    /// tokens are dropped then.
     pub fn of_sorted(tokens: Vec<RawToken>) -> Result<TokenList>
         requires { AreInOrder tokens.items }
         ensures { Gives (λ list. list) result (Ok tokens.items) }
@@ -68,8 +70,8 @@ impl TokenList {
         TokenList::with_table(tokens, lines)
     }
 
-    /// Takes tokens in order and the table of their lines. The only error is out of memory, and
-    /// both are dropped then.
+    /// Takes tokens that are sorted by generated position, and the table of their lines. The only
+    /// error is out of memory, and both are dropped then.
     pub fn with_table(tokens: Vec<RawToken>, lines: LineIndex) -> Result<TokenList>
         requires { IsTableOf tokens.items lines }
         ensures { Gives (λ list. list) result (Ok tokens.items) }
@@ -105,16 +107,17 @@ impl TokenList {
         self.tokens.get(index).copied()
     }
 
-    /// Returns the token closest to a generated position, 0-based, with its index in the list. If
-    /// tokens are at that position, this is the first of them, else the last token before it.
+    /// Returns the token closest to a generated position, with its index in the list: the first
+    /// token at the position, else the last token before it. Line and column count from 0. Returns
+    /// `None` if all tokens are after the position.
     ///
-    /// The second value is the number of comparisons of this line and column with a number. With d
-    /// binary digits in the count of tokens it is at most 2 (d + 1), however many tokens have the
-    /// same position. Allocates nothing.
+    /// The second value is the number of comparisons of `line` or `col` with a number. If the count
+    /// of tokens has d binary digits, the search makes at most 2 (d + 1) comparisons, however many
+    /// tokens have the same position. Allocates nothing.
     #[inline(always)]
     pub fn closest_steps(&self, line: u32, col: u32) -> (Option<(usize, RawToken)>, u32)
         ensures answer { result.0 ≡ closest_token self.now (line, col) }
-        // the index is the token's own
+        // the list has this token at this index
         ensures own_index { IfSome result.0 (λ found. slice_get self.now found.0 ≡ Some found.1) }
         ensures small { IfSome result.0 (λ found. found.0 + 1 < 2 ^ 64) }
         ensures counted { result.1 ≤ 2 * (binary_digits (length self.now) + 1) }
@@ -127,13 +130,13 @@ impl TokenList {
         (with_token(tokens, index), probe.count())
     }
 
-    /// Returns the token that `closest_steps` returns, with its index, found by a binary search
-    /// among all tokens. This is for callers that search many lists in turn, so that no list is in
-    /// the processor's cache. Then it is faster than a search by the table, since its branches let
-    /// the processor fetch ahead.
+    /// Returns the same token and index as `closest_steps`, found by a binary search among all
+    /// tokens. This is for callers that search many lists in turn. Then no list is in the
+    /// processor's cache, and this search is faster than a search by the table, since its branches
+    /// let the processor fetch ahead.
     pub fn closest_among_many(&self, line: u32, col: u32) -> Option<(usize, RawToken)>
         ensures answer { result ≡ closest_token self.now (line, col) }
-        // the index is the token's own
+        // the list has this token at this index
         ensures own_index { IfSome result (λ found. slice_get self.now found.0 ≡ Some found.1) }
         ensures small { IfSome result (λ found. found.0 + 1 < 2 ^ 64) }
     {

@@ -15,19 +15,20 @@ use Rattle.sourcemap_map_conversions.specs.Parts.{PartsValue}
 abbrev pub list_or_empty : {X : Type 0} → Option (List X) → List X
 list_or_empty xs = unwrap_or xs []
 
--- the name for a number: its digits if it is whole, otherwise empty
+-- the name for a number: the decimal digits of an integer, with a sign if it is negative; empty for a floating-point
+-- number
 abbrev pub number_read : Num → List ℕ
 number_read (unsigned n) = decimal n
 number_read (negative z) = signed_decimal z
 number_read (float _) = []
 
--- the name for a value that may be no string
+-- the name for a value: the text of a string, the name for a number, otherwise empty
 abbrev pub name_read : Data → List ℕ
 name_read (number n) = number_read n
 name_read (string s) = s
 name_read _ = []
 
--- the file name for a value that may be no string
+-- the file name for a value: the text of a string, otherwise `<invalid>`
 abbrev pub file_read : Data → List ℕ
 file_read (string s) = s
 file_read _ = codes "<invalid>"
@@ -46,7 +47,7 @@ pub record HasFewItems (r : Fields) : Type 0 where
   pub names : length (list_or_empty r.names) ≤ 4294967295
   pub contents : length (list_or_empty r.sources_content) ≤ 4294967295
 
--- the tokens of a record's mappings, or their first error
+-- the tokens of a record's mappings, or the first error of the mappings
 abbrev pub TokensAnswer : Fields → Result (List RawToken) Error → Type 0
 TokensAnswer r answer = MappingsAnswer (list_or_empty r.mappings) (list_or_empty r.range_mappings)
     (record { sources = length (list_or_empty r.sources); names = length (list_or_empty r.names) }) answer
@@ -68,7 +69,8 @@ parts_from r tokens = record {
   contents = list_or_empty r.sources_content;
 }
 
--- the result for a record: the error for a list that is too long comes first, then that of the mappings
+-- the result for a record: `IncompatibleSourceMap` if a list is too long, otherwise the first error of the mappings,
+-- otherwise the parts
 abbrev pub PartsAnswer : Fields → Result PartsValue Error → Type 0
 PartsAnswer r (Ok p) = HasFewItems r × TokensAnswer r (Ok p.tokens) × (p ≡ parts_from r p.tokens)
 PartsAnswer r (Err e) = ((¬ HasFewItems r) × (e ≡ IncompatibleSourceMap)) ⊎ (HasFewItems r × TokensAnswer r (Err e))

@@ -12,24 +12,25 @@ use Rattle.sourcemap_map_parts.specs.Contents.{fitted}
 use Rattle.sourcemap_map_conversions.specs.FromRecord.{list_or_empty}
 use Rattle.sourcemap_map_conversions.specs.Parts.{PartsValue}
 
--- contents are written only if there are some, and then with one item for each source
+-- the contents with one item for each of the `count` sources; `None` if no source has contents
 abbrev pub written_contents : ℕ → List (Option (List ℕ)) → Option (List (Option (List ℕ)))
 written_contents count contents =
     let items = fitted count contents in
     if list_any is_some items then Some items else None
 
--- the ignore list is written only if it is not empty
+-- the ignore list; `None` if it is empty
 abbrev pub written_ids : List ℕ → Option (List ℕ)
 written_ids ids = if length ids == 0 then None else Some ids
 
--- the texts of `mappings` and `rangeMappings` of tokens in a map with so many names. They read back as the reduced list
+-- `mappings` and `ranges` are the texts that encode these tokens in a map with `names` names. If all tokens are within
+-- the bounds of the map (`AllWithin`), the texts decode to the reduced list of tokens
 pub record AreTextsOf (names : ℕ) (tokens : List RawToken) (mappings : List ℕ) (ranges : Option (List ℕ)) : Type 0 where
   pub text : IsWritten names tokens mappings
   pub bits : IsRangeText tokens ranges
   pub back : (sources : ℕ) → sources < 2 ^ 32 → AllWithin sources names tokens
       → MappingsAnswer mappings (list_or_empty ranges) (record { sources = sources; names = names }) (Ok (reduced names tokens))
 
--- the record of these parts, with these texts of mappings and of range bits
+-- the record of these parts, with the texts of its `mappings` and `rangeMappings`
 abbrev pub record_with : PartsValue → List ℕ → Option (List ℕ) → Fields
 record_with p mappings ranges = record {
   version = Some 3;
@@ -54,7 +55,8 @@ IsRecordOf p t =
     × AreTextsOf (length p.names) p.tokens mappings ranges
     × (t ≡ plain (record_with p mappings ranges))
 
--- the result of writing the parts: no error but out of memory
+-- the result of writing the parts: the record of the parts, which reads back as itself. There is no error, except that
+-- `IsAnswer` also permits out of memory
 abbrev pub RecordAnswer : PartsValue → Result Tree Error → Type 0
 RecordAnswer p (Ok t) = IsRecordOf p t × IsFine t
 RecordAnswer p (Err _) = ⊥

@@ -14,7 +14,7 @@ use Rattle.sourcemap_map_conversions.specs.declared.to_record.OtherParts.{OtherP
 use Rattle.sourcemap_map_conversions.specs.declared.to_record.FileAndRoot.{FileAndRoot}
 use Rattle.sourcemap_map_conversions.specs.declared.to_record.WrittenLists.{WrittenLists}
 
--- the texts of these tokens in a map with so many names
+-- the texts that encode these tokens in a map with `names` names
 abbrev pub AreWritten : ℕ → List RawToken → TokenTexts → Type 0
 AreWritten names tokens texts = AreTextsOf names tokens (string_bytes texts.mappings) (text_view texts.ranges)
 
@@ -35,7 +35,7 @@ pub record AreListsOf (name_texts source_texts : List (List ℕ)) (content_texts
   pub contents : map text_view lists.contents.items ≡ fitted (length source_texts) content_texts
   pub ids : lists.ids.items ≡ ignored
 
--- these contents, or none if no source has contents
+-- these contents, or `None` if no source has contents
 abbrev pub some_contents : List (Option (List ℕ)) → Option (List (Option (List ℕ)))
 some_contents contents = if list_any is_some contents then Some contents else None
 

@@ -56,10 +56,10 @@ struct RecordParts {
     lists: RecordLists,
 }
 
-/// The parts of the regular map in a record; sections and function maps are ignored. Returns
-/// `IncompatibleSourceMap` for more than 4294967295 sources, names or contents, then the first
-/// error of the mappings, otherwise only `OutOfMemory`. The texts of the mappings are dropped
-/// before names and sources are converted.
+/// Returns the parts of the regular map in a record. Sections and function maps are ignored. The
+/// error is `IncompatibleSourceMap` if there are more than 4294967295 sources, names or contents.
+/// Otherwise it is the first error of the mappings. Any other error is `OutOfMemory`. The texts of
+/// the mappings are dropped before names and sources are converted.
 pub fn parts_of_record(alloc: Global, rsm: RawSourceMap) -> Result<Parts>
     ensures answer { IsAnswer parts_view (PartsAnswer (flat (tree rsm))) result }
     ensures few_names { IfOk result (λ parts. vec_len parts.names ≤ 4294967295) }
@@ -168,7 +168,8 @@ fn metadata_of(alloc: Global, metadata: RecordMetadata) -> Result<MapMetadata>
     Ok(MapMetadata::with(file, ignored, debug_id))
 }
 
-// The digits of a whole number, or an empty name for a fraction.
+// The decimal digits of an integer of 64 bits, with its sign if it is negative. Any other number
+// gives an empty name.
 fn number_text(alloc: Global, number: Number) -> Result<String>
     ensures { Gives string_bytes result (Ok (number_read (number_view number))) }
 {
@@ -196,7 +197,8 @@ fn all_names(alloc: Global, mut names: Vec<Value>) -> Result<Vec<String>>
     ensures { Gives texts_of result (Ok (map name_read (map view names.items))) }
 {
     let mut texts = Vec::with_capacity(alloc, names.len())?;
-    // Values are removed from the end, so that their memory can be freed on the way.
+    // Values are removed from the end of the list. Its unused memory can then be freed before all
+    // names are converted.
     names.reverse();
     while let Some(name) = names.pop() {
         texts.push(name_text(alloc, name)?)?;
@@ -230,8 +232,8 @@ fn all_sources(alloc: Global, sources: Vec<Option<String>>) -> Result<Vec<String
     Ok(texts)
 }
 
-/// The file name in a record, `<invalid>` for a value that is no string. The only error is
-/// `OutOfMemory`.
+/// The file name in a record: `<invalid>` if the value is not a string, `None` if there is no
+/// value. The only error is `OutOfMemory`.
 pub fn file_in(alloc: Global, file: Option<Value>) -> Result<Option<String>>
     ensures { Gives text_view result (Ok (option_map file_read (option_map view file))) }
 {

@@ -63,10 +63,11 @@ struct WrittenLists {
     ids: Vec<u32>,
 }
 
-/// The record of these parts. It always has `version` 3, `sources` without the root, `names` and
-/// `mappings`; it has `file`, `sourceRoot`, `rangeMappings` and a debug id where the map does,
-/// `sourcesContent` with an item for each source if any source has contents, and `ignoreList` if it
-/// is not empty. Texts are copied. The only error is `OutOfMemory`.
+/// Returns the record of these parts. It always has `version` 3, `sources` without the root,
+/// `names` and `mappings`. It has `file`, `sourceRoot` and a debug id if the map has them. It has
+/// `rangeMappings` if a token is a range token, and `ignoreList` if this list is not empty. It has
+/// `sourcesContent`, with one item for each source, if a source has contents. Texts are copied. The
+/// only error is `OutOfMemory`.
 pub fn record_of(
     alloc: Global,
     metadata: &MapMetadata,
@@ -211,7 +212,7 @@ fn source_texts(alloc: Global, sources: Vec<String>) -> Result<Vec<Option<String
     Ok(texts)
 }
 
-// Cuts or fills the list to one item for each source.
+// Cuts the list, or fills it with `None`, to one item for each of the `count` sources.
 fn content_texts(mut contents: Vec<Option<String>>, count: usize) -> Result<Vec<Option<String>>>
     ensures { Gives contents_in result (Ok (fitted count (contents_in contents))) }
 {

@@ -23,12 +23,12 @@ Entry = List ℕ × Option Data
 abbrev pub key_text : Bool → List ℕ → List ℕ
 key_text later key = comma_if later ++ (quoted key ++ 58 ∷ [])
 
--- the text of a member, if there is one
+-- the text of a member; empty if the entry has no value
 abbrev pub part : Bool → Entry → List ℕ
 part later (key, None) = []
 part later (key, Some d) = key_text later key ++ compact_text d
 
--- whether a member has been written once these entries are; `later` says whether one was before them
+-- whether a member is written before these entries (`later`) or for one of them; an entry without a value writes none
 abbrev pub later_after : Bool → List Entry → Bool
 later_after later [] = later
 later_after later (e ∷ es) = later_after (later || is_some e.1) es
@@ -37,7 +37,7 @@ abbrev pub parts_text : Bool → List Entry → List ℕ
 parts_text later [] = []
 parts_text later (e ∷ es) = part later e ++ parts_text (later || is_some e.1) es
 
--- the text of an entry's value, if there is one, is UTF-8 and reads back
+-- the entry has no value, or the text of its value is UTF-8 and parses to the value
 abbrev pub IsPlainEntry : Entry → Type 0
 IsPlainEntry e = IfSome e.1 IsPlainValue
 
@@ -71,34 +71,37 @@ contents_entry count contents = (codes "sourcesContent", option_map (written_lis
 abbrev pub version_entry : Entry
 version_entry = (codes "version", Some (written_number 3))
 
--- three groups of members: those before `mappings`; `mappings`, `names` and `rangeMappings`; those of sources
+-- the members before `mappings`
 abbrev pub leading_entries : MapValue → List Entry
 leading_entries m = debug_id_entry m.debug_id ∷ file_entry m.file ∷ ids_entry m.ignored ∷ []
 
+-- `mappings`, `names` and `rangeMappings`
 abbrev pub token_entries : MapValue → List ℕ → Option (List ℕ) → List Entry
 token_entries m mappings ranges = mappings_entry mappings ∷ names_entry m.names ∷ ranges_entry ranges ∷ []
 
+-- `sourceRoot`, `sources` and `sourcesContent`
 abbrev pub source_entries : MapValue → List Entry
 source_entries m = root_entry m.root ∷ sources_entry m.sources ∷ contents_entry (length m.sources) m.contents ∷ []
 
+-- all members of the record
 abbrev pub map_entries : MapValue → List ℕ → Option (List ℕ) → List Entry
 map_entries m mappings ranges = leading_entries m ++ (token_entries m mappings ranges ++ (source_entries m ++ version_entry ∷ []))
 
--- the debug id, if any, has 16 bytes; the ignored ids have 32 bits and are sorted
+-- the debug id, if any, has 16 bytes; each ignored id is below 2^32; the ignored ids are sorted, without repeats
 pub record HasSoundLeadingMembers (m : MapValue) : Type 0 where
   pub id : IfSome m.debug_id IsId
   pub small : AllByRecursion FitsU32 m.ignored
   pub rising : IsStrictlySortedBy nat_cmp m.ignored
 
--- the member `mappings`
+-- the text of the member `mappings`
 abbrev pub IsMappingsPart : Bool → MapValue → List ℕ → Type 0
 IsMappingsPart later m text = (mappings : List ℕ) × IsMappingsText (length m.names) m.tokens mappings × (text ≡ part later (mappings_entry mappings))
 
--- the member `rangeMappings`, if there is one
+-- the text of the member `rangeMappings`; empty if no token is a range token
 abbrev pub IsRangesPart : MapValue → List ℕ → Type 0
 IsRangesPart m text = (ranges : Option (List ℕ)) × IsRangeText m.tokens ranges × IsPlainEntry (ranges_entry ranges) × (text ≡ part true (ranges_entry ranges))
 
--- the members `mappings`, `names` and `rangeMappings`
+-- the text of the members `mappings`, `names` and `rangeMappings`
 pub record IsTokensText (later : Bool) (m : MapValue) (text : List ℕ) : Type 0 where
   pub mappings : List ℕ
   pub ranges : Option (List ℕ)

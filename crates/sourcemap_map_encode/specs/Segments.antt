@@ -17,18 +17,20 @@ IsPlainByte c = (c < 128) × (escape_byte c ≡ c ∷ [])
 abbrev pub IsPlainText : List ℕ → Type 0
 IsPlainText text = AllByRecursion IsPlainByte text
 
--- mappings of these tokens; together with a text of their range bits they read back
+-- the `mappings` text of these tokens. If the tokens satisfy `AllWithin` for the counts of sources and names, this text
+-- and the `rangeMappings` text of the tokens decode to the reduced tokens
 pub record IsMappingsText (names : ℕ) (tokens : List RawToken) (text : List ℕ) : Type 0 where
   pub written : IsWritten names tokens text
   pub is_plain : IsPlainText text
   pub back : (sources : ℕ) → sources < 2 ^ 32 → AllWithin sources names tokens → (ranges : Option (List ℕ)) → IsRangeText tokens ranges
       → MappingsAnswer text (option_map_or (λ bits. bits) ranges []) (record { sources = sources; names = names }) (Ok (reduced names tokens))
 
--- the range bits of these tokens, also if no token is a range
+-- the text of the range bits of these tokens, line by line. Unlike `IsRangeText`, this definition allows a text even if
+-- no token is a range token
 pub record IsBitsText (tokens : List RawToken) (text : List ℕ) : Type 0 where
   pub written : LineByLine (IsRangeLine (without_repeats tokens)) tokens text
   pub is_plain : IsPlainText text
 
--- the bits of a line, then so many line ends
+-- the bits of a line, followed by `ends` semicolons
 abbrev pub IsLineOfBits : List Bool → ℕ → List ℕ → Type 0
 IsLineOfBits flags ends text = (bits : List ℕ) × IsBitText flags bits × (text ≡ bits ++ replicate ends semicolon)

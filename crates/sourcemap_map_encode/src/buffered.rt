@@ -11,7 +11,7 @@ use std::io::Write;
 /// A buffer of at least this many bytes is written out.
 pub(crate) const PIECE: usize = 1 << 14;
 
-// The line ends of one write.
+// `PIECE` line ends of `mappings` or `rangeMappings`, for a single write.
 static LINE_ENDS: [u8; PIECE] = [b';'; PIECE];
 
 /// Writes the buffer's content and clears the buffer.
@@ -38,7 +38,8 @@ pub(crate) fn flush_piece<W: Write>(writer: &mut W, buffer: &mut String) -> Resu
     flush(writer, buffer)
 }
 
-/// Writes a text through the buffer. A text of at least `PIECE` bytes is not copied.
+/// Writes a text through the buffer. A text of at least `PIECE` bytes is written directly, without
+/// a copy in the buffer.
 pub(crate) fn put<W: Write>(writer: &mut W, buffer: &mut String, text: &str) -> Result<()>
     ensures text { OnOk result (Grows (W.contents writer.old) (string_bytes buffer.old)
         (W.contents writer.new) (string_bytes buffer.new) text.now) }
@@ -53,7 +54,8 @@ pub(crate) fn put<W: Write>(writer: &mut W, buffer: &mut String, text: &str) -> 
     Ok(())
 }
 
-/// Writes `;` `count` times. Each `PIECE` of them is written at once, without a copy in the buffer.
+/// Writes `count` semicolons. Each group of `PIECE` semicolons is one write, without a copy in the
+/// buffer. The remaining ones are appended to the buffer.
 pub(crate) fn put_line_ends<W: Write>(writer: &mut W, buffer: &mut String, count: u32) -> Result<()>
     ensures text { OnOk result (Grows (W.contents writer.old) (string_bytes buffer.old)
         (W.contents writer.new) (string_bytes buffer.new) (replicate count semicolon)) }

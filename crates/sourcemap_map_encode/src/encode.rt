@@ -31,9 +31,9 @@ use std::io::Write;
 
 /// Writes a map as compact JSON, the same bytes as `encode_to`, to a borrowed writer.
 ///
-/// The text is never in memory as a whole: it is written in pieces of some 16 KB, and a longer
-/// string of the map in a piece of its own. After an error, which is `OutOfMemory` or the writer's
-/// `Io`, the writer may hold any part of the text.
+/// The text is written in pieces of some 16 KB. A longer string of the map is a piece of its own.
+/// So the text is never in memory as a whole, unless it is short. The errors are `Io` if a write
+/// fails, and `OutOfMemory`. After an error the writer may hold any part of the text.
 pub fn encode_in_parts<W: Write>(alloc: Global, map: &SourceMap, writer: &mut W) -> Result<()>
     ensures written { OnOk result ((text : List ℕ) × IsEncoded (RecordAnswer map.now) text
         × Appends (W.contents writer.old) (W.contents writer.new) text) }
@@ -124,7 +124,7 @@ fn put_ids<W: Write>(
     Ok(true)
 }
 
-// Writes `mappings`, `names` and `rangeMappings` in this order, the order of the bytes of keys.
+// Writes `mappings`, `names` and `rangeMappings`. Members are sorted by the bytes of their keys.
 fn put_tokens<W: Write>(
     alloc: Global,
     writer: &mut W,

@@ -1,5 +1,5 @@
-//! Writes a map as compact JSON in pieces. No more of the text is in memory than one piece, or the
-//! longest string of the map.
+//! Writes a map as compact JSON in pieces. At any time, memory holds at most about one piece of the
+//! text, and in addition one string of the map or the range bits of one line.
 #![tactic(auto)]
 
 mod buffered;

@@ -1,4 +1,4 @@
-//! Members of an object, in the order of their keys.
+//! Writes keys and text members of a JSON object.
 ghost use Rattle.std.specs.Prelude.{◌≡◌, ◌||◌, is_some, option_copied, option_map, true, IfErr, IfOk, OnOk, string_bytes};
 ghost use Rattle.serde_json.specs.Data.{string};
 ghost use Rattle.sourcemap_errors.specs.Answer.{UnlessMemory};

@@ -21,7 +21,7 @@ pub(crate) fn has_range(tokens: &[RawToken]) -> bool
     tokens.iter().any(|token| token.is_range)
 }
 
-// Writes the range bits of a line, then `line_ends` times `;`.
+// Writes the range bits of a line, followed by `line_ends` semicolons.
 fn put_line<W: Write>(
     writer: &mut W,
     buffer: &mut String,

@@ -58,7 +58,8 @@ fn has_name(token: RawToken, names: u32) -> bool
     token.src_id != NO_ID && token.name_id < names
 }
 
-// Writes the separators before the segment of `token`. The text written so far ends on `line`.
+// Writes the separators before the segment of `token`. The text that is already written ends on
+// `line`.
 fn put_gap<W: Write>(
     writer: &mut W,
     buffer: &mut String,
@@ -88,8 +89,9 @@ fn push_difference(text: &mut String, number: u32, against: u32) -> Result<()>
     push_number(text, i64::from(number) - i64::from(against))
 }
 
-// Appends the segment of a token on the line of `against`, the base of its differences. Updates
-// `against` to the base of the next segment.
+// Appends the segment of `token`. Its numbers are differences from the fields of `against`. The
+// caller first moves `against` to the line of `token`. This function then makes `against` the base
+// of the next segment.
 fn push_segment(
     text: &mut String,
     against: &mut RawToken,
@@ -121,7 +123,8 @@ fn push_segment(
     Ok(())
 }
 
-// Columns are relative within a line only.
+// On a new line the generated column is relative to 0. The other fields stay relative to the last
+// segment that has them, on any line.
 fn move_to_line(against: &mut RawToken, line: u32)
     ensures { against.new ≡ at_line against.old line }
 {
@@ -156,7 +159,7 @@ fn put_token<W: Write>(
     flush_piece(writer, buffer)
 }
 
-/// Writes the mappings of sorted tokens. `names` is how many names the map has.
+/// Writes the mappings of sorted tokens. `names` is the number of names of the map.
 pub(crate) fn put_mappings<W: Write>(
     writer: &mut W,
     buffer: &mut String,

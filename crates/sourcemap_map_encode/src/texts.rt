@@ -82,7 +82,8 @@ pub(crate) fn put_texts<W: Write>(
     put(writer, buffer, "]")
 }
 
-/// Writes a number. The clause `small` gives its bound also after an error.
+/// Writes a number. The clause `small` says that the number is below 2^32. It holds after an error
+/// too.
 pub(crate) fn put_number<W: Write>(
     alloc: Global,
     writer: &mut W,

@@ -14,7 +14,7 @@ pub record MetadataValue : Type 0 where
   pub ignored : List ℕ
   pub debug_id : Option (List ℕ)
 
--- the file name alone
+-- metadata with `file` as the file name, an empty ignore list and no debug id
 abbrev pub metadata_of_file : Option (List ℕ) → MetadataValue
 metadata_of_file file = record { file = file; ignored = []; debug_id = None }
 

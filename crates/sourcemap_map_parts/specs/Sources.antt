@@ -24,7 +24,7 @@ is_absolute_source text =
 abbrev pub without_slash : List ℕ → List ℕ
 without_slash text = if ends_with nat_eq text (codes "/") then take (length text - 1) text else text
 
--- A source resolved against a root. An absolute source, and any source where the root is empty, is unchanged.
+-- A source resolved against a root. An absolute source is unchanged, and an empty root leaves any source unchanged.
 abbrev pub resolved_against : List ℕ → List ℕ → List ℕ
 resolved_against root source =
     if (length root == 0) || is_absolute_source source then source else without_slash root ++ codes "/" ++ source

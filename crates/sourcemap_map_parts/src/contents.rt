@@ -67,7 +67,7 @@ impl Contents {
         Contents { views }
     }
 
-    /// The contents of the source with this id, or `None`.
+    /// The contents of the source with this id, or `None` if the source has no contents.
     pub fn get(&self, id: u32) -> Option<&SourceView>
         ensures { option_copied result ≡ item_at self.now id }
     {
@@ -75,8 +75,8 @@ impl Contents {
     }
 
     /// Sets or clears the contents of the source with this id. `count` is the number of sources:
-    /// the list is cut or filled to that length. The only error is `OutOfMemory`, and then nothing
-    /// changes.
+    /// the list is cut, or filled with `None`, to this length. The only error is `OutOfMemory`, and
+    /// then nothing changes.
     pub fn set(&mut self, count: u32, id: u32, text: Option<&str>) -> Result<()>
         requires { id < count }
         ensures { Changes result self.old self.new
@@ -134,7 +134,7 @@ impl Contents {
     }
 }
 
-// Copies the text for the view.
+// Makes a view and copies the text into it. Returns `None` if there is no text.
 fn view_if(alloc: Global, text: Option<&str>) -> Result<Option<SourceView>>
     ensures { Gives (λ view. view) result (Ok (option_copied text.entry)) }
 {
@@ -144,7 +144,7 @@ fn view_if(alloc: Global, text: Option<&str>) -> Result<Option<SourceView>>
     }
 }
 
-// Moves the text into the view.
+// Makes a view and moves the text into it. Returns `None` if there is no text.
 fn view_of(alloc: Global, text: Option<String>) -> Result<Option<SourceView>>
     ensures { Gives (λ view. view) result (Ok (option_map string_bytes text)) }
 {

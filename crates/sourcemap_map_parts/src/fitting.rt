@@ -6,8 +6,8 @@ ghost use Rattle.sourcemap_map_parts.specs.Contents.{fitted};
 
 use sourcemap_errors::errors::{Error, Result};
 
-/// Cuts or fills the list to `count` items, then sets one. The only error is `OutOfMemory`, and
-/// then the list is unchanged.
+/// Cuts the list, or fills it with `None`, to `count` items. Then sets the item at `index`. The
+/// only error is `OutOfMemory`, and then the list is unchanged.
 pub fn put<T: Drop>(
     items: &mut Vec<Option<T>>,
     count: usize,
@@ -23,7 +23,7 @@ pub fn put<T: Drop>(
     Ok(())
 }
 
-/// Cuts the list, or fills it with `None`, to this length. The only error is `OutOfMemory`, and
+/// Cuts the list, or fills it with `None`, to `count` items. The only error is `OutOfMemory`, and
 /// then the list is unchanged.
 pub fn fit<T: Drop>(items: &mut Vec<Option<T>>, count: usize) -> Result<()>
     ensures ok { OnOk result (items.new.items ≡ fitted count items.old.items) }

@@ -50,7 +50,7 @@ impl Drop for MapMetadata {
 }
 
 impl MapMetadata {
-    /// The file name alone: an empty ignore list and no debug id.
+    /// Metadata with `file` as the file name, an empty ignore list and no debug id.
     pub fn new(alloc: Global, file: Option<String>) -> MapMetadata
         ensures { result ≡ metadata_of_file (option_map string_bytes file) }
     {
@@ -113,7 +113,7 @@ impl MapMetadata {
         self.debug_id = debug_id;
     }
 
-    /// Adds a source id to the ignore list, also one that no source has. The only error is
+    /// Adds a source id to the ignore list, even if no source has this id. The only error is
     /// `OutOfMemory`, and then nothing changes.
     pub fn ignore(&mut self, id: u32) -> Result<()>
         ensures { Changes result self.old self.new (record self.old {
@@ -186,7 +186,8 @@ fn are_same(a: &MapMetadata, b: &MapMetadata) -> bool
     file & ignored & debug_id
 }
 
-/// Equal exactly if file name, ignore list and debug id are.
+/// Two values are equal exactly if their file names, their ignore lists and their debug ids are
+/// equal.
 impl PartialEq for MapMetadata {
     ghost eq = { same_metadata };
 

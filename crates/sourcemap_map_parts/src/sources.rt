@@ -16,12 +16,12 @@ use std::alloc::Global;
 use std::marker::Model;
 
 /// Sources, indexed by id, and the `sourceRoot` against which they are resolved. There are at most
-/// 4294967295 sources, so 4294967295 is the id of none.
+/// 4294967295 sources, so no source has the id 4294967295.
 #[derive(Debug)]
 pub struct Sources {
     root: Option<String>,
     texts: Vec<String>,
-    // The sources resolved against the root. With `None` they are the same as `texts`.
+    // The sources resolved against the root. If this is `None`, resolving changes no source.
     resolved: Option<Vec<String>>,
 }
 
@@ -75,10 +75,10 @@ impl Sources {
         })
     }
 
-    /// Replaces the root and resolves all sources against it: the root less one slash at its end,
-    /// then `/`, then the source. Sources that start with `/`, `http:` or `https:` are absolute and
-    /// ignore the root. An empty root changes no source. The only error is `OutOfMemory`, and then
-    /// nothing changes.
+    /// Replaces the root and resolves all sources against the new root. A resolved source is the
+    /// root without one slash at its end, then `/`, then the source. A source that starts with `/`,
+    /// `http:` or `https:` is absolute, and no root changes it. An empty root or `None` changes no
+    /// source. The only error is `OutOfMemory`, and then nothing changes.
     pub fn set_root(&mut self, root: Option<String>) -> Result<()>
         ensures { Changes result self.old self.new
             (record self.old { root = option_map string_bytes root }) }
@@ -90,7 +90,7 @@ impl Sources {
         Ok(())
     }
 
-    /// The root, also if it is empty.
+    /// The root, or `None` if there is no root. An empty root is returned as an empty text.
     pub fn root(&self) -> Option<&str>
         ensures { option_copied result ≡ self.now.root }
     {
@@ -107,7 +107,7 @@ impl Sources {
         self.texts.len() as u32
     }
 
-    /// The source with this id, resolved against the root.
+    /// The source with this id, resolved against the root, or `None` if no source has this id.
     pub fn get(&self, id: u32) -> Option<&str>
         ensures { option_copied result ≡ slice_get (resolved_texts self.now) id }
     {
@@ -136,8 +136,9 @@ impl Sources {
         }
     }
 
-    /// Sets the text of an existing source, before it is resolved against the root. The only error
-    /// is `OutOfMemory`, and then nothing changes.
+    /// Replaces the unresolved source with this id by `text`, and resolves `text` against the root.
+    /// There must be a source with this id. The only error is `OutOfMemory`, and then nothing
+    /// changes.
     pub fn set(&mut self, id: u32, text: &str) -> Result<()>
         requires { id < length self.old.texts }
         ensures { Changes result self.old self.new (record self.old {
@@ -153,7 +154,8 @@ impl Sources {
         Ok(())
     }
 
-    /// The unresolved sources, and the resolved ones. `None` means that both are the same.
+    /// The unresolved sources and the resolved sources. If the second list is `None`, resolving
+    /// changes no source.
     pub fn into_lists(self) -> (Vec<String>, Option<Vec<String>>)
         ensures given { texts_of result.0 ≡ self.texts }
         ensures resolved { texts_of (unwrap_or result.1 result.0) ≡ resolved_texts self }
@@ -212,7 +214,7 @@ fn are_same(a: &Sources, b: &Sources) -> bool
     root & texts
 }
 
-/// Equal exactly if the roots and the unresolved texts are.
+/// Two values are equal exactly if their roots are equal and their unresolved sources are equal.
 impl PartialEq for Sources {
     ghost eq = { same_sources };
 
@@ -271,7 +273,7 @@ fn resolve_all(alloc: Global, root: &str, sources: &[String]) -> Result<Vec<Stri
     Ok(all)
 }
 
-// The resolved sources, or `None` for an empty root, which changes none of them.
+// The resolved sources, or `None` if the root is empty, since an empty root changes no source.
 fn resolve_if_rooted(
     alloc: Global,
     root: &str,
@@ -302,8 +304,10 @@ fn put_text(texts: &mut Vec<String>, id: usize, text: String)
     texts[id] = text;
 }
 
-// Updates the resolved sources before a source is set. A missing list is made, unless the root is
-// empty: another root may apply to the new text.
+// Updates the resolved sources before the source with this id is replaced by the text `source`. If
+// `resolved_list` is `None`, the root changes no source in `sources`. The list is then created if
+// the root is not empty, since such a root may change the new text. The only error is
+// `OutOfMemory`, and then `resolved_list` is unchanged.
 fn update_resolved(
     alloc: Global,
     resolved_list: &mut Option<Vec<String>>,

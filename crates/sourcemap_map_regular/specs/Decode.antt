@@ -11,22 +11,25 @@ use Rattle.sourcemap_map_regular.specs.MapStored.{map_in}
 pub use Rattle.sourcemap_map_conversions.specs.FromRecord.{list_or_empty, number_read, name_read, file_read, source_read, rising}
 pub use Rattle.sourcemap_map_conversions.specs.FromRecord.{HasFewItems, TokensAnswer}
 
--- the map of a record with these tokens
+-- the map of a record whose mappings decode to these tokens
 abbrev pub map_of : Fields → List RawToken → MapValue
 map_of r tokens = map_in (parts_from r tokens)
 
--- the result of decoding a record: the error of a list that is too long precedes the first error of the mappings
+-- the result of decoding a record: `IncompatibleSourceMap` if a list is too long, otherwise the first error of the
+-- mappings, otherwise the map
 abbrev pub RecordDecodes : Fields → Result MapValue Error → Type 0
 RecordDecodes r (Ok m) = HasFewItems r × TokensAnswer r (Ok m.tokens) × (m ≡ map_of r m.tokens)
 RecordDecodes r (Err e) = ((¬ HasFewItems r) × (e ≡ IncompatibleSourceMap)) ⊎ (HasFewItems r × TokensAnswer r (Err e))
 
 -- The records of regular maps.
 
--- a record with sections is an index map, and one with function names is a Hermes map
+-- whether the record encodes a regular map: it has neither the sections of an index map nor the function names of a
+-- Hermes map
 abbrev pub is_regular : Tree → Bool
 is_regular (plain fields) = is_none fields.x_facebook_sources
 is_regular (indexed _ _) = false
 
--- the result of decoding a record as a regular map; records of other kinds are `IncompatibleSourceMap`
+-- the result of decoding a record as a regular map; for a record of another kind it is the error
+-- `IncompatibleSourceMap`
 abbrev pub RegularDecodes : Tree → Result MapValue Error → Type 0
 RegularDecodes t answer = MatchBool (is_regular t) (RecordDecodes (flat t) answer) (answer ≡ Err IncompatibleSourceMap)

@@ -14,7 +14,7 @@ pub use Rattle.sourcemap_map_conversions.specs.ToRecord.{written_contents, writt
 abbrev pub record_with : MapValue → List ℕ → Option (List ℕ) → Fields
 record_with m mappings ranges = parts_written (parts_in m) mappings ranges
 
--- the tree is the record of the map, with a `mappings` and a `rangeMappings` text of its tokens
+-- the tree is the record of the map, with texts of `mappings` and `rangeMappings` that encode the tokens of the map
 abbrev pub IsRecordOf : MapValue → Tree → Type 0
 IsRecordOf m t =
     (mappings : List ℕ) × (ranges : Option (List ℕ))
@@ -37,12 +37,12 @@ pub record KeepsParts (back m : MapValue) : Type 0 where
 abbrev pub Restores : (m back : MapValue) → Type 0
 Restores m back = MeansTheSame back m × KeepsParts back m
 
--- `Answers` allows a successful result of decoding, and the decoded map satisfies `IsRestored`
+-- there is a value `back` that satisfies `IsRestored`, and `Answers` allows `Ok back` as the result of decoding
 abbrev pub ReadsBack : {Y : Type 0} → (Result Y Error → Type 0) → (Y → Type 0) → Type 0
 ReadsBack Answers IsRestored = (back : _) × Answers (Ok back) × IsRestored back
 
--- the result of encoding a map: its record. If the map is well-formed, the record decodes to a map that restores it.
--- There is no error but `OutOfMemory`
+-- the result of encoding a map: its record. If the map is well-formed, the record decodes to a map that restores the
+-- encoded map (`Restores`). This definition permits no error, but `IsAnswer` also permits `OutOfMemory`
 abbrev pub RecordAnswer : MapValue → Result Tree Error → Type 0
 RecordAnswer m (Ok t) = IsRecordOf m t × IsFine t × (IsWellFormed m → ReadsBack (RecordDecodes (flat t)) (Restores m))
 RecordAnswer m (Err _) = ⊥

@@ -1,4 +1,4 @@
--- Equality of maps: of all their parts.
+-- Equality of maps, part by part.
 use Rattle.std.specs.Prelude.{Bool}
 use Rattle.std.specs.Ordering.{on, eq_of_both}
 use Rattle.std.specs.Cmp.{IsEquivalence}

@@ -18,7 +18,7 @@ tokens_map it = it.map.now
 abbrev pub tokens_left : TokenIter → List TokenValue
 tokens_left it = tokens_from it.map.now it.next
 
--- `next` returns the first remaining token; the others remain, and the map is unchanged
+-- `next` returns the first remaining token, or `None` if no token remains; the others remain, and the map is unchanged
 abbrev pub GivesToken : TokenIter → Option Token → TokenIter → Type 0
 GivesToken old token new = YieldsFirstBy token_value tokens_left old token new × (new.map ≡ old.map)
 
@@ -35,7 +35,7 @@ names_left it = map string_bytes it.names.now
 abbrev pub sources_left : SourceIter → List (List ℕ)
 sources_left it = map string_bytes it.sources.now
 
--- one item for each source
+-- the contents of each remaining source; `None` for a source without contents
 abbrev pub contents_left : SourceContentsIter → List (Option (List ℕ))
 contents_left it = drop it.next (fitted (length it.map.now.sources) it.map.now.contents)
 

@@ -3,7 +3,7 @@ use Rattle.std.specs.Prelude.{◌≡◌, map, string_bytes}
 use Rattle.sourcemap_map_regular.specs.Map.{MapValue, resolved_sources}
 use Rattle.sourcemap_map_regular.specs.declared.lists.MapLists.{MapLists}
 
--- the lists are those of the map, its sources resolved against `sourceRoot`
+-- the lists are those of the map, with the sources resolved against `sourceRoot`
 pub record AreListsOf (m : MapValue) (lists : MapLists) : Type 0 where
   pub tokens : lists.tokens.now ≡ m.tokens
   pub names : map string_bytes lists.names.now ≡ m.names

@@ -23,7 +23,8 @@ pub record MapValue : Type 0 where
 abbrev pub resolved_sources : MapValue → List (List ℕ)
 resolved_sources m = map (resolved m.root) m.sources
 
--- the map of these parts, with no root, an empty ignore list and no debug id
+-- the map of these parts, with its tokens sorted stably by generated position, no root, an empty ignore list and no
+-- debug id
 abbrev pub made_of : Option (List ℕ) → List RawToken → List (List ℕ) → List (List ℕ) → List (Option (List ℕ)) → MapValue
 made_of file tokens names sources contents = record {
   file = file;
@@ -61,11 +62,11 @@ name_of m id = slice_get m.names id
 abbrev pub contents_of : MapValue → ℕ → Option (List ℕ)
 contents_of m id = item_at m.contents id
 
--- the sum of column and distance, but at most 4294967295
+-- the sum of `column` and `distance`, but at most 4294967295
 abbrev pub column_after : ℕ → ℕ → ℕ
 column_after column distance = min (column + distance) 4294967295
 
--- the meaning of the generated position that is this many columns after the token
+-- the meaning that a token gives to a generated position; `extra_columns` is added to the original column of the token
 abbrev pub meaning_of : MapValue → RawToken → ℕ → Meaning
 meaning_of m token extra_columns = record {
   source = source_of m token.src_id;
@@ -75,8 +76,8 @@ meaning_of m token extra_columns = record {
   is_range = token.is_range;
 }
 
--- a token of a map: its fields, its index in the list, and the columns that a lookup adds to its original
--- column
+-- a token of a map: its fields, its index among the tokens of the map, and the columns that a lookup adds to its
+-- original column
 pub record TokenValue : Type 0 where
   pub map_of : MapValue
   pub raw : RawToken
@@ -87,13 +88,13 @@ pub record TokenValue : Type 0 where
 abbrev pub says : TokenValue → Meaning
 says t = meaning_of t.map_of t.raw t.extra_columns
 
--- the token closest to a generated position
+-- the token closest to a generated position, if there is one
 abbrev pub lookup : MapValue → ℕ × ℕ → Option TokenValue
 lookup m p = option_map
     (λ found. record { map_of = m; raw = found.1; index = found.0; extra_columns = distance found.1 p })
     (closest_token m.tokens p)
 
--- the meaning of a generated position: that of the closest token
+-- the meaning of a generated position: the meaning of the closest token, if there is one
 abbrev pub meaning : MapValue → ℕ × ℕ → Option Meaning
 meaning m p = option_map says (lookup m p)
 

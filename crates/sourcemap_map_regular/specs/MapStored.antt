@@ -37,6 +37,6 @@ parts_in m = record {
 abbrev pub value_of : Inside → MapValue
 value_of a = map_over a.metadata a.tokens (texts_of a.names) a.sources a.contents
 
--- `no_id` names nothing, so there are no more names than ids below it
+-- there are at most 4294967295 names, so each name has an id below `no_id`, which is the id for no name
 abbrev pub HasFewNames : Inside → Type 0
 HasFewNames a = length (texts_of a.names) ≤ 4294967295

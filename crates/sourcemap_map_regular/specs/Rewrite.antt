@@ -1,5 +1,5 @@
--- The rewritten map: without the sources and names that no token uses, without root and ignore list, and
--- without what the options remove. Sources without contents may get those of files.
+-- The rewritten map: without the sources and names that no token uses, without root and ignore list, and without what
+-- the options remove. Sources without contents may get contents from files.
 use Rattle.std.specs.Prelude.{length, ◌≤◌, ◌≡◌, ℕ, true, cond, MatchBool, List, [], map, slice_get, Option, None, option_map, option_and_then, Result, Ok, Err}
 use Rattle.std.specs.Str.{bytes_eq}
 use Rattle.sourcemap_errors.specs.declared.errors.Error.{Error}
@@ -16,14 +16,15 @@ pub use Rattle.sourcemap_map_rewrite.specs.Options.{Removal, removal_of, IsDefau
 
 -- The parts of the result.
 
--- the resolved sources and the names that tokens use
+-- the resolved sources that tokens use, each once, in the order of first use
 abbrev pub used_sources : MapValue → List (List ℕ)
 used_sources m = kept_once (present (map (λ t. source_of m t.src_id) m.tokens))
 
+-- the names that tokens use, each once, in the order of first use
 abbrev pub used_names : MapValue → List (List ℕ)
 used_names m = kept_once (present (map (λ t. name_of m t.name_id) m.tokens))
 
--- for each source in use, the old id by which a token first uses it
+-- for each source in use, the source id of the first token that uses it
 abbrev pub first_ids : MapValue → List ℕ
 first_ids m = firsts_of (resolved_sources m) (map (λ t. t.src_id) m.tokens)
 
@@ -35,11 +36,13 @@ abbrev pub contents_if : MapValue → List ℕ → RawToken → Option (List ℕ
 contents_if m text t =
     option_and_then (λ source. cond (bytes_eq source text) (contents_of m t.src_id) None) (source_of m t.src_id)
 
--- the contents of the first token whose source is this text and has contents
+-- the contents for a text: `contents_if` of the first token for which it is not `None`; `None` if there is no such
+-- token
 abbrev pub contents_for : MapValue → List ℕ → Option (List ℕ)
 contents_for m text = slice_get (present (map (contents_if m text) m.tokens)) 0
 
--- the prefixes to cut; `~` stands for the common prefix of the sources before they are resolved against the root
+-- the prefixes to cut. `~` means the common prefix of all sources that are absolute paths. These sources are taken as
+-- they are written, not resolved against the root
 abbrev pub cuts : Removal → MapValue → List (List ℕ)
 cuts removal m = all_prefixes removal.prefixes m.sources
 
@@ -50,7 +53,7 @@ renumbered removal m t = record t {
   name_id = number_in (kept_names removal m) (name_of m t.name_id);
 }
 
--- the rewritten map, with one token for each old one
+-- the rewritten map, with one token for each old token
 abbrev pub rewritten : Removal → MapValue → MapValue
 rewritten removal m = record {
   file = m.file;
@@ -63,22 +66,23 @@ rewritten removal m = record {
   debug_id = m.debug_id;
 }
 
--- The result of the call.
+-- The result of `rewrite`.
 
 -- the maps differ at most in their contents
 abbrev pub SameButContents : (m n : MapValue) → Type 0
 SameButContents m n = record m { contents = n.contents } ≡ n
 
--- the contents of the sources in use before loading
+-- the contents that the sources in use have before loading; `None` for each if contents are not kept
 abbrev pub contents_before : Removal → MapValue → List (Option (List ℕ))
 contents_before removal m = map (λ text. cond removal.with_contents (contents_for m text) None) (used_sources m)
 
--- the rewritten map, where only sources without contents may have loaded ones
+-- the rewritten map; only sources that have no contents before loading may have loaded contents
 pub record IsLoaded (options : RewriteOptions) (m new : MapValue) : Type 0 where
   pub others : SameButContents new (rewritten (removal_of options) m)
   pub contents : AreLoaded options (used_sources m) (contents_before (removal_of options) m) new.contents
 
--- the rewritten map, with contents loaded if the options say so; the error is that of a folder that is not absolute
+-- the result of `rewrite`: the rewritten map, with loaded contents if the options ask for them, or the error for a
+-- folder that is not absolute
 abbrev pub Rewrites : RewriteOptions → MapValue → Result MapValue Error → Type 0
 Rewrites options m (Ok new) =
     MatchBool options.load_local_source_contents (IsLoaded options m new) (new ≡ rewritten (removal_of options) m)
@@ -109,6 +113,7 @@ token_meanings m = map (λ t. (destination t, meaning_of m t 0)) m.tokens
 abbrev pub TokensMeanLess : Removal → (old new : MapValue) → Type 0
 TokensMeanLess removal old new = token_meanings new ≡ map (λ entry. (entry.0, without_removed removal old entry.1)) (token_meanings old)
 
--- rewriting a second time by default options changes nothing
+-- a second rewriting by the default options changes nothing, if the map has at most 4294967295 sources and at most
+-- 4294967295 names
 abbrev pub IsFinal : MapValue → Type 0
 IsFinal m = length m.sources ≤ 4294967295 → length m.names ≤ 4294967295 → rewritten no_removal (rewritten no_removal m) ≡ rewritten no_removal m

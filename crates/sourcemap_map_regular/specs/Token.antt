@@ -13,7 +13,7 @@ token_value t = record { map_of = t.map.now; raw = t.raw; index = t.index; extra
 abbrev pub meaning_of_token : Token → Meaning
 meaning_of_token t = says (token_value t)
 
--- the token at an index
+-- the token at an index, if there is one
 abbrev pub token_at : MapValue → ℕ → Option TokenValue
 token_at m index = option_map (λ raw. record { map_of = m; raw = raw; index = index; extra_columns = 0 }) (slice_get m.tokens index)
 
@@ -23,7 +23,7 @@ tokens_from m index =
     map (λ entry. record { map_of = m; raw = entry.1; index = entry.0; extra_columns = 0 })
     (enumerate_from index (drop index m.tokens))
 
--- the text that `Display` writes
+-- the text that `Display` writes, without the additions of the alternate form
 abbrev pub token_text : Meaning → List ℕ
 token_text says =
     unwrap_or says.source (codes "<unknown>") ++ codes ":" ++ decimal says.line ++ codes ":" ++ decimal says.column

@@ -10,11 +10,11 @@ use Rattle.std.specs.declared.cmp.Ordering.{Ordering}
 use Rattle.sourcemap_map_regular.specs.Token.{meaning_of_token}
 use Rattle.sourcemap_map_regular.specs.declared.token.Token.{Token}
 
--- texts by their bytes, `None` first
+-- orders optional texts by their bytes; `None` comes first
 abbrev pub text_cmp : Option (List ℕ) → Option (List ℕ) → Ordering
 text_cmp = option_cmp (slice_cmp nat_cmp)
 
--- by generated position, source, original position, name, and range flag
+-- orders tokens by generated position, source, original position, name, and range flag
 abbrev pub token_cmp : Token → Token → Ordering
 token_cmp =
     then_cmp (then_cmp (then_cmp (then_cmp (then_cmp (then_cmp
@@ -26,7 +26,7 @@ token_cmp =
     (on (λ t. (meaning_of_token t).name) text_cmp))
     (on (λ t. (meaning_of_token t).is_range) bool_cmp)
 
--- the order does not distinguish the tokens
+-- the tokens are equal by `token_cmp`
 abbrev pub same_token : Token → Token → Bool
 same_token s t = is_eq (token_cmp s t)
 

@@ -4,12 +4,12 @@ use Rattle.sourcemap_map_regular.specs.Map.{MapValue, TokenValue, says, lookup}
 use Rattle.sourcemap_map_regular.specs.Token.{token_at}
 use Rattle.sourcemap_source_views.specs.Walk.{guessed_name}
 
--- the token, if there is one, before the others; without a token the list is empty
+-- the list that begins with the token and continues with the others; an empty list if there is no token
 abbrev pub in_front : Option TokenValue → List TokenValue → List TokenValue
 in_front None tokens = []
 in_front (Some token) tokens = token ∷ tokens
 
--- the tokens below an index, the closest first
+-- the tokens at the indices below the index of a token, the highest index first
 abbrev pub tokens_before : MapValue → ℕ → List TokenValue
 tokens_before m zero = []
 tokens_before m (suc index) = in_front (token_at m index) (tokens_before m index)

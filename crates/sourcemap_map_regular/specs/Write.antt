@@ -11,8 +11,8 @@ use Rattle.sourcemap_map_regular.specs.Map.{MapValue}
 use Rattle.sourcemap_map_regular.specs.Encode.{IsRecordOf}
 use Rattle.sourcemap_records.specs.Bytes.{IsJson}
 
--- the compact JSON text of the record's value; the digits of fractions are not specified. A text of at most
--- 127 levels parses to the value
+-- the JSON text of the record's value. If the value has no fractions, the text is the compact text. If the value has at
+-- most 127 levels, the text parses to the value
 pub record IsText (t : Tree) (text : List ℕ) : Type 0 where
   pub compact : has_float (written t) ≡ false → text ≡ compact_text (written t)
   pub reads_back : depth (written t) ≤ max_depth → IsJson text (written t)
@@ -25,7 +25,8 @@ IsEncoded Encodes text = (t : Tree) × Encodes (Ok t) × IsText t text
 abbrev pub IsCompactTextOf : MapValue → List ℕ → Type 0
 IsCompactTextOf m text = (t : Tree) × IsRecordOf m t × (text ≡ compact_text (written t))
 
--- an `Io` error of a write, of any kind but `OutOfMemory`; a write error of that kind becomes the error `OutOfMemory`
+-- an `Io` error of a write, whose kind is not `OutOfMemory`. A write error of kind `OutOfMemory` becomes the error
+-- `OutOfMemory`
 abbrev pub IsIo : Error → Type 0
 IsIo (Io cause) = FromIo cause (Io cause)
 IsIo _ = ⊥

@@ -1,4 +1,4 @@
-//! `adjust_mappings`.
+//! `adjust_mappings`: adjusts a map to a later version of its generated text.
 ghost use Rattle.std.specs.Prelude.{◌≡◌, ℕ, ◌≤◌, ◌+◌, OnErr, OnOk, length};
 ghost use Rattle.sourcemap_errors.specs.Answer.{Gives};
 ghost use Rattle.sourcemap_compose.specs.declared.stretches.Stretch.{Stretch};
@@ -19,12 +19,15 @@ impl SourceMap {
     /// errors are `IncompatibleSourceMap` if a token moves beyond column 4294967295, and
     /// `OutOfMemory`; they leave the map unchanged.
     ///
-    /// A position that a stretch of `adjustment` moves keeps its meaning if all of this holds:
+    /// Each token of `adjustment` moves a stretch of the text that this map describes. The stretch
+    /// begins at the original position of the token. It ends before the original position of the
+    /// next token, in the order of original positions, or at the end of the line if that comes
+    /// first. A position that a stretch moves keeps its meaning if all of this holds:
     ///
     /// - The map is well-formed, and no two of its tokens have the same generated position.
-    /// - The token closest to the position is on the line of the position.
-    /// - No other stretch gives a token from the moved start of this stretch up to the moved
-    ///   position.
+    /// - The token of this map that is closest to the position is on the line of the position.
+    /// - No other stretch gives a new token whose generated position lies between the moved start
+    ///   of this stretch and the moved position, both included.
     pub fn adjust_mappings(&mut self, adjustment: &SourceMap) -> Result<()>
         ensures value { Gives (λ _. self.new) result (adjusted self.old adjustment.now) }
         ensures unchanged { OnErr result (self.new ≡ self.old) }

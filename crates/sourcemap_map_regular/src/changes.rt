@@ -30,9 +30,9 @@ impl SourceMap {
         Ok(())
     }
 
-    /// Sets `sourceRoot`. Getters then prefix each source with the root and one slash. Sources that
-    /// begin with `/`, `http:` or `https:` get no prefix. With an empty root, no source gets one.
-    /// The only error is `OutOfMemory`.
+    /// Sets `sourceRoot`. Getters then prefix each source with the root, followed by `/` if the
+    /// root does not end with it. Sources that begin with `/`, `http:` or `https:` get no prefix.
+    /// With an empty root or `None`, no source gets a prefix. The only error is `OutOfMemory`.
     pub fn set_source_root(&mut self, root: Option<&str>) -> Result<()>
         ensures { Changes result self.old self.new
             (record self.old { root = option_copied root.entry }) }
@@ -61,8 +61,8 @@ impl SourceMap {
         Ok(())
     }
 
-    /// Sets the contents of the source with this id, which must exist. The list of contents then
-    /// has one item for each source. The only error is `OutOfMemory`.
+    /// Sets the contents of the source with this id, which must exist; `None` removes them. The
+    /// list of contents then has one item for each source. The only error is `OutOfMemory`.
     pub fn set_source_contents(&mut self, id: u32, contents: Option<&str>) -> Result<()>
         requires { id < length self.old.sources }
         ensures { Changes result self.old self.new (record self.old {
@@ -75,8 +75,8 @@ impl SourceMap {
         Ok(())
     }
 
-    /// Replaces the source with this id, which must exist. The root still applies to it. The only
-    /// error is `OutOfMemory`.
+    /// Replaces the source with this id, which must exist. Getters resolve the new source against
+    /// `sourceRoot`. The only error is `OutOfMemory`.
     pub fn set_source(&mut self, id: u32, source: &str) -> Result<()>
         requires { id < length self.old.sources }
         ensures value { Changes result self.old self.new

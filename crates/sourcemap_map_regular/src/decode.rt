@@ -23,7 +23,7 @@ use std::io::Read;
 /// names or contents; then the first error of the mappings. `OutOfMemory` can come at any time.
 pub fn decode_regular(alloc: Global, rsm: RawSourceMap) -> Result<SourceMap>
     ensures answer { IsAnswer (λ m. m) (RecordDecodes (flat (tree rsm))) result }
-    // The result is determined.
+    // The record determines the result, unless memory runs out.
     ensures only { (due : Result MapValue Error)
         → RecordDecodes (flat (tree rsm)) due → Gives (λ m. m) result due }
     ensures well_formed { IfOk result IsWellFormed }
@@ -49,9 +49,8 @@ fn map_of(parts: Parts) -> SourceMap
     SourceMap::of_parts(metadata, tokens, names, sources, contents)
 }
 
-/// Decodes a record as a regular map. A record with sections or function names is
-/// `IncompatibleSourceMap` before anything of it is decoded. The other errors are those of
-/// `decode_regular`.
+/// Decodes a record as a regular map. A record with sections or function names is not decoded: the
+/// error is `IncompatibleSourceMap`. The other errors are those of `decode_regular`.
 pub fn only_regular(alloc: Global, raw: RawSourceMap) -> Result<SourceMap>
     ensures answer { IsAnswer (λ m. m) (RegularDecodes (tree raw)) result }
     ensures well_formed { IfOk result IsWellFormed }
@@ -82,13 +81,14 @@ fn decode_owned(alloc: Global, bytes: Vec<u8>) -> Result<SourceMap>
 }
 
 impl SourceMap {
-    /// Decodes a regular map from bytes, which may begin with a junk header. The errors are `Io` of
-    /// kind `InvalidData` for an invalid header, `BadJson(Parse)` if the rest is not JSON,
-    /// `BadJson(Shape)` if the JSON is no record, `IncompatibleSourceMap` for a map of another
-    /// kind, which is not decoded, and those of `decode_regular`.
+    /// Decodes a regular map from bytes, which may begin with a junk header. A map of another kind
+    /// is not decoded: the error is `IncompatibleSourceMap`. The other errors are `Io` of kind
+    /// `InvalidData` for an invalid header, `BadJson(Parse)` if the rest is not JSON,
+    /// `BadJson(Shape)` if the JSON is no record, and the errors of `decode_regular`.
     pub fn from_slice(alloc: Global, bytes: &[u8]) -> Result<Self>
         ensures answer { IsAnswer (λ m. m) (BytesHaveResult RegularDecodes bytes.now) result }
-        // The result is determined.
+        // Unless memory runs out, the bytes determine the result. Of an `Io` error they determine
+        // only the kind.
         ensures only { (due : Result MapValue Error) → BytesHaveResult RegularDecodes bytes.now due
             → IsAnswer (λ m. m) (AreSame due) result }
         ensures well_formed { IfOk result IsWellFormed }
@@ -96,9 +96,9 @@ impl SourceMap {
         decode_slice(alloc, bytes)
     }
 
-    /// Decodes a regular map from a reader, which is first read to its end. The errors are `Io` of
-    /// a read and those of `from_slice`. The bytes are dropped as soon as their JSON value is
-    /// parsed.
+    /// Decodes a regular map from a reader, which is first read to its end. The errors are `Io` if
+    /// a read fails, and those of `from_slice`. The bytes are dropped as soon as their JSON value
+    /// is parsed.
     pub fn from_reader<R: Read + Drop>(alloc: Global, reader: R) -> Result<Self>
         ensures answer { Reading (R.remaining reader)
             (λ bytes. IsAnswerRead (λ m. m) (BytesHaveResult RegularDecodes bytes) result) }

@@ -33,15 +33,16 @@ impl Encodable for SourceMap {
 
     ghost encodes = { RecordAnswer };
 
-    /// The record of the map. It always has version 3, sources without the root, names and
-    /// mappings. It has file, root, `rangeMappings`, debug id and ignore list if the map does, and
-    /// contents, one item for each source, if a source has contents. The only error is
-    /// `OutOfMemory`.
+    /// The record of the map. The record always has version 3, names, mappings, and the sources as
+    /// they are written, not resolved against `sourceRoot`. It has file, `sourceRoot` and debug id
+    /// if the map has them, the ignore list if it is not empty, and `rangeMappings` if the map has
+    /// a range token. If a source has contents, the record has `sourcesContent`, with one item for
+    /// each source. The only error is `OutOfMemory`.
     fn as_raw_sourcemap(&self) -> Result<RawSourceMap>
         ensures answer { IsAnswer tree (RecordAnswer self.now) result }
         ensures fine { IfOk result (λ r. IsFine (tree r)) }
-        // The record of a well-formed map decodes to a map with the same meaning. That map has the
-        // same parts, except for what `KeepsParts` allows.
+        // The record of a well-formed map decodes to a map with the same meaning. The decoded map
+        // has the same parts, except for what `KeepsParts` allows.
         ensures reads_back { IfOk result (λ r. IsWellFormed self.now
             → ReadsBack (RecordDecodes (flat (tree r))) (Restores self.now)) }
     {

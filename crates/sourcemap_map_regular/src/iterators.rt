@@ -37,8 +37,9 @@ impl<'a> Iterator for TokenIter<'a> {
 impl TokenIter<'_> {
     ghost use Rattle.sourcemap_map_regular.specs.Iterators.{Seeks};
 
-    /// Continues after the token that `lookup_token` finds at this generated position and returns
-    /// true. If there is none, returns false and leaves the iterator unchanged.
+    /// Moves the iterator to just after the token that `lookup_token` returns for this generated
+    /// position, and returns true. If `lookup_token` returns `None`, returns false and leaves the
+    /// iterator unchanged.
     pub fn seek(&mut self, line: u32, col: u32) -> bool
         ensures { Seeks self.old (line, col) result self.new }
     {
@@ -98,7 +99,7 @@ impl<'a> Iterator for SourceIter<'a> {
     }
 }
 
-/// The contents of each source of a map, in order of their ids; `None` for a source without
+/// The contents of each source of a map, in order of source ids; `None` for a source without
 /// contents.
 #[derive(Drop)]
 pub struct SourceContentsIter<'a> {
@@ -189,7 +190,7 @@ impl SourceMap {
         }
     }
 
-    /// The contents of each source, in order of their ids; `None` for a source without contents.
+    /// The contents of each source, in order of source ids; `None` for a source without contents.
     pub fn source_contents(&self) -> SourceContentsIter<'_>
         ensures rest { contents_left result ≡ fitted (length self.now.sources) self.now.contents }
         ensures bound { length (contents_left result) ≤ 4294967295 }

@@ -6,7 +6,8 @@ use sourcemap_source_views::sourceview::SourceView;
 use sourcemap_tokens::tokens::RawToken;
 use std::collections::BTreeSet;
 
-/// The lists of a map. Ids are indices of them.
+/// The lists of a map. A source id is an index of `sources` and `contents`. A name id is an index
+/// of `names`.
 #[derive(Clone, Copy)]
 pub struct MapLists<'a> {
     /// The tokens, in order of generated position.

@@ -75,9 +75,10 @@ impl SourceMap {
     ghost use Rattle.sourcemap_map_regular.specs.Token.{meaning_of_token, lookup, token_at, token_value};
 
     /// A map of these parts, with its tokens sorted stably by generated position. It has no root,
-    /// an empty ignore list and no debug id. `None` for the contents is the same as an empty list.
-    /// There may be at most 4294967295 names, sources and contents each. A token whose source or
-    /// name id does not exist has no source or name. The only error is `OutOfMemory`.
+    /// an empty ignore list and no debug id. `None` for `sources_content` is the same as an empty
+    /// list. There may be at most 4294967295 names, sources and contents each. A token has no
+    /// source if no source has its source id, and no name if no name has its name id. The only
+    /// error is `OutOfMemory`.
     pub fn new(
         alloc: Global,
         file: Option<&str>,
@@ -145,21 +146,21 @@ impl SourceMap {
         }
     }
 
-    /// The name of the generated file.
+    /// The name of the generated file, if the map has one.
     pub fn get_file(&self) -> Option<&str>
         ensures { option_copied result ≡ self.now.file }
     {
         self.metadata.file()
     }
 
-    /// The root, `sourceRoot`.
+    /// The `sourceRoot`, if the map has one.
     pub fn get_source_root(&self) -> Option<&str>
         ensures { option_copied result ≡ self.now.root }
     {
         self.sources.root()
     }
 
-    /// The debug id, which associates the map with its generated file.
+    /// The debug id, if the map has one. It associates the map with its generated file.
     pub fn get_debug_id(&self) -> Option<DebugId>
         ensures { result ≡ self.now.debug_id }
     {
@@ -195,8 +196,9 @@ impl SourceMap {
     }
 
     /// The token closest to a generated position: the first token at the position, or else the last
-    /// token before it, on its line or on an earlier one. A range token on the line of the position
-    /// adds the columns from the token to the position to its original column, up to 4294967295.
+    /// token before it, on its line or on an earlier one. `None` if all tokens are after the
+    /// position. If the token is a range token on the line of the position, its original column
+    /// includes the columns from the token to the position; the sum is at most 4294967295.
     #[inline(always)]
     pub fn lookup_token(&self, line: u32, col: u32) -> Option<Token<'_>>
         ensures value { option_map token_value result ≡ lookup self.now (line, col) }
@@ -205,9 +207,9 @@ impl SourceMap {
         self.lookup_token_steps(line, col).0
     }
 
-    /// The token that `lookup_token` returns, and the number of comparisons that the lookup made.
-    /// This number is at most 2 (d + 1), where the number of tokens has d binary digits. The lookup
-    /// allocates no memory.
+    /// The token that `lookup_token` returns, and how often the lookup compared `line` or `col`
+    /// with a number. This count is at most 2 (d + 1), where the number of tokens has d binary
+    /// digits. The lookup allocates no memory.
     #[inline(always)]
     pub fn lookup_token_steps(&self, line: u32, col: u32) -> (Option<Token<'_>>, u32)
         ensures value { option_map token_value result.0 ≡ lookup self.now (line, col) }
@@ -246,9 +248,9 @@ impl SourceMap {
         }
     }
 
-    /// The token that `lookup_token` returns, found without the table of lines. This is faster if
-    /// lookups alternate between many maps, such as the maps of the sections of an index, and no
-    /// map is in the cache.
+    /// The token that `lookup_token` returns, found without the table of lines that the map keeps.
+    /// This is faster if lookups alternate between many maps, for example those of the sections of
+    /// an index map, and no map is in the processor's cache.
     pub fn lookup_token_among_many(&self, line: u32, col: u32) -> Option<Token<'_>>
         ensures value { option_map token_value result ≡ lookup self.now (line, col) }
         ensures meaning { option_map meaning_of_token result ≡ meaning self.now (line, col) }
@@ -282,7 +284,7 @@ impl SourceMap {
     }
 
     /// A view of the contents of the source with this id, if the map has them. The map keeps the
-    /// view, so this allocates no memory.
+    /// view, so the call allocates no memory.
     pub fn get_source_view(&self, id: u32) -> Option<&SourceView>
         ensures { option_copied result ≡ contents_of self.now id }
     {

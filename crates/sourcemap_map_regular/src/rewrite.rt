@@ -22,14 +22,19 @@ impl SourceMap {
 
     /// Reduces the map to the sources and names that tokens use, each once, in the order of first
     /// use. Sources are resolved against `sourceRoot`, and the result has no root. If several
-    /// sources are equal, the contents are those of the first token whose source has contents. File
-    /// and debug id are kept, and the ignore list is cleared. As the options say, names and
-    /// contents are dropped and prefixes are cut from sources.
+    /// sources resolve to one text, the result has one source for them. Some of these sources may
+    /// have no contents. Of the others, the one that tokens use first gives the contents. File and
+    /// debug id are kept, and the ignore list is cleared. `options` says whether names and contents
+    /// are kept, and which prefixes are cut from sources.
     ///
-    /// With `load_local_source_contents`, sources without contents are read from files. The source,
-    /// before any prefix is cut, is resolved against the URL of the folder, which is `base_path`
-    /// resolved against `current_dir`. Files that cannot be read or are not UTF-8 are skipped. The
-    /// errors are `Io` of kind `InvalidInput` if the folder is not absolute, and `OutOfMemory`.
+    /// With `load_local_source_contents`, contents are loaded from files for sources without
+    /// contents, or for all sources if contents are not kept. Each of these sources, before any
+    /// prefix is cut, is resolved against the URL of a folder. The folder is `base_path` if this
+    /// path is absolute, otherwise `base_path` appended to `current_dir`. Files that cannot be read
+    /// or are not UTF-8 are skipped.
+    ///
+    /// The errors are `Io` of kind `InvalidInput` if contents are to be loaded and the folder is
+    /// not absolute, and `OutOfMemory`.
     pub fn rewrite<F: Files>(self, rt: &F, options: &RewriteOptions<'_>) -> Result<SourceMap>
         ensures value { IsAnswer (λ m. m) (Rewrites options.now self) result }
         // Each position keeps its meaning, without what the options remove.
@@ -45,8 +50,8 @@ impl SourceMap {
         Ok(map)
     }
 
-    /// The map that `rewrite` returns, and for each of its sources the old id by which a token
-    /// first uses that source. The errors are those of `rewrite`.
+    /// The map that `rewrite` returns, and for each of its sources one old id. It is the old source
+    /// id of the first token that uses this source. The errors are those of `rewrite`.
     pub fn rewrite_with_ids<F: Files>(
         self,
         rt: &F,

@@ -8,8 +8,8 @@ use sourcemap_tokens::tokens::{NO_ID, RawToken};
 use std::fmt;
 use std::str::from_utf8_unchecked;
 
-/// A token of a map, with a borrow of the map. Its getters return the source and the name that its
-/// ids stand for. A token that a lookup returned also has the columns that the lookup adds to the
+/// A token of a map, with a borrow of the map. Its getters return its source and its name as texts.
+/// A token that a lookup returned also has the number of columns that the lookup adds to the
 /// original column of a range token.
 #[derive(Clone, Copy)]
 pub struct Token<'a> {
@@ -46,14 +46,14 @@ impl<'a> Token<'a> {
         self.index
     }
 
-    /// The generated line.
+    /// The generated line, counted from 0.
     pub fn get_dst_line(&self) -> u32
         ensures { result ≡ (token_value self.now).raw.dst_line }
     {
         self.raw.dst_line
     }
 
-    /// The generated column, in UTF-16 units.
+    /// The generated column, counted from 0 in UTF-16 units.
     pub fn get_dst_col(&self) -> u32
         ensures { result ≡ (token_value self.now).raw.dst_col }
     {
@@ -68,16 +68,18 @@ impl<'a> Token<'a> {
         (self.raw.dst_line, self.raw.dst_col)
     }
 
-    /// The original line; 4294967295 if the map is well-formed and the token has no source.
+    /// The original line, counted from 0; 4294967295 if the map is well-formed and the token has no
+    /// source.
     pub fn get_src_line(&self) -> u32
         ensures { result ≡ (meaning_of_token self.now).line }
     {
         self.raw.src_line
     }
 
-    /// The original column, in UTF-16 units; 4294967295 if the map is well-formed and the token has
-    /// no source. After a lookup on the line of a range token it includes the columns from the
-    /// token to the position, up to 4294967295.
+    /// The original column, counted from 0 in UTF-16 units; 4294967295 if the map is well-formed
+    /// and the token has no source. If this is a range token that a lookup returned for a position
+    /// on its generated line, the columns from the token to the position are added. The sum is at
+    /// most 4294967295.
     pub fn get_src_col(&self) -> u32
         ensures { result ≡ (meaning_of_token self.now).column }
     {
@@ -91,22 +93,23 @@ impl<'a> Token<'a> {
         (self.get_src_line(), self.get_src_col())
     }
 
-    /// The id of the source, 4294967295 (`NO_ID`) for none.
+    /// The source id; 4294967295 (`NO_ID`) means that the token has no source.
     pub fn get_src_id(&self) -> u32
         ensures { result ≡ (token_value self.now).raw.src_id }
     {
         self.raw.src_id
     }
 
-    /// The source with the token's source id, resolved against `sourceRoot`, if the map has one.
+    /// The source with the token's source id, resolved against `sourceRoot`; `None` if no source of
+    /// the map has this id.
     pub fn get_source(&self) -> Option<&'a str>
         ensures { option_copied result ≡ (meaning_of_token self.now).source }
     {
         self.map.get_source(self.raw.src_id)
     }
 
-    /// A view of the contents of the source with the token's source id, if the map has them. It
-    /// allocates no memory.
+    /// A view of the contents of the source with the token's source id, if the map has them. The
+    /// call allocates no memory.
     pub fn get_source_view(&self) -> Option<&'a SourceView>
         ensures { option_copied result
             ≡ contents_of (token_value self.now).map_of (token_value self.now).raw.src_id }
@@ -114,28 +117,29 @@ impl<'a> Token<'a> {
         self.map.get_source_view(self.raw.src_id)
     }
 
-    /// Whether the token names a source, by an id other than 4294967295 (`NO_ID`).
+    /// Whether the token has a source id other than 4294967295 (`NO_ID`). The map need not have a
+    /// source with this id.
     pub fn has_source(&self) -> bool
         ensures { result ≡ not ((token_value self.now).raw.src_id == no_id) }
     {
         self.raw.src_id != NO_ID
     }
 
-    /// The name with the token's name id, if the map has one.
+    /// The name with the token's name id; `None` if no name of the map has this id.
     pub fn get_name(&self) -> Option<&'a str>
         ensures { option_copied result ≡ (meaning_of_token self.now).name }
     {
         self.map.get_name(self.raw.name_id)
     }
 
-    /// Whether the token has a name.
+    /// Whether the map has a name with the token's name id.
     pub fn has_name(&self) -> bool
         ensures { result ≡ is_some (meaning_of_token self.now).name }
     {
         self.get_name().is_some()
     }
 
-    /// The id of the name, 4294967295 (`NO_ID`) for none.
+    /// The name id; 4294967295 (`NO_ID`) means that the token has no name.
     pub fn get_name_id(&self) -> u32
         ensures { result ≡ (token_value self.now).raw.name_id }
     {
@@ -187,7 +191,7 @@ impl<'a> Token<'a> {
     }
 }
 
-// The longest text of a position: two colons and two numbers of ten digits.
+// The length in bytes of the longest text of a position: two colons and two numbers of ten digits.
 const POSITION_LENGTH: usize = 22;
 
 // Formats `:line:column` at the end of the buffer. One write to a formatter is faster than four.
@@ -207,9 +211,9 @@ impl fmt::Display for Token<'_> {
 
     ghost output = { λ token. Stated (token_text (meaning_of_token token)) };
 
-    /// `source:line:column`, with `<unknown>` for no source, and ` name=NAME` if there is a name.
-    /// The alternate form adds ` (line:column)`, the generated position, and ` (range)` for a range
-    /// token.
+    /// Writes `source:line:column`, the original position, with `<unknown>` if there is no source,
+    /// and ` name=NAME` if there is a name. The alternate form adds ` (line:column)`, the generated
+    /// position, and ` (range)` for a range token.
     fn fmt<W: fmt::Write>(&self, f: &mut fmt::Formatter<W>) -> fmt::Result {
         self.put(f)?;
         if f.alternate() {

@@ -45,10 +45,10 @@ impl SourceMap {
 
     /// Guesses the original name of the function at a generated position. `view` is a view of the
     /// generated text. The search starts at the token closest to the position and goes back over at
-    /// most 128 tokens, to the first token at which the generated text has `minified_name` while it
-    /// has `function` at the token before. Returns the name of the token that was found; `None` if
-    /// there is no such token, if it has no name, or if `minified_name` is no identifier. It
-    /// allocates no memory.
+    /// most 128 tokens. It stops at the first token for which the generated text has
+    /// `minified_name` at the token's position and `function` at the previous token's position.
+    /// Returns the name of that token. Returns `None` if there is no such token, if that token has
+    /// no name, or if `minified_name` is no identifier. The call allocates no memory.
     pub fn get_original_function_name(
         &self,
         line: u32,

@@ -29,9 +29,9 @@ pub fn encode_to_vec<M: Encodable>(alloc: Global, map: &M) -> Result<Vec<u8>>
 }
 
 /// Writes the compact JSON text of the map to a borrowed writer. The text is complete before the
-/// first write, so nothing is written if the record cannot be made or memory runs out before that.
-/// The error of a write is `Io`, or `OutOfMemory` if it is of that kind; the writer may then have
-/// any part of the text.
+/// first write. So nothing is written if the record cannot be made, or if memory runs out before
+/// the first write. If a write fails, the error is `Io`, or `OutOfMemory` if the write ran out of
+/// memory. The writer may then hold any part of the text.
 pub fn encode_to<M: Encodable, W: Write>(alloc: Global, map: &M, writer: &mut W) -> Result<()>
     ensures written { OnOk result ((text : List ℕ) × IsEncoded (M.encodes map.now) text
         × Appends (W.contents writer.old) (W.contents writer.new) text) }
@@ -55,9 +55,9 @@ pub fn encode<M: Encodable, W: Write + Drop>(alloc: Global, map: &M, mut writer:
 }
 
 impl SourceMap {
-    /// Writes the compact JSON text of the map. The errors are `Io` of a write, and `OutOfMemory`.
-    /// The writer is consumed, so its contents are tested, not proved; [`encode_to`] proves the
-    /// contents of a borrowed writer.
+    /// Writes the compact JSON text of the map. The errors are `Io` if a write fails, and
+    /// `OutOfMemory`. The writer is consumed, so its contents are tested, not proved; [`encode_to`]
+    /// proves the contents of a borrowed writer.
     pub fn to_writer<W: Write + Drop>(&self, writer: W) -> Result<()>
         ensures encoded { OnOk result ((text : List ℕ) × IsEncoded (RecordAnswer self.now) text) }
         ensures error { IfErr result (λ e. UnlessMemory e (IsIo e)) }
@@ -69,8 +69,8 @@ impl SourceMap {
     pub fn to_data_url(&self) -> Result<String>
         ensures url { IfOk result (λ url. (text : List ℕ) × IsEncoded (RecordAnswer self.now) text
             × (string_bytes url ≡ data_url_of text) × Holds (string_bytes url) text) }
-        // The text of a well-formed map decodes to a map with the same meaning. That map has the
-        // same parts, except for what `KeepsParts` allows.
+        // The text of a well-formed map decodes to a map with the same meaning. The decoded map has
+        // the same parts, except for what `KeepsParts` allows.
         ensures reads_back { IfOk result (λ url. IsWellFormed self.now
             → ReadsBack (UrlHasResult RegularDecodes (string_bytes url)) (Restores self.now)) }
         ensures memory { IsOkUnless result OutOfMemory }
@@ -90,8 +90,8 @@ pub fn written_maps_are_compact()
 {}
 
 /// A law: the text of a well-formed map decodes to a map with the same meaning at every position.
-/// It has the same parts, but it may lack repeated tokens, name ids that name nothing, and contents
-/// that belong to no source.
+/// The decoded map has the same parts, but it may lack repeated tokens, name ids that name nothing,
+/// and contents that belong to no source.
 pub fn written_maps_read_back()
     ensures { (m : MapValue) (text : List ℕ)
         → IsEncoded (RecordAnswer m) text → IsWellFormed m

@@ -7,8 +7,8 @@ use Rattle.sourcemap_map_rewrite.specs.KeptContents.{AreKept}
 use Rattle.sourcemap_map_rewrite.specs.Options.{options_folder}
 use Rattle.sourcemap_map_rewrite.specs.declared.options.RewriteOptions.{RewriteOptions}
 
--- the contents of these sources after loading: the options give a folder, and only sources without contents whose
--- texts resolve to paths of files may get contents
+-- the contents of these sources after loading. The options give a folder. Only sources that had no contents and that
+-- resolve to the path of a file may get contents
 abbrev pub AreLoaded : RewriteOptions → List (List ℕ) → (before after : List (Option (List ℕ))) → Type 0
 AreLoaded options sources before after = IsSomeAnd (options_folder options) (λ folder. Fills folder sources before after)
 
@@ -18,12 +18,13 @@ pub record LacksFolder (options : RewriteOptions) (e : Error) : Type 0 where
   pub none : options_folder options ≡ None
   pub error : IsNoFolder e
 
--- the contents of `count` sources before loading: kept, or none
+-- the contents of `count` sources before loading: the kept contents, or `None` for each source if contents are not kept
 abbrev pub AreKeptOrNone : Bool → (numbers order : List ℕ) → (contents : List (Option (List ℕ))) → ℕ → (unloaded : List (Option (List ℕ))) → Type 0
 AreKeptOrNone with_contents numbers order contents count unloaded =
     MatchBool with_contents (AreKept numbers order contents count unloaded) (unloaded ≡ replicate count None)
 
--- the contents of these sources: `before` are the kept contents, and loading adds others
+-- the contents of these sources after loading. `before` are their contents before loading; loading may add contents to
+-- sources that had none
 pub record AreKeptAndLoaded (options : RewriteOptions) (sources : List (List ℕ)) (numbers order : List ℕ)
     (contents : List (Option (List ℕ))) (count : ℕ) (after : List (Option (List ℕ))) : Type 0 where
   pub before : List (Option (List ℕ))

@@ -9,12 +9,12 @@ use Rattle.sourcemap_map_rewrite.specs.Kept.{present, kept_once, number_in}
 use Rattle.sourcemap_map_rewrite.specs.declared.numbering.NewNumbers.{NewNumbers}
 use Rattle.sourcemap_map_rewrite.specs.declared.numbering.Numbering.{Numbering}
 
--- the texts; if there is an optional text that they lack, it is appended
+-- the texts, with the optional text appended if there is one and the list lacks it
 abbrev pub with_text_if : List (List ℕ) → Option (List ℕ) → List (List ℕ)
 with_text_if texts None = texts
 with_text_if texts (Some text) = with_text texts text
 
--- the first result of `f` along the list that is not `None`
+-- the first result of `f` along the list that is not `None`; `None` if there is no such result
 abbrev pub first_some : {X Y : Type 0} → (X → Option Y) → List X → Option Y
 first_some f [] = None
 first_some f (x ∷ xs) = option_or (f x) (first_some f xs)
@@ -24,11 +24,11 @@ abbrev pub IsListedIfAny : List (List ℕ) → Option (List ℕ) → Type 0
 IsListedIfAny texts None = Unit {0}
 IsListedIfAny texts (Some text) = (n : ℕ) × (id_of text texts ≡ Some n)
 
--- the texts that these numbers name, each once, in the order of first use
+-- the texts at these indices, each once, in the order of first use
 abbrev pub texts_in_use : List (List ℕ) → List ℕ → List (List ℕ)
 texts_in_use texts ids = kept_once (present (map (slice_get texts) ids))
 
--- the texts that have a new number, by that number
+-- the texts that have a new number, in the order of these numbers
 abbrev pub seen_texts : List (List ℕ) → NewNumbers → List (List ℕ)
 seen_texts texts n = texts_in_use texts n.order.items
 
@@ -51,7 +51,7 @@ pub record AreNumbered (texts : List (List ℕ)) (n : NewNumbers) : Type 0 where
   pub seen : AllByRecursion (IsSeen texts n) n.order.items
   pub others : (id : ℕ) (text : List ℕ) → slice_get texts id ≡ Some text → IsSeenOrNot texts n id
 
--- the numbers after one more old number was seen
+-- a use of `id` turns the numbers `old` into the numbers `new`
 pub record NumbersMore (texts : List (List ℕ)) (id : ℕ) (old new : NewNumbers) : Type 0 where
   pub kept : seen_texts texts new ≡ with_text_if (seen_texts texts old) (slice_get texts id)
   pub seen : (f : ℕ → Option (List ℕ)) → (slice_get texts id ≡ None → f id ≡ None)
@@ -61,7 +61,7 @@ pub record IsNumbering (texts : List (List ℕ)) (n : Numbering) : Type 0 where
   pub numbered : AreNumbered texts n.seen
   pub index : n.ids ≡ seen_texts texts n.seen
 
--- the numbering after an old number got its new number
+-- `new` is `old` with `number` assigned to the old number `id`, whose text is `text`
 pub record Assigns (text : List ℕ) (id number : ℕ) (old new : Numbering) : Type 0 where
   pub numbered : id_of text new.ids ≡ Some number
   pub index : new.ids ≡ with_text old.ids text

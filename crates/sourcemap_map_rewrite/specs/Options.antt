@@ -4,7 +4,7 @@ use Rattle.std.specs.Option.{option_copied}
 use Rattle.sourcemap_source_files.specs.Loading.{folder_of}
 use Rattle.sourcemap_map_rewrite.specs.declared.options.RewriteOptions.{RewriteOptions}
 
--- what is kept, and which prefixes are cut from sources
+-- what `rewrite` keeps, and which prefixes it cuts from sources
 pub record Removal : Type 0 where
   pub with_names : Bool
   pub with_contents : Bool
@@ -17,7 +17,7 @@ removal_of options = record {
   prefixes = map (λ prefix. prefix.now) options.strip_prefixes.now;
 }
 
--- the default: names and contents are kept, no file is read, and no prefix is cut
+-- the default options: names and contents are kept, no file is read, no prefix is cut, and no folder is given
 pub record IsDefault (options : RewriteOptions) : Type 0 where
   pub names : options.with_names ≡ true
   pub contents : options.with_source_contents ≡ true
@@ -29,6 +29,7 @@ pub record IsDefault (options : RewriteOptions) : Type 0 where
 abbrev pub no_removal : Removal
 no_removal = record { with_names = true; with_contents = true; prefixes = [] }
 
--- the folder of the sources: `base_path` resolved against `current_dir`, which is empty by default
+-- the folder of the sources: `base_path` if it is absolute, otherwise `base_path` appended to `current_dir`, which is
+-- empty by default; `None` if neither path is absolute
 abbrev pub options_folder : RewriteOptions → Option (List ℕ)
 options_folder options = folder_of (unwrap_or (option_copied options.current_dir) []) (option_copied options.base_path)

@@ -19,15 +19,17 @@ abbrev pub contents_among : List (List ℕ) → List (Option (List ℕ)) → Lis
 contents_among sources contents text t =
     option_and_then (λ source. cond (bytes_eq source text) (item_at contents t.src_id) None) (slice_get sources t.src_id)
 
--- the contents of the first token whose source is this text and has contents
+-- the contents for a text. The first token whose source is this text and has contents decides: the result is the
+-- contents of its source. `None` if there is no such token
 abbrev pub resulting_contents : List (List ℕ) → List (Option (List ℕ)) → List RawToken → List ℕ → Option (List ℕ)
 resulting_contents sources contents tokens text =
     slice_get (present (map (contents_among sources contents text) tokens)) 0
 
--- the sources and the names that tokens use
+-- the sources that tokens use, each once, in the order of first use
 abbrev pub sources_used : List (List ℕ) → List RawToken → List (List ℕ)
 sources_used sources tokens = texts_in_use sources (map (λ t. t.src_id) tokens)
 
+-- the names that tokens use, each once, in the order of first use
 abbrev pub names_used : List (List ℕ) → List RawToken → List (List ℕ)
 names_used names tokens = texts_in_use names (map (λ t. t.name_id) tokens)
 
@@ -35,12 +37,13 @@ names_used names tokens = texts_in_use names (map (λ t. t.name_id) tokens)
 abbrev pub first_ids_used : List (List ℕ) → List RawToken → List ℕ
 first_ids_used sources tokens = firsts_of sources (map (λ t. t.src_id) tokens)
 
--- the contents of the sources in use before loading
+-- the contents that the sources in use have before loading; `None` for each if contents are not kept
 abbrev pub contents_before : Removal → List (List ℕ) → List (Option (List ℕ)) → List RawToken → List (Option (List ℕ))
 contents_before removal sources contents tokens =
     map (λ text. cond removal.with_contents (resulting_contents sources contents tokens text) None) (sources_used sources tokens)
 
--- the contents of the result: also loaded ones if the options ask for loading
+-- the contents of the result: the kept contents, and loaded contents if the options ask for loading; an empty list if
+-- contents are neither kept nor loaded
 abbrev pub AreResultingContents : RewriteOptions → List (List ℕ) → (contents : List (Option (List ℕ))) → List RawToken → (after : List (Option (List ℕ))) → Type 0
 AreResultingContents options sources contents tokens after =
     MatchBool options.load_local_source_contents

@@ -15,7 +15,7 @@ use sourcemap_texts::paths::find_common_prefix;
 use sourcemap_texts::prefixes::strip_text;
 use std::alloc::Global;
 
-// In a list of prefixes this means the common prefix of the paths.
+// In a list of prefixes, `~` means the common prefix of the absolute paths among the sources.
 const COMMON_MARKER: &str = "~";
 
 fn common_of(alloc: Global, texts: &[String]) -> Result<Option<String>>
@@ -98,7 +98,8 @@ fn cut_all(alloc: Global, texts: &mut [String], prefixes: &[String]) -> Result<(
     Ok(())
 }
 
-// The prefixes to cut. `~` is replaced by the common prefix of `paths`, which comes last.
+// The prefixes to cut: `prefixes` without `~`. If `~` was among them, and the absolute paths among
+// `paths` have a common prefix, this common prefix comes last.
 pub(crate) fn all_prefixes(
     alloc: Global,
     prefixes: &[&str],

@@ -10,7 +10,7 @@ use crate::numbering::NewNumbers;
 use sourcemap_errors::errors::Result;
 use std::alloc::Global;
 
-// For each new number, the first of the old numbers that became it.
+// For each new number, the first old number in `numbers.order` that has this new number.
 pub(crate) fn first_ids(alloc: Global, numbers: &NewNumbers, count: usize) -> Result<Vec<u32>>
     requires { AllByRecursion (HasNewNumber numbers.now.numbers.items count) numbers.now.order.items }
     ensures ok { (texts : List (List ℕ)) → AreNumbered texts numbers.now

@@ -10,7 +10,7 @@ use sourcemap_source_views::sourceview::SourceView;
 use sourcemap_tokens::items::take_item;
 use std::alloc::Global;
 
-// Moves the contents of `id` to `new_id`, unless that has contents already.
+// Moves the contents of `id` to `new_id`, unless `new_id` has contents already.
 fn move_contents(
     contents: &mut Vec<Option<SourceView>>,
     id: usize,
@@ -40,8 +40,8 @@ pub(crate) fn without_contents(alloc: Global, count: usize) -> Result<Vec<Option
     Ok(list)
 }
 
-// The contents by new number. If several old numbers share a new number, the first old number with
-// contents wins.
+// The contents by new number. If several old numbers have the same new number, the first of them in
+// `order` with contents gives its contents.
 pub(crate) fn kept_contents(
     alloc: Global,
     mut contents: Vec<Option<SourceView>>,

@@ -18,7 +18,7 @@ fn take_text(alloc: Global, texts: &mut Vec<String>, id: usize) -> String
     mem::replace(&mut texts[id], String::new(alloc))
 }
 
-// The texts in use by new number. Each is moved from its first old number.
+// The texts in use, in the order of their new numbers. Each is moved from its first old number.
 pub(crate) fn kept_texts(
     alloc: Global,
     mut texts: Vec<String>,

@@ -1,5 +1,5 @@
-//! The steps of `rewrite` on the lists of a map: drops unused sources and names, deduplicates the
-//! others, renumbers tokens, moves contents with their sources or loads them from files, and cuts
+//! The steps of `rewrite` on the lists of a map. They drop unused sources and names, deduplicate
+//! the others, renumber tokens, move contents with their sources, load contents from files, and cut
 //! prefixes. Nothing here depends on the type of a map.
 #![tactic(auto)]
 

@@ -95,7 +95,8 @@ fn contents_loaded<F: Files>(
     Ok(contents)
 }
 
-// The contents of the sources by new number: kept, loaded, or both, as the options say.
+// The contents of the sources by new number: kept, loaded, or both, as the options say; an empty
+// list if the options ask for neither.
 pub(crate) fn resulting_contents<F: Files>(
     rt: &F,
     alloc: Global,

@@ -45,7 +45,8 @@ impl<'a> Numbering<'a> {
         })
     }
 
-    // The new number of the old number `id`; `NO_ID` if `id` is no index of a text.
+    // The new number of the old number `id`. Assigns one if `id` has none yet. Returns `NO_ID` if
+    // `id` is not an index of `texts`.
     pub(crate) fn number(&mut self, texts: &'a [String], id: u32) -> Result<u32>
         requires few { length texts.now ≤ 4294967295 }
         requires numbering { IsNumbering (map string_bytes texts.now) self.old }
@@ -70,7 +71,8 @@ impl<'a> Numbering<'a> {
         Ok(number)
     }
 
-    // Assigns a new number to the old number `id`, which has none yet.
+    // Assigns the number of `text` to the old number `id`, which has no new number yet. Returns the
+    // number.
     fn assign(&mut self, text: &'a str, id: u32) -> Result<u32>
         requires within { id < vec_len self.old.seen.numbers }
         requires below_max { id_of text.now self.old.ids ≡ None → length self.old.ids < 4294967295 }

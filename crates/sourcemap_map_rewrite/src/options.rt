@@ -7,17 +7,19 @@ pub struct RewriteOptions<'a> {
     pub with_names: bool,
     /// Whether contents of sources are kept.
     pub with_source_contents: bool,
-    /// Whether contents are loaded from files for sources without contents. The source, before any
-    /// prefix is cut, is resolved against the URL of the folder that `current_dir` and `base_path`
-    /// give. A file that cannot be read or is not UTF-8 is skipped. If the folder is not absolute,
-    /// `rewrite` returns `Io` of kind `InvalidInput`.
+    /// Whether contents are loaded from files for sources without contents. If
+    /// `with_source_contents` is false, they are loaded for all sources. Each of these sources,
+    /// before any prefix is cut, is resolved against the URL of the folder that `current_dir` and
+    /// `base_path` give. A file that cannot be read or is not UTF-8 is skipped. If the folder is
+    /// not absolute, `rewrite` returns `Io` of kind `InvalidInput`.
     pub load_local_source_contents: bool,
-    /// The folder of the sources. A relative `base_path` is appended to `current_dir`, an absolute
-    /// `base_path` replaces it.
+    /// The folder of the sources. An absolute `base_path` is the folder; a relative one is appended
+    /// to `current_dir`. `None` is the same as the empty string.
     pub base_path: Option<&'a str>,
-    /// Prefixes to cut from sources. A prefix that does not end with `/` gets one. Of the prefixes
-    /// that a source starts with, only the first is cut. `~` means the common prefix of the
-    /// absolute paths among the sources, and is tried last.
+    /// Prefixes to cut from sources. A slash is appended to a prefix that does not end with `/`. Of
+    /// the prefixes that a source starts with, only the first is cut. `~` means the common prefix
+    /// of all sources that are absolute paths. For this prefix, sources are taken as they are
+    /// written, not resolved against `sourceRoot`. It is tried last.
     pub strip_prefixes: &'a [&'a str],
     /// The folder that a relative `base_path` starts from. `None` is the same as the empty string.
     pub current_dir: Option<&'a str>,

@@ -40,7 +40,8 @@ fn renumber_each(
     })
 }
 
-// Returns the tokens with new numbers, and these numbers.
+// Returns the tokens with new source and name ids, and the new id of each old source id and name
+// id.
 pub(crate) fn renumber(
     alloc: Global,
     tokens: TokenList,

@@ -17,7 +17,7 @@ use sourcemap_source_views::sourceview::SourceView;
 use std::alloc::Global;
 use std::rt::Files;
 
-// The sources as resolved against `sourceRoot` if they are given, otherwise the sources as written.
+// The sources resolved against `sourceRoot`, if `rooted` has them. Otherwise `sources`.
 fn rooted_or_plain<'a>(rooted: &'a Option<Vec<String>>, sources: &'a Vec<String>) -> &'a [String]
     ensures { map string_bytes result.now ≡ texts_of (unwrap_or rooted.now sources.now) }
 {
@@ -52,16 +52,17 @@ pub struct RewrittenParts {
     pub names: Vec<String>,
     /// The sources in use.
     pub sources: Vec<String>,
-    /// The contents of `sources`.
+    /// The contents of `sources`, by index; an empty list if contents are neither kept nor loaded.
     pub contents: Vec<Option<SourceView>>,
     /// For each of `sources` its old id. If it had several, the id by which a token first uses it.
     pub first_ids: Vec<u32>,
 }
 
-/// Rewrites the parts of a map. `with_root` has the sources resolved against `sourceRoot`, if the
-/// map has a `sourceRoot`. The common prefix that `~` means is that of `sources`. The errors are
-/// `Io` of kind `InvalidInput` if contents are to be loaded and the folder is not absolute, and
-/// `OutOfMemory`.
+/// Rewrites the parts of a map. `with_root` has the sources resolved against `sourceRoot`; `None`
+/// means that they are the same as `sources`. The prefix `~` means the common prefix of the
+/// absolute paths among `sources`. The option `with_names` is ignored; the caller applies it to
+/// `names` beforehand, with [`names_if`]. The errors are `Io` of kind `InvalidInput` if contents
+/// are to be loaded and the folder is not absolute, and `OutOfMemory`.
 pub fn rewritten_parts<F: Files>(
     rt: &F,
     alloc: Global,
@@ -85,7 +86,7 @@ pub fn rewritten_parts<F: Files>(
     let prefixes = all_prefixes(alloc, options.strip_prefixes, sources.as_slice())?;
     let texts = into_rooted_or_plain(with_root, sources);
     let texts = kept_texts(alloc, texts, &numbers.sources)?;
-    // before prefixes are cut: files are found by the whole source
+    // before prefixes are cut: a source with its prefix leads to its file
     let contents = resulting_contents(
         rt,
         alloc,

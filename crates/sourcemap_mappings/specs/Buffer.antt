@@ -8,6 +8,6 @@ pub record Adds (numbers : List ℤ) (old new : List ℕ) : Type 0 where
   pub spelled : Spells numbers digits
   pub added : new ≡ old ++ digits
 
--- the raw value of the difference of two numbers: twice its absolute value, plus 1 if it is negative
+-- the raw value of `number` minus `against`: twice the absolute value of this difference, plus 1 if it is negative
 abbrev pub raw_difference : ℕ → ℕ → ℕ
 raw_difference number against = if nat_lt number against then 2 * (against - number) + 1 else 2 * (number - against)

@@ -15,7 +15,8 @@ pub record Line : Type 0 where
   pub bits : List ℕ
   pub segments : List Segment
 
--- the tokens of some segments of line n, after `here` in the line and `before` in earlier lines
+-- the tokens of some segments of line n, which come after the segments `here` of this line and the segments `before`
+-- of earlier lines
 abbrev pub line_tokens : ℕ → List ℕ → List Segment → List Segment → List Segment → List RawToken
 line_tokens n bits before here [] = []
 line_tokens n bits before here (s ∷ later) =
@@ -42,7 +43,8 @@ PartError counts index before part e =
     HasError part e
     ⊎ ((s : Segment) × (s.index ≡ index) × Reads part s.numbers × (segment_error counts (before ++ s ∷ []) s ≡ Some e))
 
--- the parts of a line, of which the first has this index, decode to valid segments, after the segments `before`
+-- these parts of a line, of which the first has this index, decode to these valid segments, after the segments
+-- `before`. An empty part decodes to no segment
 abbrev pub PartsRead : Counts → ℕ → List Segment → List (List ℕ) → List Segment → Type 0
 PartsRead counts index before [] segments = segments ≡ []
 PartsRead counts index before ([] ∷ parts) segments = PartsRead counts (index + 1) before parts segments
@@ -59,7 +61,7 @@ PartsError counts index before ((c ∷ cs) ∷ parts) e =
     ⊎ ((s : Segment) × PartRead counts index before (c ∷ cs) s
     × PartsError counts (index + 1) (before ++ s ∷ []) parts e)
 
--- a line of the text, and the text of its range bits
+-- a line of `mappings`, and the text of its range bits
 abbrev pub LineText : Type 0
 LineText = List ℕ × List ℕ
 
@@ -70,7 +72,7 @@ LineRead counts n before ((c ∷ cs), bits) line =
     (n < 2 ^ 32) × (first_non_digit bits ≡ None) × (line.bits ≡ bits)
     × PartsRead counts 0 before (parts_of (c ∷ cs)) line.segments
 
--- the first error of line n: its number, then its range bits, then its parts
+-- the first error of line n: of its number, else of its range bits, else of its parts; an empty line has no error
 abbrev pub LineError : Counts → ℕ → List Segment → LineText → Error → Type 0
 LineError counts n before ([], bits) e = ⊥
 LineError counts n before ((c ∷ cs), bits) e =
@@ -92,8 +94,8 @@ LinesError counts n before (text ∷ texts) e =
     LineError counts n before text e
     ⊎ ((line : Line) × LineRead counts n before text line × LinesError counts (n + 1) (before ++ line.segments) texts e)
 
--- each line with the text of its range bits, which is empty where it is missing;
--- range bits after the last line are ignored
+-- each line of `mappings` with the text of its range bits. The text is empty for a line without range bits; range
+-- bits after the last line are ignored
 abbrev pub with_range_bits : List (List ℕ) → List (List ℕ) → List LineText
 with_range_bits [] ranges = []
 with_range_bits (line ∷ lines) [] = (line, []) ∷ with_range_bits lines []

@@ -13,12 +13,14 @@ use Rattle.sourcemap_mappings.specs.Segment.{Counts, Segment, parts_of}
 use Rattle.sourcemap_mappings.specs.SegmentSteps.{AreTextSums, AreSums}
 use Rattle.sourcemap_mappings.specs.Read.{Line, line_tokens, PartsRead, LineText, LineRead, lines_of}
 
--- if no column decreased: the tokens are sorted, and none is after this line and column
+-- if no column decreased within its line (`rises`), the tokens are sorted, and none of them is after the position that
+-- consists of this line and the column of the sums
 abbrev pub AreInOrderTo : ℕ → Sums → List RawToken → Type 0
 AreInOrderTo line sums tokens = IsTrue sums.rises
     → AreInOrder tokens × AllByRecursion (λ t. is_lt (position_cmp (line, sums.column) (destination t)) ≡ false) tokens
 
--- if no column decreased up to the later sums, none did up to the earlier ones, nor between them
+-- if no column decreased up to the later sums, then no column decreased up to the earlier sums, and the later column
+-- is at least the earlier one
 abbrev pub RiseFrom : (earlier later : Sums) → Type 0
 RiseFrom earlier later = IsTrue later.rises → IsTrue earlier.rises × (earlier.column ≤ later.column)
 
@@ -26,40 +28,43 @@ RiseFrom earlier later = IsTrue later.rises → IsTrue earlier.rises × (earlier
 abbrev pub AddsOnLine : (line : ℕ) (old new : List RawToken) → Type 0
 AddsOnLine line old new = (more : List RawToken) × (new ≡ old ++ more) × AllByRecursion (λ t. t.dst_line ≡ line) more
 
--- the line table of the tokens before index `first` becomes that of all tokens, if the others are on one later line
+-- if the tokens from index `first` on are all on one line, after the lines of the earlier tokens, and `old` is the line
+-- table of the earlier tokens, then `new` is the line table of all tokens
 abbrev pub AddsRow : (old new : LineTable) (tokens : List RawToken) (first : ℕ) → Type 0
 AddsRow old new tokens first = (line : ℕ) (before more : List RawToken) → tokens ≡ before ++ more → first ≡ length before
     → AllByRecursion (λ t. t.dst_line < line) before → AllByRecursion (λ t. t.dst_line ≡ line) more
     → IsLineTable before (length before) old → IsLineTable tokens (length tokens) new
 
--- the tokens of some parts of a line, from this position on and after `before` and `here`, are added; the sums include them
+-- the tokens of some parts of a line are appended. The first of these parts is at this position. It comes after the
+-- segments `before` of earlier lines and `here` of this line. The sums include all of the parts
 pub record AddsParts (counts : Counts) (position : PartPosition) (bits : List ℕ) (before here : List Segment) (parts : List (List ℕ)) (old new : List RawToken) (sums : Sums) : Type 0 where
   pub segments : List Segment
   pub read : PartsRead counts position.index (before ++ here) parts segments
   pub tokens : new ≡ old ++ line_tokens position.line bits before here segments
   pub sums_after : AreSums before (here ++ segments) sums
 
--- the tokens of the first part of a line are added; `tail` is the rest of the line after it, None if it was the last part
+-- the tokens of the first part of a line are appended. `tail` is the text after the `,` that ends this part, or
+-- `None` if the line has no other part
 pub record AddsFirstPart (counts : Counts) (position : PartPosition) (bits : List ℕ) (before here : List Segment) (line : List ℕ) (old new : List RawToken) (sums : Sums) (tail : Option (Bor (List ℕ))) : Type 0 where
   pub part : List ℕ
   pub split : parts_of line ≡ part ∷ option_map_or (λ rest. parts_of rest.now) tail []
   pub adds : AddsParts counts position bits before here (part ∷ []) old new sums
 
--- the tokens of the first part of a line are added, whatever segments are before it;
--- the earlier sums become the later ones
+-- the tokens of the first part of a line are appended. The sums before the part are `earlier`, the sums after it are
+-- `later`. The segments before the part can be any segments with the sums `earlier`
 pub record TakesPart (counts : Counts) (position : PartPosition) (bits line : List ℕ) (earlier later : Sums) (old new : List RawToken) (tail : Option (Bor (List ℕ))) : Type 0 where
   pub added : (before here : List Segment) → AreSums before here earlier → AddsFirstPart counts position bits before here line old new later tail
   pub shorter : IfSome tail (λ rest. length rest.now < length line)
   pub order : AreInOrderTo position.line earlier old → AreInOrderTo position.line later new
   pub on_line : AddsOnLine position.line old new
 
--- the tokens of line n, after the segments `before`, are added; the sums include them
+-- the tokens of line n, which comes after the segments `before`, are appended; the sums include the line
 pub record AddsLine (counts : Counts) (n : ℕ) (before : List Segment) (text : LineText) (old new : List RawToken) (sums : Sums) : Type 0 where
   pub line : Line
   pub read : LineRead counts n before text line
   pub tokens : new ≡ old ++ line_tokens n line.bits before [] line.segments
   pub sums_after : AreTextSums (before ++ line.segments) sums
 
--- the lines of the rest of a text, none at its end
+-- the lines of the rest of a text, or no lines if there is no rest
 abbrev pub lines_left : Option (Bor (List ℕ)) → List (List ℕ)
 lines_left text = option_map_or (λ rest. lines_of rest.now) text []

@@ -1,5 +1,5 @@
--- Segments: their numbers, the token of a segment, and its first error. Each part of a line that is
--- not empty is a segment, which has one token.
+-- Segments: their numbers, the token of a segment, and its first error. A line is split into parts at each `,`. Each
+-- part that is not empty is a segment, which has one token.
 use Rattle.std.specs.Prelude.{ℕ, ◌%◌, ◌^◌, ℤ, pos, unsigned_abs, List, length, slice_get, sum_by, Option, Some, None, Bool, not, ◌&&◌, ◌||◌, ◌==◌, nat_lt, nat_le, min, if◌then◌else◌}
 use Rattle.std.specs.Option.{option_map_or}
 use Rattle.std.specs.List.{slice_split}
@@ -18,36 +18,38 @@ comma = 44
 abbrev pub semicolon : ℕ
 semicolon = 59
 
--- the parts of a line
+-- the parts of a line, which is split at each `,`
 abbrev pub parts_of : List ℕ → List (List ℕ)
 parts_of line = slice_split (λ b. b == comma) line
 
--- the numbers of sources and names of a map
+-- how many sources and how many names a map has
 pub record Counts : Type 0 where
   pub sources : ℕ
   pub names : ℕ
 
--- a segment: its index among the parts of its line, of which empty ones count too, and its numbers
+-- a segment: its index among the parts of its line, where empty parts count too, and its numbers
 pub record Segment : Type 0 where
   pub index : ℕ
   pub numbers : List ℤ
 
--- number k of a segment modulo 2^32, 0 if it is missing
+-- number k of a segment, counted from 0, modulo 2^32; 0 if the segment has no number k
 abbrev pub step : ℕ → Segment → ℕ
 step k s = option_map_or (λ z. unsigned_abs (int_rem_euclid z (pos (2 ^ 32)))) (slice_get s.numbers k) 0
 
--- the sum of the numbers k of some segments, modulo 2^32
+-- the sum of number k over some segments, modulo 2^32
 abbrev pub sum_at : ℕ → List Segment → ℕ
 sum_at k segments = sum_by (step k) segments % 2 ^ 32
 
 abbrev pub has_number : ℕ → Segment → Bool
 has_number k s = nat_lt k (length s.numbers)
 
--- a field of a token: a sum over all segments so far, or `no_id`
+-- a field of the token of segment s, for number k: the sum of number k over all segments up to and including s, or
+-- `no_id` if s has no number k
 abbrev pub field : ℕ → List Segment → Segment → ℕ
 field k all s = if has_number k s then sum_at k all else no_id
 
--- the token of segment s of line n: `here` are the segments of its line up to s, `all` those of the text up to s
+-- the token of segment s on line n. `here` are the segments of the line up to and including s, `all` are those of the
+-- whole text up to and including s
 abbrev pub token_of : ℕ → List ℕ → List Segment → List Segment → Segment → RawToken
 token_of n bits here all s = record {
   dst_line = n;
@@ -64,7 +66,8 @@ token_of n bits here all s = record {
 abbrev pub is_size : ℕ → Bool
 is_size size = (size == 1) || (size == 4) || (size == 5)
 
--- the first error of a segment's numbers, where `all` are the segments of the text up to it
+-- the first error of the numbers of segment s, or `None` if they are valid. `all` are the segments of the text up to
+-- and including s
 abbrev pub segment_error : Counts → List Segment → Segment → Option Error
 segment_error counts all s =
     if not (is_size (length s.numbers)) then Some (BadSegmentSize (min (length s.numbers) 4294967295))

@@ -11,13 +11,15 @@ use Rattle.sourcemap_mappings.specs.declared.segment.Numbers.{Numbers}
 use Rattle.sourcemap_mappings.specs.declared.segment.Limits.{Limits}
 use Rattle.sourcemap_mappings.specs.Segment.{Counts, Segment, step, sum_at, comma, parts_of}
 
--- the count of some numbers, and the first five modulo 2^32
+-- `read` holds the count of these numbers, or 4294967295 if there are more, and the first five of them modulo 2^32,
+-- with 0 for each missing number
 pub record AreSteps (numbers : List ℤ) (read : Numbers) : Type 0 where
   pub count : read.count ≡ min (length numbers) 4294967295
   pub five : length read.steps ≡ 5
   pub each : (k : ℕ) → k < 5 → slice_index read.steps k ≡ step k (record { index = 0; numbers = numbers })
 
--- the numbers of a line's first part; `tail` is the rest of the line after its `,`, None if it is the last part
+-- `read` holds the numbers of a line's first part. `tail` is the text after the `,` that ends this part, or `None` if
+-- the line has no other part
 pub record HasFirstPart (line : List ℕ) (read : Numbers) (tail : Option (Bor (List ℕ))) : Type 0 where
   pub part : List ℕ
   pub numbers : List ℤ
@@ -26,12 +28,12 @@ pub record HasFirstPart (line : List ℕ) (read : Numbers) (tail : Option (Bor (
   pub reads : Reads part numbers
   pub steps : AreSteps numbers read
 
--- a part ends here: at the end of the line, or at a `,`
+-- a part ends where `rest` begins: `rest` is empty, or it is a `,` followed by `tail`
 abbrev pub EndsPart : List ℕ → Option (Bor (List ℕ)) → Type 0
 EndsPart rest None = rest ≡ []
 EndsPart rest (Some tail) = rest ≡ comma ∷ tail.now
 
--- a text is a number, which is s modulo 2^32, followed by `rest`
+-- a text is the digits of a number, followed by `rest`; `s` is the number modulo 2^32
 abbrev pub BeginsWithStep : List ℕ → ℕ → List ℕ → Type 0
 BeginsWithStep text s rest = (n : ℤ) × BeginsWith text n rest × (s ≡ unsigned_abs (int_rem_euclid n (pos (2 ^ 32))))
 
@@ -43,25 +45,26 @@ pub record HasPartError (line : List ℕ) (e : Error) : Type 0 where
   pub some : part ≢ []
   pub error : HasError part e
 
--- An error in the digits of a line is an error in the first part of the line. There a `,` is not an invalid
--- digit, but the end of the part within a number.
+-- an error of the digits of a line, as the error of the part in which it occurs. In the line, a `,` within a number is
+-- an invalid digit. But the part ends at the `,`, so its error is `VlqLeftover`: it ends within a number
 abbrev pub error_in_part : Error → Error
 error_in_part (InvalidBase64 c) = if c == comma then VlqLeftover else InvalidBase64 c
 error_in_part e = e
 
--- the sums that do not restart at a line, after these segments: source, line, source column and name
+-- after these segments, the sums that do not restart on each line: source, original line, original column and name
 pub record AreTextSums (segments : List Segment) (sums : Sums) : Type 0 where
   pub source : sums.source ≡ sum_at 1 segments
   pub line : sums.line ≡ sum_at 2 segments
   pub source_column : sums.source_column ≡ sum_at 3 segments
   pub name : sums.name ≡ sum_at 4 segments
 
--- all sums after the segments `before` of earlier lines and `here` of this line; that of columns restarts at each line
+-- all sums after the segments `before` of earlier lines and the segments `here` of this line. The sum of columns
+-- restarts on each line
 pub record AreSums (before here : List Segment) (sums : Sums) : Type 0 where
   pub column : sums.column ≡ sum_at 0 here
   pub text : AreTextSums (before ++ here) sums
 
--- a part with these numbers, at least one, at this index of its line; the sums include it
+-- a part at this index of its line decodes to these numbers, of which there is at least one; the sums include them
 pub record IsSegmentRead (index : ℕ) (before here : List Segment) (part : List ℕ) (numbers : List ℤ) (count : ℕ) (sums : Sums) : Type 0 where
   pub some : 0 < length numbers
   pub count_is : count ≡ min (length numbers) 4294967295

@@ -17,7 +17,7 @@ is_on n t = t.dst_line == n
 abbrev pub is_above : ℕ → RawToken → Bool
 is_above n t = nat_lt t.dst_line n
 
--- the number of lines: those from 0 to that of the last token
+-- the number of lines from line 0 to that of the last token; 0 if there are no tokens
 abbrev pub line_count : List RawToken → ℕ
 line_count tokens = option_map_or (λ t. t.dst_line + 1) (last_or None tokens) 0
 
@@ -26,7 +26,8 @@ abbrev pub EachLine : (ℕ → List ℕ → Type 0) → ℕ → List (List ℕ) 
 EachLine IsPart n [] = Unit {0}
 EachLine IsPart n (part ∷ parts) = IsPart n part × EachLine IsPart (n + 1) parts
 
--- a text consists of one part for each line of the tokens
+-- a text consists of one part for each line from 0 to that of the last token, joined by `;`; each part satisfies
+-- `IsPart` for its line
 abbrev pub LineByLine : (ℕ → List ℕ → Type 0) → List RawToken → List ℕ → Type 0
 LineByLine IsPart tokens text =
     (parts : List (List ℕ)) × (length parts ≡ line_count tokens) × EachLine IsPart 0 parts × (text ≡ join_with_byte semicolon parts)
@@ -40,12 +41,13 @@ has_source t = not (t.src_id == no_id)
 abbrev pub has_name : ℕ → RawToken → Bool
 has_name names t = has_source t && nat_lt t.name_id names
 
--- a field of the last token that satisfies a test, 0 if none does
+-- a field of the last token that satisfies a test, or 0 if no token does
 abbrev pub last_field : (RawToken → Bool) → (RawToken → ℕ) → List RawToken → ℕ
 last_field passes field tokens = option_map_or field (last_or None (filter passes tokens)) 0
 
--- what the next token on line n is relative to, after the tokens `before`: the column of the last one on its line,
--- the source and original position of the last one with a source, the name of the last one with a name
+-- the values that the next token on line n is relative to, after the tokens `before`: the column of the last token on
+-- line n, the source and original position of the last token with a source, and the name of the last token with a
+-- name. Each value is 0 if there is no such token
 abbrev pub base : ℕ → ℕ → List RawToken → RawToken
 base names n before = record {
   dst_line = n;
@@ -57,12 +59,12 @@ base names n before = record {
   is_range = false;
 }
 
--- the difference of two numbers
+-- a minus b, which may be negative
 abbrev pub difference : ℕ → ℕ → ℤ
 difference a b = pos a -ℤ pos b
 
--- the numbers of a token's segment, each the difference to `against`: the generated column;
--- if it has a source, the source and the original position; if it also has a name, the name
+-- the numbers of a token's segment, each the difference to `against`: the generated column; if the token has a
+-- source, also the source and the original position; if it has a name as well, also the name
 abbrev pub numbers : ℕ → RawToken → RawToken → List ℤ
 numbers names against t =
     difference t.dst_col against.dst_col
@@ -97,7 +99,7 @@ IsWritten names tokens text = LineByLine (IsLine names (without_repeats tokens))
 abbrev pub IsRangeLine : List RawToken → ℕ → List ℕ → Type 0
 IsRangeLine tokens n bits = IsBitText (map (λ t. t.is_range) (filter (is_on n) tokens)) bits
 
--- the encoding of the range flags of sorted tokens as `rangeMappings`, None if no token is a range mapping
+-- the encoding of the range flags of sorted tokens as `rangeMappings`, or `None` if no token is a range mapping
 abbrev pub IsRangeText : List RawToken → Option (List ℕ) → Type 0
 IsRangeText tokens None = list_any (λ t. t.is_range) tokens ≡ false
 IsRangeText tokens (Some text) =

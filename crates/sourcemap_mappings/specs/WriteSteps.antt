@@ -6,27 +6,28 @@ use Rattle.sourcemap_tokens.specs.Tokens.{are_same}
 use Rattle.sourcemap_mappings.specs.Segment.{comma, semicolon}
 use Rattle.sourcemap_mappings.specs.Write.{has_source, has_name}
 
--- the columns and lines of a token that are written have 32 bits
+-- the generated column of a token is below 2^32; if the token has a source, so are its original line and column
 abbrev pub HasSmallPositions : RawToken → Type 0
 HasSmallPositions t = (t.dst_col < 2 ^ 32) × (has_source t ≡ true → (t.src_line < 2 ^ 32) × (t.src_col < 2 ^ 32))
 
--- the token is equal to the one before it
+-- the token is equal to the previous token; false if there is no previous token
 abbrev pub repeats : Option RawToken → RawToken → Bool
 repeats previous t = option_map_or (λ p. are_same t p) previous false
 
--- the token before this one is on its line
+-- the previous token is on the line of the token; false if there is no previous token
 abbrev pub follows : Option RawToken → RawToken → Bool
 follows previous t = option_map_or (λ p. p.dst_line == t.dst_line) previous false
 
--- what is written before the segment of t: a comma, or the line ends from `line` up to its own line
+-- the text before the segment of t: a comma if the previous token is on the line of t, otherwise one semicolon for each
+-- line after `line`, up to and including the line of t
 abbrev pub gap : Option RawToken → ℕ → RawToken → List ℕ
 gap previous line t = if follows previous t then comma ∷ [] else replicate (t.dst_line - line) semicolon
 
--- what the first segment of line n is relative to
+-- the token that a segment on line n is relative to: `against`, moved to column 0 of line n if it is on another line
 abbrev pub at_line : RawToken → ℕ → RawToken
 at_line against n = if against.dst_line == n then against else record against { dst_line = n; dst_col = 0 }
 
--- what the segment after that of t is relative to
+-- the new value of `against` after the segment of t: the next segment on the line is relative to this token
 abbrev pub next_base : ℕ → RawToken → RawToken → RawToken
 next_base names against t = record against {
   dst_line = t.dst_line;

@@ -1,4 +1,4 @@
-//! A buffer in front of the encoded text, so that most numbers cost one store.
+//! A buffer that collects digits for the encoded text. Most numbers then cost one to three stores.
 ghost use Rattle.std.specs.Prelude.{◌≡◌, ℕ, ◌+◌, ◌<◌, ◌≤◌, ◌^◌, [], ◌∷◌, ◌++◌, take, OnOk, string_bytes};
 ghost use Rattle.std.specs.Str.{IsAscii};
 ghost use Rattle.sourcemap_mappings.specs.Write.{difference};
@@ -15,8 +15,8 @@ static ONE_DIGIT: [u8; 31] = [
     b'C', b'E', b'G', b'I', b'K', b'M', b'O', b'Q', b'S', b'U', b'W', b'Y', b'a', b'c', b'e',
 ];
 
-// Writes the digits of a difference into the buffer at `at`, and returns their end. Fast for one
-// digit.
+// Writes the digits of `number - against` into the buffer from index `at` on, and returns the index
+// after the last of them. Fast for one digit.
 #[inline(always)]
 pub(crate) fn put_one(buffer: &mut [u8; BUFFER_SIZE], at: usize, number: u32, against: u32) -> usize
     requires { at + 7 ≤ 1024 }
@@ -35,7 +35,8 @@ pub(crate) fn put_one(buffer: &mut [u8; BUFFER_SIZE], at: usize, number: u32, ag
 }
 
 // As `put_one`, but fast for one or two digits: it stores two bytes in both cases. After one digit,
-// the next write overwrites the second byte. So there is no branch to mispredict.
+// the next write overwrites the second byte. So the two cases need no branch, which could be
+// mispredicted.
 #[inline(always)]
 pub(crate) fn put_two(buffer: &mut [u8; BUFFER_SIZE], at: usize, number: u32, against: u32) -> usize
     requires { at + 7 ≤ 1024 }
@@ -55,7 +56,7 @@ pub(crate) fn put_two(buffer: &mut [u8; BUFFER_SIZE], at: usize, number: u32, ag
     at + 1 + second as usize
 }
 
-// As `put_two`, for up to three digits.
+// As `put_two`, but fast for one to three digits: it stores three bytes in each of these cases.
 #[inline(always)]
 pub(crate) fn put_three(
     buffer: &mut [u8; BUFFER_SIZE],
@@ -92,7 +93,7 @@ fn continues(raw: u64, worth: u64) -> u64
     u64::from(raw >= worth)
 }
 
-// VLQ puts the sign into the lowest bit.
+// The raw value of `number - against`. VLQ puts the sign into its lowest bit.
 #[inline(always)]
 fn raw_difference(number: u32, against: u32) -> u64
     ensures value { result ≡ raw_difference number against }
@@ -101,7 +102,7 @@ fn raw_difference(number: u32, against: u32) -> u64
     2 * u64::from(number.abs_diff(against)) + u64::from(number < against)
 }
 
-// As `put_one`, for any number of digits.
+// As `put_one`, but without a fast path.
 fn put_any(buffer: &mut [u8; BUFFER_SIZE], at: usize, number: u32, against: u32) -> usize
     requires { at + 7 ≤ 1024 }
     ensures text { Adds (difference number against ∷ []) (take at buffer.old)

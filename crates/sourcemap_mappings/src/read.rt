@@ -22,12 +22,13 @@ use sourcemap_tokens::tokens::RawToken;
 use sourcemap_vlq::bits::test_digits;
 use std::alloc::Global;
 
-// The maximum initial capacity in tokens. A list that grows beyond a size that the allocator keeps
-// available is moved, and its pages are touched twice.
+// The maximum initial capacity, in tokens. It is high, so that few lists have to grow. If a long
+// list grows, the allocator may move it, and then its pages are touched twice.
 const FIRST_TOKENS: usize = 1 << 23;
 
-// Lists up to this length are shrunk. The unused end of a longer list is pages that were never
-// touched, and after a shrink the allocator would request them from the system again each time.
+// Only lists up to this length, in tokens, are shrunk. A longer list keeps its unused end, whose
+// pages were never touched. If longer lists were shrunk, the allocator would request new pages from
+// the system each time that a map is decoded.
 const SMALL_LIST: usize = 4096;
 
 // The sums before the first segment.
@@ -40,8 +41,8 @@ const START: Sums = Sums {
     name: 0,
 };
 
-/// Splits off the first line of a text. Returns it without its `;`, and the text after the `;` if
-/// there is one.
+/// Splits off the first line of a text. Returns the line without its `;`, and the text after the
+/// `;`, or `None` if there is no `;`.
 #[inline]
 pub fn split_line(text: &str) -> (&str, Option<&str>)
     ensures split { lines_of text.now ≡ result.0.now ∷ lines_left result.1 }
@@ -53,7 +54,8 @@ pub fn split_line(text: &str) -> (&str, Option<&str>)
     }
 }
 
-// Adds the token of a segment with `count` numbers, where `sums` include it.
+// Checks a segment with `count` numbers, and appends its token. The segment is already included in
+// `sums`.
 #[inline(always)]
 fn add_token(
     tokens: &mut Vec<RawToken>,
@@ -80,8 +82,8 @@ fn add_token(
     Ok(())
 }
 
-// Adds the token of the first part of a line unless it is empty. Returns the sums after it, and the
-// rest of the line after its `,` if there is one.
+// Decodes the first part of a line, and appends its token. An empty part has no token. Returns the
+// sums after the part, and the text after its `,`, or `None` at the end of the line.
 #[cold]
 #[inline(never)]
 fn add_any_part<'a>(
@@ -107,7 +109,7 @@ fn add_any_part<'a>(
     Ok((after, later))
 }
 
-// Adds the tokens of a line that is not empty. Returns the sums after it.
+// Appends the tokens of a line that is not empty. Returns the sums after the line.
 fn add_parts(
     tokens: &mut Vec<RawToken>,
     text: &[u8],
@@ -155,7 +157,8 @@ fn add_parts(
     }
 }
 
-// Adds the tokens of a line. Returns the sums after it.
+// Appends the tokens of line `number`, counted from 0, with the range bits `bits`. Returns the sums
+// after the line.
 fn add_line(
     tokens: &mut Vec<RawToken>,
     text: &[u8],
@@ -185,7 +188,8 @@ fn add_line(
     add_parts(tokens, text, bits, line, sums, limits)
 }
 
-// The next line of range bits, empty after the end of the text, and the text after it.
+// Splits off the next line of range bits. Returns the line, and the text after its `;`, or `None`
+// if there is no `;`. If `ranges` is `None`, returns an empty line and `None`.
 #[inline]
 fn next_bits(ranges: Option<&str>) -> (&str, Option<&str>)
     ensures { (line : List ℕ) (lines : List (List ℕ))
@@ -206,8 +210,8 @@ struct ReadLines {
     rises: bool,
 }
 
-// Adds the row of a line to the table if the line has tokens. `first` is the index of its first
-// token.
+// Adds the row of a line to the table. The tokens of the line are those from index `first` on. If
+// there are no such tokens, the table is unchanged.
 fn add_row(table: &mut LineIndex, tokens: &[RawToken], first: usize) -> Result<()>
     ensures row { OnOk result (AddsRow table.old table.new tokens.now first) }
     ensures memory { IfErr result (λ e. e ≡ OutOfMemory) }
@@ -257,7 +261,8 @@ fn read_lines(alloc: Global, mappings: &str, ranges: &str, limits: Limits) -> Re
     })
 }
 
-// The initial capacity is an estimate from above.
+// The initial capacity is one token for every five bytes of `mappings`, which is usually more than
+// needed.
 fn shrink_small(tokens: &mut Vec<RawToken>)
     ensures { tokens.new.items ≡ tokens.old.items }
 {
@@ -278,13 +283,16 @@ fn token_list_of(mut read: ReadLines) -> Result<TokenList>
     TokenList::from_unsorted(read.tokens)
 }
 
-/// Decodes `mappings` and `rangeMappings` of a map with these numbers of sources and names. Returns
-/// the tokens sorted by generated position, with their line table, which is built while decoding.
+/// Decodes the `mappings` and `rangeMappings` of a map with `sources` sources and `names` names.
+/// Returns the tokens, stably sorted by generated position, with their line table. If the tokens
+/// are decoded in this order, the table is built while decoding.
 ///
-/// Returns the first error from the left. For a line that is not empty the order is:
-/// `IncompatibleSourceMap` after line 4294967295, `InvalidBase64` in its range bits, then the error
-/// of its first invalid segment: of its digits, `BadSegmentSize`, `BadSourceReference`,
-/// `BadNameReference`. The only other error is `OutOfMemory`.
+/// Returns the first error from the left. The errors of a line that is not empty are, in this
+/// order: `IncompatibleSourceMap` if the line number, counted from 0, is above 4294967295,
+/// `InvalidBase64` for its range bits, then the error of its first invalid segment. That is the
+/// first error of the digits (`InvalidBase64`, `VlqOverflow` or `VlqLeftover`), otherwise
+/// `BadSegmentSize`, `BadSourceReference` or `BadNameReference`. The only other error is
+/// `OutOfMemory`.
 pub fn parse_token_list(
     alloc: Global,
     mappings: &str,

@@ -12,22 +12,24 @@ use sourcemap_tokens::tokens::{NO_ID, RawToken};
 use sourcemap_vlq::bits::has_bit;
 use sourcemap_vlq::vlq::next_number;
 
-// The numbers of sources and names of the map.
+// How many sources and how many names the map has.
 #[derive(Clone, Copy)]
 pub(crate) struct Limits {
     pub(crate) sources: u32,
     pub(crate) names: u32,
 }
 
-// The line of a part, and the index of the part in the line. Empty parts count too.
+// The generated line of a part, and the index of the part in its line, both 0-based. A part is the
+// text up to a `,` or the end of the line. Empty parts count too.
 #[derive(Clone, Copy)]
 pub(crate) struct PartPosition {
     pub(crate) line: u32,
     pub(crate) index: usize,
 }
 
-// The sums of the numbers so far, modulo 2^32. The sum of columns starts anew on each line.
-// `rises`: no column was less than the one before it, so the tokens so far are sorted.
+// The sums of the numbers decoded so far, one for each kind, modulo 2^32. The sum of columns starts
+// anew on each line. `rises`: no column was less than the column before it on its line, so the
+// tokens so far are sorted.
 #[derive(Clone, Copy)]
 pub(crate) struct Sums {
     pub(crate) rises: bool,
@@ -41,9 +43,9 @@ pub(crate) struct Sums {
 /// The decoded numbers of a segment.
 #[derive(Clone, Copy)]
 pub struct Numbers {
-    /// The number of numbers, at most 4294967295.
+    /// How many numbers the segment has, or 4294967295 if there are more.
     pub count: u32,
-    /// The first five numbers modulo 2^32, 0 for a missing one.
+    /// The first five numbers modulo 2^32, with 0 for each missing number.
     pub steps: [u32; 5],
 }
 
@@ -66,8 +68,8 @@ fn add_number(read: &mut Numbers, number: i64)
     read.count = count.saturating_add(1);
 }
 
-// Numbers are decoded from the whole line. So a `,` within a number means that the segment ends
-// within this number.
+// `next_number` gets the rest of the line, not only the segment. So it returns `InvalidBase64(',')`
+// if the segment ends within a number.
 #[inline]
 fn error_in_part(error: Error) -> Error
     ensures { result ≡ error_in_part error }
@@ -78,7 +80,9 @@ fn error_in_part(error: Error) -> Error
     }
 }
 
-// If the segment ends here: the rest of the line after its `,`, or `None` at the end of the line.
+// Returns `Some(Some(tail))` if `rest` begins with a `,`, where `tail` is the text after it.
+// Returns `Some(None)` if `rest` is empty, that is, at the end of the line. Otherwise returns
+// `None`: the segment goes on.
 #[inline(always)]
 fn part_end(rest: &[u8]) -> Option<Option<&[u8]>>
     ensures { IfSome result (EndsPart rest.now) }
@@ -100,9 +104,10 @@ fn next_step(rest: &[u8]) -> Option<(u32, &[u8])>
     }
 }
 
-// The fast path: the numbers of the first segment, and the rest of the line after its `,`. `None`
-// unless the digits are valid and the segment has one, four or five numbers. Unrolled, because each
-// of the five numbers tends to have one length, which helps branch prediction.
+// The fast path of `any_part`, for a segment of one, four or five numbers. Returns the same numbers
+// and the same text after the `,`. Returns `None` if a number is invalid, or if the segment has
+// another count of numbers. There is no loop: each of the five numbers tends to have the same
+// length in all segments, which helps branch prediction.
 #[inline(always)]
 pub(crate) fn usual_part(line: &[u8]) -> Option<(Numbers, Option<&[u8]>)>
     ensures read { IfSome result (λ read. HasFirstPart line.now read.0 read.1) }
@@ -126,9 +131,10 @@ pub(crate) fn usual_part(line: &[u8]) -> Option<(Numbers, Option<&[u8]>)>
     Some((Numbers { count: 5, steps }, tail))
 }
 
-/// Decodes all numbers of the first segment of a line, and returns them with the rest of the line
-/// after its `,`, if there is one. An empty segment has no numbers. Returns the first error of the
-/// digits: `InvalidBase64`, `VlqOverflow` or `VlqLeftover`.
+/// Decodes all numbers of the first segment of a line. Returns them with the text after the `,`
+/// that ends the segment, or with `None` if the line ends there. An empty segment has no numbers.
+/// Returns the first error of the segment's digits: `InvalidBase64`, `VlqOverflow` or
+/// `VlqLeftover`.
 #[cold]
 #[inline(never)]
 pub fn any_part(line: &[u8]) -> Result<(Numbers, Option<&[u8]>)>
@@ -181,7 +187,8 @@ fn is_size(count: u32) -> bool
     count == 1 || count == 4 || count == 5
 }
 
-// Checks a segment with `count` numbers, where `sums` include it.
+// Checks a segment with `count` numbers: first the count, then the source id, then the name id. The
+// segment is already included in `sums`.
 #[inline]
 pub(crate) fn check_segment(count: u32, sums: Sums, limits: Limits) -> Result<()>
     ensures { (before here : List Segment) (s : Segment) → AreSums before here sums
@@ -209,7 +216,8 @@ fn field(count: u32, index: u32, sum: u32) -> u32
     if index < count { sum } else { NO_ID }
 }
 
-// The token of a segment with `count` numbers. `sums` are those up to and with this segment.
+// The token of a segment with `count` numbers, which is already included in `sums`. `bits` are the
+// range bits of its line.
 #[inline]
 pub(crate) fn token_at(position: PartPosition, bits: &[u8], count: u32, sums: Sums) -> RawToken
     ensures token { (before here : List Segment) (s : Segment) → AreSums before here sums

@@ -18,7 +18,7 @@ use sourcemap_tokens::tokens::{NO_ID, RawToken};
 use sourcemap_vlq::bits::push_bits;
 use std::alloc::{AllocError, Global};
 
-// What the first segment is relative to.
+// The first segment is relative to this token.
 const START: RawToken = RawToken {
     dst_line: 0,
     dst_col: 0,
@@ -29,7 +29,7 @@ const START: RawToken = RawToken {
     is_range: false,
 };
 
-// The maximum initial capacity in tokens, of six bytes each.
+// The initial capacity of the text is six bytes for each token, but for at most this many tokens.
 const FIRST_TOKENS: usize = 1 << 28;
 
 // The maximum size of a token in bytes: a comma and five numbers of seven digits.
@@ -80,8 +80,10 @@ fn push_line_ends(text: &mut String, from: u32, to: u32) -> std::result::Result<
     Ok(())
 }
 
-// Writes the comma or the line ends before the segment of a token, where text and buffer together
-// have reached `line`. A comma and a single line end go into the buffer.
+// Writes the comma or the semicolons before the segment of a token, and returns the new end of the
+// buffered bytes. The output so far is the text, followed by the first `at` bytes of the buffer. It
+// has reached `line`. A comma or a single semicolon goes into the buffer. Any other number of
+// semicolons goes into the text, after a flush.
 #[inline(always)]
 fn put_gap(
     text: &mut String,
@@ -112,8 +114,8 @@ fn put_gap(
     Ok(0)
 }
 
-// Writes the segment of a token relative to `against`, and updates `against` to what the next
-// segment is relative to.
+// Writes the segment of a token into the buffer from index `start` on, relative to `against`.
+// Returns the index after the segment. The next segment is relative to the new value of `against`.
 #[inline(always)]
 fn put_segment(
     buffer: &mut [u8; BUFFER_SIZE],
@@ -148,7 +150,7 @@ fn put_segment(
     at
 }
 
-// Generated columns start anew on each line.
+// Moves `against` to `line`. Generated columns start anew on each line.
 #[inline(always)]
 fn move_to_line(against: &mut RawToken, line: u32)
     ensures value { against.new ≡ at_line against.old line }
@@ -160,7 +162,8 @@ fn move_to_line(against: &mut RawToken, line: u32)
     }
 }
 
-// Flushes the buffer if a token may not fit into it.
+// Flushes the buffer if fewer than `TOKEN_SIZE` bytes are free in it. Returns the new end of the
+// buffered bytes.
 #[inline(always)]
 fn make_space(
     text: &mut String,
@@ -181,8 +184,9 @@ fn make_space(
     Ok(0)
 }
 
-// Adds the segment of a token, with what separates it from the one before, to a text that has
-// reached the line of `against`. Updates `against`.
+// Writes the comma or the semicolons before the segment of a token, and then the segment. The
+// output so far has reached the line of `against`. Updates `against`, and returns the new end of
+// the buffered bytes.
 #[inline(always)]
 fn put_token(
     text: &mut String,
@@ -212,19 +216,21 @@ fn put_token(
     Ok(put_segment(buffer, start, against, token, names))
 }
 
-/// Encodes sorted tokens as `mappings`, for a map with this number of names. The only error is
+/// Encodes sorted tokens as `mappings`, for a map with `names` names. The only error is
 /// `OutOfMemory`.
 ///
 /// The lines from 0 to that of the last token are separated by `;`, the segments of a line by `,`.
-/// A token without a source has one number, its generated column. A token with a source has four:
-/// generated column, source id, original line and original column; and a fifth, the name id, if
-/// that is below `names`. Each number is the difference to the last written one of its kind, or to
-/// 0, in its shortest digits; generated columns start anew on each line. A token equal to the one
-/// before it is not written. No tokens give the empty text.
+/// A token without a source has one number, its generated column. A token with a source has four
+/// numbers: generated column, source id, original line and original column. It has the name id as a
+/// fifth number if that id is below `names`. Each number is written as its difference to the last
+/// written number of its kind, in the shortest digits. The first number of each kind, and the first
+/// generated column of each line, is written as its difference to 0. A token equal to the token
+/// before it is not written. An empty list gives the empty text.
 ///
-/// Range flags are in the text of `write_range_mappings`. If all tokens are within the counts of
-/// sources and names, both texts decode with these counts to the same tokens without repeats. In
-/// the decoded tokens, a name id that is not below `names` is [`NO_ID`].
+/// `write_range_mappings` writes the range flags. Both texts together, decoded with a count of
+/// sources and with `names`, give the same tokens without repeats, with [`NO_ID`] for each name id
+/// that is not below `names`. For this, each token must have a source id below the count of
+/// sources, or else no source, no original position and no name id below `names`.
 pub fn write_mappings(alloc: Global, tokens: &[RawToken], names: u32) -> Result<String>
     requires { AreInOrder tokens.now }
     ensures text { IfOk result (λ s. IsWritten names tokens.now (string_bytes s)) }
@@ -259,8 +265,9 @@ pub fn write_mappings(alloc: Global, tokens: &[RawToken], names: u32) -> Result<
     Ok(text)
 }
 
-/// Encodes the range flags of sorted tokens as `rangeMappings`, line by line for the segments that
-/// `write_mappings` writes. `None` if no token is a range mapping. The only error is `OutOfMemory`.
+/// Encodes the range flags of sorted tokens as `rangeMappings`: for each line, the flags of the
+/// segments that `write_mappings` writes. Returns `None` if no token is a range mapping. The only
+/// error is `OutOfMemory`.
 pub fn write_range_mappings(alloc: Global, tokens: &[RawToken]) -> Result<Option<String>>
     requires { AreInOrder tokens.now }
     ensures text { IfOk result (λ o. IsRangeText tokens.now (option_map string_bytes o)) }
@@ -304,8 +311,8 @@ fn range_text(alloc: Global, tokens: &[RawToken]) -> Result<String>
     Ok(text)
 }
 
-/// A law: a list of tokens determines its `mappings` text, for a given count of names. It also
-/// determines its `rangeMappings` text, or that it has none.
+/// A law: a list of tokens and a count of names determine the `mappings` text. The tokens alone
+/// determine the `rangeMappings` text, or that there is no such text.
 pub fn written_texts_are_determined()
     ensures one_text { (names : ℕ) (tokens : List RawToken) (a b : List ℕ)
         → IsWritten names tokens a → IsWritten names tokens b → a ≡ b }

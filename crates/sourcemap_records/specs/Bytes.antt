@@ -1,5 +1,6 @@
--- The JSON value and the record of bytes, or the error. Which results a JSON value, bytes and a data URL have, if it
--- is known which results a record has. What a call that reads bytes may return.
+-- The JSON value and the record of bytes, and the errors for bytes that have no JSON value or no record. The results of
+-- decoding a JSON value, bytes or a data URL, given the results of decoding a record. What a call that reads bytes may
+-- return.
 use Rattle.std.specs.Prelude.{◌≡◌, ◌⊎◌, ℕ, List, Option, Some, None, IfSome, MatchOption, Result, Ok, Err, IsErrAnd, IsUtf8}
 use Rattle.std.specs.IoError.{error_kind}
 use Rattle.std.specs.declared.io.Error.{Error as IoError}
@@ -21,7 +22,7 @@ use Rattle.sourcemap_records.specs.Jsontypes.{Tree, record_of}
 abbrev pub IsJson : List ℕ → Data → Type 0
 IsJson text d = IsUtf8 text × (read text ≡ Some d)
 
--- the JSON value of bytes, whose junk header is dropped if they have one
+-- the JSON value of bytes; a junk header, if there is one, is dropped first
 abbrev pub HoldJson : List ℕ → Data → Type 0
 HoldJson bytes d = (text : List ℕ) × (after_header bytes ≡ Some text) × IsJson text d
 
@@ -43,19 +44,19 @@ abbrev pub HoldNoRecord : List ℕ → Error → Type 0
 HoldNoRecord bytes e =
     ((d : Data) × HoldJson bytes d × (record_of d ≡ None) × (e ≡ BadJson Shape)) ⊎ HoldNoJson bytes e
 
--- `Decodes` says which results a record may have. The next definitions say the same of JSON values, of bytes and of
--- data URLs. If these have no record, the only result is the error of reading them.
+-- `Decodes` says which results the decoding of a record may have. The next three definitions say the same of a JSON
+-- value, of bytes and of a data URL. If an input has no record, the result is the error of reading it.
 
--- a result for a JSON value
+-- a result of decoding a JSON value
 abbrev pub ValueHasResult : {Y : Type 0} → (Tree → Result Y Error → Type 0) → Data → Result Y Error → Type 0
 ValueHasResult Decodes d answer = MatchOption (record_of d) (answer ≡ Err (BadJson Shape)) (λ t. Decodes t answer)
 
--- a result for bytes
+-- a result of decoding bytes
 abbrev pub BytesHaveResult : {Y : Type 0} → (Tree → Result Y Error → Type 0) → List ℕ → Result Y Error → Type 0
 BytesHaveResult Decodes bytes answer =
     ((d : Data) × HoldJson bytes d × ValueHasResult Decodes d answer) ⊎ IsErrAnd answer (HoldNoJson bytes)
 
--- a result for a data URL
+-- a result of decoding a data URL
 abbrev pub UrlHasResult : {Y : Type 0} → (Tree → Result Y Error → Type 0) → List ℕ → Result Y Error → Type 0
 UrlHasResult Decodes url answer =
     ((bytes : List ℕ) × Holds url bytes × BytesHaveResult Decodes bytes answer)
@@ -74,7 +75,8 @@ AreSame (Ok m) (Ok n) = m ≡ n
 AreSame (Err e) (Err f) = IsSameError e f
 AreSame _ _ = ⊥
 
--- `P`, unless the error is a failed read or out of memory; a read that ran out of memory is `OutOfMemory`, not `Io`
+-- `P`, unless the error says that a read failed or that memory ran out. If a read runs out of memory, the error is
+-- `OutOfMemory`, and not `Io`
 abbrev pub UnlessReadFails : Error → Type 0 → Type 0
 UnlessReadFails (Io cause) P = P ⊎ FromIo cause (Io cause)
 UnlessReadFails e P = UnlessMemory e P
@@ -84,6 +86,6 @@ abbrev pub IsAnswerRead : {X Y : Type 0} → (X → Y) → (Result Y Error → T
 IsAnswerRead view Answers (Ok x) = Answers (Ok (view x))
 IsAnswerRead view Answers (Err e) = UnlessReadFails e (Answers (Err e))
 
--- `P` holds of the bytes of a reader: of the `known` ones, or of some bytes if the reader does not specify them
+-- `P` holds of the bytes of a reader: of those in `known`, or of some bytes if `known` is `None`
 abbrev pub Reading : Option (List ℕ) → (List ℕ → Type 0) → Type 0
 Reading known P = (bytes : List ℕ) × IfSome known (λ remaining. bytes ≡ remaining) × P bytes

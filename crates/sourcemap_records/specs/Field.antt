@@ -1,5 +1,5 @@
--- How one key of a record is read from JSON and written as JSON. Reading gives `None` for a value of
--- another type.
+-- How one key of a record is read from JSON and written as JSON. Reading gives `None` for a JSON value of the wrong
+-- type.
 use Rattle.std.specs.Prelude.{◌≡◌, ℕ, ◌^◌, option_and_then, List, [], ◌∷◌, map, Option, Some, None, option_map, nat_lt, if◌then◌else◌, false, Result, Ok, Err}
 use Rattle.std.specs.Str.{bytes_eq}
 use Rattle.serde_json.specs.Data.{Data, null, number, array, unsigned, Items, no_items, item, Members, put}
@@ -10,7 +10,7 @@ use Rattle.sourcemap_errors.specs.declared.errors.Error.TheVariants.{BadJson}
 use Rattle.sourcemap_errors.specs.declared.errors.JsonFault.TheVariants.{Shape}
 use Rattle.sourcemap_errors.specs.Answer.{UnlessMemory, Gives}
 
--- the result of a reading: `BadJson(Shape)` where it gives `None`
+-- `Ok` with the value that was read, or `BadJson(Shape)` for `None`
 abbrev pub due : {X : Type 0} → Option X → Result X Error
 due (Some x) = Ok x
 due None = Err (BadJson Shape)
@@ -18,11 +18,11 @@ due None = Err (BadJson Shape)
 abbrev pub with : {X Y : Type 0} → Option X → (X → Option Y) → Option Y
 with x next = option_and_then next x
 
--- all members but one are as before
+-- all members except the one at `key` are as before
 abbrev pub KeepsOthers : List ℕ → Members → Members → Type 0
 KeepsOthers key before after = (other : List ℕ) → bytes_eq other key ≡ false → get_member other after ≡ get_member other before
 
--- the result, mapped by `see`, is `reading`, or `BadJson(Shape)` if `reading` is `None`; unless memory ran out
+-- unless memory ran out, the result, mapped by `see`, is `reading`; it is `BadJson(Shape)` if `reading` is `None`
 abbrev pub GivesReading : {X Y : Type 0} → (X → Y) → Result X Error → Option Y → Type 0
 GivesReading see (Ok x) reading = reading ≡ Some (see x)
 GivesReading see (Err e) reading = UnlessMemory e ((e ≡ BadJson Shape) × (reading ≡ None))
@@ -50,7 +50,7 @@ small n = if nat_lt n (2 ^ 32) then Some n else None
 abbrev pub small_number : Data → Option ℕ
 small_number d = with (as_number d) (λ n. with (as_u64 n) small)
 
--- `Some None` for null, else what was read
+-- null is read as `Some None`; for any other value, what was read is wrapped in `Some`
 abbrev pub or_null_of : {X : Type 0} → Data → Option X → Option (Option X)
 or_null_of null _ = Some None
 or_null_of _ x = option_map Some x
@@ -65,7 +65,7 @@ items_read read (item d ds) = with (read d) (λ x. with (items_read read ds) (λ
 abbrev pub list : {X : Type 0} → (Data → Option X) → Data → Option (List X)
 list read d = with (as_array d) (items_read read)
 
--- a key that may be missing or null
+-- the value of a key that may be missing or null
 abbrev pub found : {X : Type 0} → (Data → Option X) → Option Data → Option (Option X)
 found read None = Some None
 found read (Some d) = or_null read d
@@ -73,7 +73,7 @@ found read (Some d) = or_null read d
 abbrev pub at : {X : Type 0} → List ℕ → (Data → Option X) → Members → Option (Option X)
 at key read ms = found read (get_member key ms)
 
--- a required key
+-- the value of a required key
 abbrev pub required : {X : Type 0} → List ℕ → (Data → Option X) → Members → Option X
 required key read ms = with (get_member key ms) read
 
@@ -89,12 +89,12 @@ written_or_null write None = null
 abbrev pub written_list : {X : Type 0} → (X → Data) → List X → Data
 written_list write xs = array (items_of (map write xs))
 
--- the members, after the value, if there is one, is put at the key
+-- `ms` with this value at `key`; without a value, `ms` unchanged
 abbrev pub put_if : List ℕ → Option Data → Members → Members
 put_if key (Some d) ms = put key d ms
 put_if key None ms = ms
 
--- the members, after these entries are put one after another
+-- `ms` with each of these entries put into it, the first one first; an entry without a value changes nothing
 abbrev pub put_all : List (List ℕ × Option Data) → Members → Members
 put_all [] ms = ms
 put_all (e ∷ es) ms = put_all es (put_if e.0 e.1 ms)

@@ -56,7 +56,7 @@ mutual
     bare : SectionHead → Sections → Sections
     mapped : SectionHead → Tree → Sections → Sections
 
--- one section alone
+-- a section: its head, and its map if it has one
 pub record Section : Type 0 where
   pub head : SectionHead
   pub map : Option Tree
@@ -82,7 +82,7 @@ flat (indexed fields _) = fields
 abbrev pub debug_id : Data → Option (List ℕ)
 debug_id d = with (text d) debug_id_of
 
--- the first of two spellings wins; an invalid value of either is an error
+-- `debugId` wins over `debug_id`; an invalid value of either key is an error
 abbrev pub debug_id_in : Members → Option (Option (List ℕ))
 debug_id_in ms =
     with (at (codes "debugId") debug_id ms) (λ new.
@@ -243,7 +243,7 @@ abbrev mutual
   written_sections (bare head rest) = item (written_section head null) (written_sections rest)
   written_sections (mapped head t rest) = item (written_section head (written t)) (written_sections rest)
 
--- one section alone
+-- the JSON value of one section; a missing map is written as null
 abbrev pub written_one : Section → Data
 written_one s = written_section s.head (written_or_null written s.map)
 
@@ -273,12 +273,12 @@ abbrev mutual
   AreSectionsInRange (bare head rest) = IsSectionHeadInRange head × AreSectionsInRange rest
   AreSectionsInRange (mapped head t rest) = IsSectionHeadInRange head × IsInRange t × AreSectionsInRange rest
 
--- one section alone
+-- the head of a section is in range, and so is its map, if it has one
 abbrev pub IsSectionInRange : Section → Type 0
 IsSectionInRange s = IsSectionHeadInRange s.head × IfSome s.map IsInRange
 
--- no `file` is a JSON null, neither that of the record nor that of a section's map; a null is read as a missing
--- `file`
+-- `file` is never a JSON null, neither in the record nor in the maps of its sections. A JSON null would read back as a
+-- missing `file`
 abbrev mutual
   pub HasNoNullFile : Tree → Type 0
   HasNoNullFile (plain fields) = fields.file ≢ Some null

@@ -130,7 +130,7 @@ extra_keys_in ms =
       x_facebook_sources = x_facebook_sources;
     })))))
 
--- the keys that reading a group removes, the last one first
+-- the keys that are removed when a group is read, in reverse order of reading
 abbrev pub file_key_names : List (List ℕ)
 file_key_names = codes "sourceRoot" ∷ codes "sources" ∷ codes "file" ∷ codes "version" ∷ []
 

@@ -14,7 +14,8 @@ use sourcemap_json_read::values::value_from_slice;
 use std::alloc::Global;
 use std::io::Read;
 
-/// Reads a reader to its end. A failed read is `Io`; any other error is `OutOfMemory`.
+/// Reads a reader to its end and returns the bytes. The error is `OutOfMemory` if memory runs out,
+/// in a read or elsewhere. It is `Io` if a read fails for another reason.
 pub fn read_all<R: Read + Drop>(alloc: Global, mut reader: R) -> Result<Vec<u8>>
     ensures { MatchResult result
         (λ bytes. IfSome (R.remaining reader) (λ known. bytes.items ≡ known))
@@ -26,8 +27,9 @@ pub fn read_all<R: Read + Drop>(alloc: Global, mut reader: R) -> Result<Vec<u8>>
 }
 
 /// Drops the junk header of the bytes, if they have one, and returns the JSON value of the rest. An
-/// invalid header is `Io` of kind `InvalidData`, and a rest that is not JSON is `BadJson(Parse)`.
-/// Any other error is `OutOfMemory`.
+/// invalid header is `Io` of kind `InvalidData`. A rest that is not JSON, nests deeper than 127
+/// levels or has a number too large for `f64` is `BadJson(Parse)`. Any other error is
+/// `OutOfMemory`.
 pub fn read_json(alloc: Global, bytes: &[u8]) -> Result<Value>
     ensures { MatchResult result
         (λ value. HoldJson bytes.now (view value))
@@ -37,7 +39,7 @@ pub fn read_json(alloc: Global, bytes: &[u8]) -> Result<Value>
     Ok(value_from_slice(alloc, text)?)
 }
 
-// `read_json` of bytes that are dropped once the value is read.
+// Returns what `read_json` returns. The bytes are dropped once the value is read.
 fn read_json_owned(alloc: Global, bytes: Vec<u8>) -> Result<Value>
     ensures { MatchResult result
         (λ value. HoldJson bytes.items (view value))
@@ -47,9 +49,7 @@ fn read_json_owned(alloc: Global, bytes: Vec<u8>) -> Result<Value>
 }
 
 /// Drops the junk header of the bytes, if they have one, and returns the record of the JSON in the
-/// rest. An invalid header is `Io` of kind `InvalidData`, a rest that is not JSON is
-/// `BadJson(Parse)`, and JSON that is not a record is `BadJson(Shape)`. Any other error is
-/// `OutOfMemory`.
+/// rest. JSON that is not a record is `BadJson(Shape)`. The other errors are those of `read_json`.
 pub fn read_record(alloc: Global, bytes: &[u8]) -> Result<RawSourceMap>
     ensures { MatchResult result
         (λ raw. HoldRecord bytes.now (tree raw))

@@ -14,10 +14,10 @@ use std::alloc::Global;
 
 // A type that a field of a record may have.
 pub(crate) trait Field: Drop {
-    // The type that stands for a field in clauses.
+    // The type of the value that represents a field in contracts.
     ghost Seen: { Type 0 };
 
-    // What a field is in clauses.
+    // The value that represents a field in contracts.
     ghost see: { Self → Seen };
 
     // What a JSON value is read as, or `None` if it is not valid for this type.
@@ -223,7 +223,8 @@ pub(crate) fn remove_value(members: &mut Map<String, Value>, key: &str) -> Optio
     members.remove(key)
 }
 
-// Removes and reads a field that may be missing or null.
+// Removes the value at `key` and reads it as a field. Returns `None` if the key is missing or null.
+// A value of the wrong type is `BadJson(Shape)`.
 pub(crate) fn read_optional<F: Field>(
     alloc: Global,
     members: &mut Map<String, Value>,
@@ -240,7 +241,7 @@ pub(crate) fn read_optional<F: Field>(
     }
 }
 
-// The items of an array, or `None` for null.
+// The items of an array, or `None` for null. Any other value is `BadJson(Shape)`.
 fn value_list(value: Value) -> Result<Option<Vec<Value>>>
     ensures { GivesReading (option_map (λ v. map view v.items)) result
         (or_null (list any) (view value)) }
@@ -252,8 +253,8 @@ fn value_list(value: Value) -> Result<Option<Vec<Value>>>
     }
 }
 
-// Removes and returns an array, which may be missing or null. Moves the `Vec` as a whole, not item
-// by item.
+// Removes the array at `key` and returns its items, or `None` if the key is missing or null. Any
+// other value is `BadJson(Shape)`. Moves the `Vec` as a whole, not item by item.
 pub(crate) fn read_values(members: &mut Map<String, Value>, key: &str) -> Result<Option<Vec<Value>>>
     ensures value { GivesReading (option_map (λ v. map view v.items)) result
         (at key.now (list any) (members_view members.old.entries)) }
@@ -266,7 +267,8 @@ pub(crate) fn read_values(members: &mut Map<String, Value>, key: &str) -> Result
     }
 }
 
-// Removes and reads a required field.
+// Removes the value at `key` and reads it as a field. A missing key and a value of the wrong type
+// are `BadJson(Shape)`.
 pub(crate) fn read_required<F: Field>(
     alloc: Global,
     members: &mut Map<String, Value>,
@@ -283,7 +285,7 @@ pub(crate) fn read_required<F: Field>(
     }
 }
 
-// Inserts `field` at `key`, or nothing if it is `None`.
+// Inserts `field` at `key`, or nothing if `field` is `None`.
 pub(crate) fn put_field<F: Field>(
     alloc: Global,
     members: &mut Map<String, Value>,
@@ -321,7 +323,8 @@ pub(crate) fn put_values(
     Ok(())
 }
 
-// Returns the number at `key`, or `None` if the key is missing or null.
+// Returns the number at `key`, or `None` if the key is missing or null. A value that is not a `u32`
+// is `BadJson(Shape)`.
 pub(crate) fn number_at(value: &Value, key: &str) -> Result<Option<u32>>
     ensures { result ≡ due (found small_number (get key.now (view value.now))) }
 {

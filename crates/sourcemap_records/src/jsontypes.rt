@@ -1,4 +1,4 @@
-//! Source map records, key by key, read from a JSON value and written as one.
+//! Source map records, key by key, read from JSON values and written as JSON values.
 use crate::copy::copy_map;
 use crate::field::{Field, has, number_at};
 use crate::from_json::read_map;
@@ -23,8 +23,10 @@ pub struct RawSectionOffset {
 pub struct FacebookScopeMapping {
     /// The names of the functions.
     pub names: Vec<String>,
-    /// Where the functions start, in base64 VLQ. A segment holds differences in column, name index
-    /// and line. Commas separate segments, and semicolons separate groups of segments.
+    /// Where the functions start, in base64 VLQ. A segment holds a column, a name index and a line,
+    /// each as the difference from the previous segment. The first segment is relative to column 0,
+    /// name index 0 and line 1. Commas separate segments, and semicolons separate groups of
+    /// segments. Each group starts again at column 0.
     pub mappings: String,
 }
 
@@ -35,11 +37,11 @@ pub type FacebookSources = Option<Vec<Option<Vec<FacebookScopeMapping>>>>;
 #[derive(Debug, PartialEq, Drop)]
 #[cycle(records)]
 pub struct RawSection {
-    /// The generated position at which it starts.
+    /// The generated position at which the section starts.
     pub offset: RawSectionOffset,
-    /// The URL of its map.
+    /// The URL of the section's map.
     pub url: Option<String>,
-    /// Its map.
+    /// The section's map.
     pub map: Option<Box<RawSourceMap>>,
 }
 
@@ -70,12 +72,12 @@ pub struct RawSourceMap {
     pub mappings: Option<String>,
     /// The indices of the sources that a debugger ignores.
     pub ignore_list: Option<Vec<u32>>,
-    /// For each module of a bundle, by its number, the line at which it starts, counted from 0.
-    /// `None` for a number without a module.
+    /// Item `n` is the line, counted from 0, at which module `n` of the bundle starts. It is `None`
+    /// if there is no module `n`.
     pub x_facebook_offsets: Option<Vec<Option<u32>>>,
     /// The path of each module of a bundle.
     pub x_metro_module_paths: Option<Vec<String>>,
-    /// The function names of each source.
+    /// The function scopes of each source.
     pub x_facebook_sources: FacebookSources,
     /// The debug id that links this map to its generated file.
     pub debug_id: Option<DebugId>,
@@ -87,19 +89,19 @@ pub struct RawSourceMap {
 pub struct MinimalRawSourceMap {
     /// The version of the format, or `None` if it is missing or null.
     pub version: Option<u32>,
-    /// Whether `file` is there.
+    /// Whether `file` is present and not null.
     pub file: bool,
-    /// Whether `sources` is there.
+    /// Whether `sources` is present and not null.
     pub sources: bool,
-    /// Whether `sourceRoot` is there.
+    /// Whether `sourceRoot` is present and not null.
     pub source_root: bool,
-    /// Whether `sourcesContent` is there.
+    /// Whether `sourcesContent` is present and not null.
     pub sources_content: bool,
-    /// Whether `sections` is there.
+    /// Whether `sections` is present and not null.
     pub sections: bool,
-    /// Whether `names` is there.
+    /// Whether `names` is present and not null.
     pub names: bool,
-    /// Whether `mappings` is there.
+    /// Whether `mappings` is present and not null.
     pub mappings: bool,
 }
 
@@ -109,8 +111,9 @@ impl MinimalRawSourceMap {
     ghost use Rattle.sourcemap_records.specs.Field.{due};
     ghost use Rattle.sourcemap_records.specs.Jsontypes.{minimal_of};
 
-    /// Returns the keys of `value`. Returns `BadJson(Shape)` if `value` is not an object, or has a
-    /// version that is neither null nor a `u32`. Does not allocate.
+    /// Returns the version of `value`, and which of the other keys it has. Returns `BadJson(Shape)`
+    /// if `value` is not an object, or has a version that is neither null nor a `u32`. Does not
+    /// allocate.
     pub fn from_value(value: &Value) -> Result<MinimalRawSourceMap>
         ensures { result ≡ due (minimal_of (view value.now)) }
     {
@@ -152,10 +155,10 @@ impl RawSourceMap {
     ghost use Rattle.sourcemap_records.specs.Jsontypes.{tree, record_of, written, HasNoNullFile};
 
     /// Returns the record of a JSON value. A null key counts as missing, unknown keys are ignored,
-    /// and `debugId` wins over `debug_id`. Returns `BadJson(Shape)` if the value is not an object,
-    /// or if a key has a value of another type than its field, a number outside `u32` or an invalid
-    /// debug id. A section without `offset`, an offset without `line` or `column`, and scopes
-    /// without `names` or `mappings` are the same error. Any other error is `OutOfMemory`.
+    /// and `debugId` wins over `debug_id`. Returns `BadJson(Shape)` if the value is not an object.
+    /// Returns the same error if a key has a value of the wrong type, a number outside `u32` or an
+    /// invalid debug id. A section without `offset`, an offset without `line` or `column`, and
+    /// scopes without `names` or `mappings` give this error too. Any other error is `OutOfMemory`.
     pub fn from_value(alloc: Global, value: &Value) -> Result<RawSourceMap>
         ensures { Gives tree result (due (record_of (view value.now))) }
     {

@@ -1,5 +1,6 @@
 // Records as JSON values. Each string is moved into its value. The clauses `in_range` say that
-// numbers are within `u32`. The proof that values read back needs this.
+// numbers are below 2^32 and that a debug id has 16 bytes. Without these bounds a value might not
+// read back.
 ghost use Rattle.std.specs.Prelude.{◌≡◌, map, option_map, IfOk, IfErr, IfSome, OnOk};
 ghost use Rattle.std.specs.List.{AllByRecursion};
 ghost use Rattle.serde_json.specs.Data.{array};

@@ -1,4 +1,4 @@
--- Single lines of a text, and the reference that each decides.
+-- The reference of a text, found line by line.
 use Rattle.std.specs.Prelude.{◌≡◌, ℕ, ◌+◌, ◌<◌, ◌≤◌, List, [], ◌∷◌, Option, None, Some, IfSome, Bool, true, false, drop, length, nat_lt, slice_index, slice_range, take, if◌then◌else◌}
 use Rattle.std.specs.Str.{IsCharBoundary, IsUtf8, is_utf8}
 use Rattle.sourcemap_references.specs.Reference.{Reference, first_on, first_reference, line_reference, or_later, reference_on, text_lines}
@@ -6,28 +6,31 @@ use Rattle.sourcemap_references.specs.declared.lines.Line.{Line}
 use Rattle.sourcemap_references.specs.declared.lines.Lines.{Lines}
 use Rattle.sourcemap_references.specs.declared.lines.Lines.TheVariants.{Marked, Unmarked}
 
--- the lines after the newline at this index, none if the text ends there
+-- the lines after the newline at index `end`; empty if the text ends at this index
 abbrev pub lines_after : List ℕ → ℕ → List (List ℕ)
 lines_after text end = if nat_lt end (length text) then text_lines (drop (end + 1) text) else []
 
--- the end of the line that starts at an index: the first newline from there on, or the end of the text
+-- `end` is the end of the line that starts at index `start`: the index of the first newline at or after `start`, or the
+-- length of the text if there is no such newline
 pub record EndsAt (text : List ℕ) (start end : ℕ) : Type 0 where
   pub order : start ≤ end
   pub within : end ≤ length text
   pub newline : end < length text → slice_index text end ≡ 10
   pub lines : text_lines (drop start text) ≡ slice_range text start end ∷ lines_after text end
 
--- the result if these bytes are UTF-8, else None
+-- `due` if these bytes are UTF-8, otherwise `None`
 abbrev pub if_text : List ℕ → Option (Option Reference) → Option (Option Reference)
 if_text bytes due = if is_utf8 bytes then due else None
 
--- the first line with a mark: its reference is that of the text, if the text is UTF-8 up to the line's end
+-- a property that `line` has if it is the first line with a mark. If the text is UTF-8 up to the end of `line`, the
+-- reference of the text is the reference on `line`; otherwise `first_reference` is `None`
 pub record IsFirstMarked (text : List ℕ) (line : Line) : Type 0 where
   pub first : first_reference text ≡ if_text (take line.end text) (Some (reference_on (drop line.start (take line.end text))))
   pub ends : IsCharBoundary text line.end
   pub starts : IsUtf8 (take line.end text) → IsCharBoundary (take line.end text) line.start
 
--- the lines up to `end` have no mark: if they are UTF-8, the reference of the text is that of the lines after them
+-- a property that `end` has if no line up to `end` has a mark. If the text is UTF-8 up to `end`, the reference of the
+-- text is that of the lines after `end`; otherwise `first_reference` is `None`
 pub record AreUnmarked (text : List ℕ) (end : ℕ) : Type 0 where
   pub within : end ≤ length text
   pub left : first_reference text ≡ if_text (take end text) (first_on (lines_after text end))
@@ -37,18 +40,22 @@ abbrev pub IfMarked : Lines → (Line → Type 0) → Type 0
 IfMarked (Marked line) Holds = Holds line
 IfMarked (Unmarked _) Holds = Unit {0}
 
--- the property holds of the end of the lines, if none of them has a mark
+-- the property holds of the end of the lines that were read, if none of them has a mark
 abbrev pub IfUnmarked : Lines → (ℕ → Type 0) → Type 0
 IfUnmarked (Marked _) Holds = Unit {0}
 IfUnmarked (Unmarked end) Holds = Holds end
 
--- the reference of the text is that of its rest, which is shorter; without a rest, the text is UTF-8 and has none
+-- the reference of the text is that of `rest`, which is shorter than the text; if there is no rest, the text is UTF-8
+-- and has no reference
 abbrev pub LeavesOnly : List ℕ → Option (List ℕ) → Type 0
 LeavesOnly text (Some rest) = (first_reference text ≡ first_reference rest) × (length rest < length text)
 LeavesOnly text None = first_reference text ≡ Some None
 
--- if the bytes of the reader are known: their reference is that of the line that was read, or else that of the bytes
--- left; if no line was read, there is no reference
+-- the result of reading a line. `known` has the bytes of the reader before the read, and `left` has its bytes after the
+-- read. If `known` is `None`, nothing is required. If the read gives a line that is UTF-8 without a reference,
+-- `first_reference` is the same before and after the read. If the read gives any other line, `first_reference` of the
+-- bytes in `known` is `line_reference` of this line. If no line is left to read, the bytes in `known` are UTF-8 without
+-- a reference
 abbrev pub ReadsLine : Option (List ℕ) → Option (List ℕ) → Bool → List ℕ → Type 0
 ReadsLine known left false line = IfSome known (λ text. first_reference text ≡ Some None)
 ReadsLine known left true line = IfSome known (λ text.

@@ -20,23 +20,24 @@ abbrev pub url_of : SourceMapRef → List ℕ
 url_of (Ref url) = string_bytes url
 url_of (LegacyRef url) = string_bytes url
 
--- the error for bytes that are not UTF-8
+-- the error for bytes that are not UTF-8: `Io` of kind `InvalidData`
 abbrev pub IsInvalidData : Error → Type 0
 IsInvalidData (Io cause) = error_kind cause ≡ InvalidData
 IsInvalidData _ = ⊥
 
--- the search finds what is due, or is out of memory; if nothing is due, since a line is not UTF-8, the error may also
--- be `InvalidData`
+-- the result of a search, unless memory ran out. If `due` is `Some`, the search returns the reference in `due`, if any.
+-- If `due` is `None`, since a line is not UTF-8, the error is `InvalidData`
 abbrev pub Locates : Result (Option SourceMapRef) Error → Option (Option Reference) → Type 0
 Locates (Ok found) due = due ≡ Some (option_map reference found)
 Locates (Err e) due = UnlessMemory e ((due ≡ None) × IsInvalidData e)
 
--- the error of a read, or for bytes that are not UTF-8; a read that ran out of memory is `OutOfMemory`, not `Io`
+-- the error of a read, or the error for bytes that are not UTF-8; a read that ran out of memory is `OutOfMemory`, not
+-- `Io`
 abbrev pub IsReadError : Error → Type 0
 IsReadError (Io cause) = FromIo cause (Io cause)
 IsReadError e = UnlessMemory e ⊥
 
--- the search in a reader finds the reference of its bytes, where these are known
+-- the search in a reader finds the reference of its bytes, if these bytes are known; an error is an `IsReadError`
 abbrev pub LocatesRead : Option (List ℕ) → Result (Option SourceMapRef) Error → Type 0
 LocatesRead known (Ok found) = IfSome known (λ text. first_reference text ≡ Some (option_map reference found))
 LocatesRead known (Err e) = IsReadError e

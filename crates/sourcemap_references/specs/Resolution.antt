@@ -13,15 +13,16 @@ use Rattle.sourcemap_file_urls.specs.Urls.{IsLong}
 abbrev pub is_data_url : List ℕ → Bool
 is_data_url url = starts_with nat_eq url (codes "data:")
 
--- a URL resolved against a base
+-- a URL resolved against a base; `None` if either URL is rejected
 abbrev pub joined : List ℕ → List ℕ → Option (List ℕ)
 joined base url = option_map serialize (result_ok (and_then (parse_url None base) (λ from. parse_url (Some from) url)))
 
--- a reference resolved against the URL of its file
+-- a reference resolved against the URL of its file; `None` for a `data:` URL, or if either URL is rejected
 abbrev pub resolved : List ℕ → List ℕ → Option (List ℕ)
 resolved base url = if is_data_url url then None else joined base url
 
--- a reference resolved against the path of its file
+-- a reference resolved against the path of its file; `None` for a `data:` URL, if the path is not absolute, or if the
+-- reference leads to no file path
 abbrev pub resolved_path : List ℕ → List ℕ → Option (List ℕ)
 resolved_path path url = if is_data_url url then None else path_from path false url
 
@@ -29,7 +30,7 @@ resolved_path path url = if is_data_url url then None else path_from path false 
 abbrev pub IsLongJoin : List ℕ → List ℕ → Type 0
 IsLongJoin base url = IsLong (length base) ⊎ IsOkAnd (parse_url None base) (λ from. IsLong (length (serialize from) + length url))
 
--- the result is what is due, or none if the texts are long, or out of memory
+-- the result is `due`, or out of memory; if `long` holds, the result may also be `None`
 abbrev pub UnlessLong : {X : Type 0} → Option X → Type 0 → Result (Option X) Error → Type 0
 UnlessLong due long (Ok None) = (due ≡ None) ⊎ long
 UnlessLong due long (Ok (Some x)) = due ≡ Some x

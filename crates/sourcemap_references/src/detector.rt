@@ -99,7 +99,8 @@ impl SourceMapRef {
     }
 }
 
-// The text of a reference's URL, resolved against `base`.
+// The text of `reference` resolved against `base`. `None` if `reference` is rejected. The result
+// may also be `None` if `base` and `reference` together have 2^28 bytes or more.
 fn joined_text(base: &Url, reference: &str) -> Result<Option<String>>
     ensures { IsAnswer (option_map string_bytes) (UnlessLong
         (option_map serialize (result_ok (parse_url (Some base.now) reference.now)))
@@ -128,9 +129,10 @@ pub fn locate_in_text(alloc: Global, text: &str) -> Result<Option<SourceMapRef>>
 }
 
 /// Returns the reference on the first line that starts with `//# sourceMappingURL=` or the legacy
-/// `//@ sourceMappingURL=`: the rest of that line, trimmed. Lines end at newlines. This line and
-/// all lines before it must be UTF-8. If no line starts so, all lines must be UTF-8. The error is
-/// `Io` of kind `InvalidData` if they are not, or `OutOfMemory`.
+/// `//@ sourceMappingURL=`. Its URL is the rest of that line, trimmed. Lines end at `\n`. Returns
+/// `None` if no line starts so. The error is `Io` of kind `InvalidData` if that line or a line
+/// before it is not UTF-8. If no line starts so, any line that is not UTF-8 gives the same error.
+/// The only other error is `OutOfMemory`.
 pub fn locate_sourcemap_reference_slice(alloc: Global, bytes: &[u8]) -> Result<Option<SourceMapRef>>
     ensures { Locates result (first_reference bytes.now) }
 {
@@ -146,7 +148,8 @@ pub fn locate_sourcemap_reference_slice(alloc: Global, bytes: &[u8]) -> Result<O
     }
 }
 
-// The reference on the first line with a mark.
+// The reference on `line`, the first line with a mark. The error is `InvalidData` if the bytes up
+// to the end of the line are not UTF-8.
 fn reference_at(alloc: Global, bytes: &[u8], line: Line) -> Result<Option<SourceMapRef>>
     requires { IsFirstMarked bytes.now line }
     ensures { Locates result (first_reference bytes.now) }
@@ -157,8 +160,8 @@ fn reference_at(alloc: Global, bytes: &[u8], line: Line) -> Result<Option<Source
     }
 }
 
-// The bytes after the first lines, which have no mark and end at `end`. `None` if no line is left.
-// The first lines must be UTF-8.
+// The bytes after the first lines. These lines have no mark, and the last of them ends at `end`.
+// `None` if no line is left. The error is `InvalidData` if the first lines are not UTF-8.
 fn rest_after(bytes: &[u8], end: usize) -> Result<Option<&[u8]>>
     requires { AreUnmarked bytes.now end }
     ensures { MatchResult result
@@ -217,7 +220,7 @@ pub fn readers_find_what_slices_do()
         → e ≡ OutOfMemory }
 {}
 
-// Reads the next line into `line`, without its newline. Returns false if there is none.
+// Reads the next line into `line`, without its newline. Returns false if there is no next line.
 fn read_line<R: Read + Drop>(reader: &mut BufReader<R>, line: &mut Vec<u8>) -> Result<bool>
     ensures { MatchResult result
         (λ more. ReadsLine (reader_remaining R.remaining reader.old)
@@ -241,7 +244,8 @@ fn strip_newline(line: &mut Vec<u8>)
     }
 }
 
-// The reference on a line of bytes, if it starts with a mark.
+// The reference on a line of bytes, `None` if the line starts with no mark. The error is
+// `InvalidData` if the line is not UTF-8.
 fn reference_in_bytes(alloc: Global, line: &[u8]) -> Result<Option<SourceMapRef>>
     ensures { Locates result (line_reference line.now) }
 {
@@ -257,7 +261,7 @@ fn not_utf8() -> Error
     Error::Io(io::Error::from(io::ErrorKind::InvalidData))
 }
 
-// The reference on a line, if it starts with a mark.
+// The reference on a line, `None` if the line starts with no mark.
 fn reference_on_line(alloc: Global, line: &str) -> Result<Option<SourceMapRef>>
     ensures { Gives (option_map reference) result (Ok (reference_on line.now)) }
 {

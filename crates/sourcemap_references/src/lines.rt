@@ -8,22 +8,22 @@ use memchr::memchr;
 /// The range of a line in a text, in bytes.
 #[derive(Clone, Copy, Debug)]
 pub struct Line {
-    /// The index of its first byte.
+    /// The index of the first byte of the line.
     pub start: usize,
-    /// The index of its newline, or the length of the text.
+    /// The index of the newline after the line, or the length of the text.
     pub end: usize,
 }
 
-/// The first lines of a text.
+/// The result of a search for a mark in the first lines of a text.
 #[derive(Clone, Copy, Debug)]
 pub enum Lines {
     /// The first line with a mark.
     Marked(Line),
-    /// Lines without a mark, with the end of the last one.
+    /// No line that was read has a mark. Holds the end of the last line that was read.
     Unmarked(usize),
 }
 
-/// Reads lines up to the first with a mark, or else to the first that ends at `least` or later.
+/// Reads lines until a line has a mark, or until a line ends at index `least` or later.
 pub fn first_lines(bytes: &[u8], least: usize) -> Lines
     requires { least ≤ length bytes.now }
     ensures marked { IfMarked result (λ line. IsFirstMarked bytes.now line) }

@@ -7,20 +7,20 @@ use Rattle.sourcemap_errors.specs.declared.errors.Error.TheVariants.{Io}
 use Rattle.sourcemap_tokens.specs.Items.{item_at}
 use Rattle.sourcemap_file_urls.specs.Places.{starts_at_root, path_from}
 
--- the folder whose files are read: the base path if it is absolute, else the base path joined to the current directory.
--- There is no folder if neither path is absolute
+-- the folder whose files are read: the base path if it is absolute, otherwise the base path joined to the current
+-- directory; a missing base path counts as empty; `None` if neither path is absolute
 abbrev pub folder_of : (current : List ℕ) (base : Option (List ℕ)) → Option (List ℕ)
 folder_of current base =
     let path = unwrap_or base [] in
     if starts_at_root path then Some path
     else (if starts_at_root current then Some (current ++ codes "/" ++ path) else None)
 
--- the path of a source's file. The text of the source is resolved against the URL of the folder. There is no path if
--- the result is no `file` URL without host
+-- the path of a source's file: the text of the source is resolved against the URL of the folder, and the result must be
+-- a `file` URL without host; `None` if there is no such path
 abbrev pub file_of : (folder source : List ℕ) → Option (List ℕ)
 file_of folder source = path_from folder true source
 
--- the number of ids below n that have no item in `before`, but one in `after`
+-- the number of ids below the first argument that have no item in `before`, but have an item in `after`
 abbrev pub newly : {X : Type 0} → ℕ → (before after : List (Option X)) → ℕ
 newly zero before after = 0
 newly (suc n) before after =
@@ -33,7 +33,7 @@ pub record Fills (folder : List ℕ) (sources : List (List ℕ)) (before after :
   pub from_file : (id : ℕ) → item_at before id ≡ None → IsSome (item_at after id)
       → IsSome (option_and_then (file_of folder) (slice_get sources id))
 
--- the error for a folder that is not absolute
+-- the error if neither path is absolute: `Io` of kind `InvalidInput`
 abbrev pub IsNoFolder : Error → Type 0
 IsNoFolder (Io cause) = error_kind cause ≡ InvalidInput
 IsNoFolder _ = ⊥

@@ -16,13 +16,15 @@ use std::rt::Files;
 use std::{fs, io};
 use url::Url;
 
-/// Reads the contents of each source that has none from its file, and returns how many were read.
+/// Reads the file of each source without contents, and stores the text of the file in `contents`.
+/// Returns how many texts were stored.
 ///
 /// A source is resolved against the folder `base_path`, which is joined to `current_dir` if it is
 /// not absolute. Without a `base_path` the folder is `current_dir`. A source that does not resolve
 /// to the path of a file is skipped. So is a source whose file cannot be read or is not UTF-8. The
 /// error is `Io` of kind `InvalidInput` if neither path is absolute, and then `contents` is
-/// unchanged. Any other error is `OutOfMemory`, and then the contents that were read before stay.
+/// unchanged. Any other error is `OutOfMemory`. After this error, `contents` keeps the texts that
+/// were already stored.
 pub fn load_contents<F: Files>(
     rt: &F,
     alloc: Global,
@@ -53,8 +55,8 @@ pub fn load_contents<F: Files>(
     }
 }
 
-/// Returns `Io` of kind `InvalidInput` if neither path is absolute, so that there is no folder to
-/// read from. There is no other error.
+/// Checks that `base_path` or `current_dir` is absolute, so that there is a folder to read from. If
+/// neither is absolute, the error is `Io` of kind `InvalidInput`. There is no other error.
 pub fn check_folder(current_dir: &str, base_path: Option<&str>) -> Result<()>
     ensures folder { OnOk result
         (IsSome (folder_of current_dir.now (option_copied base_path.entry))) }
@@ -120,7 +122,8 @@ fn load_all<F: Files>(
     Ok(loaded)
 }
 
-// Loads the contents of a source that has none, and returns whether they were loaded.
+// Loads the contents of a source if `contents` is `None`. Returns whether contents were loaded. On
+// an error `contents` is unchanged.
 fn load<F: Files>(
     rt: &F,
     alloc: Global,
@@ -171,7 +174,8 @@ fn text_of<F: Files>(rt: &F, alloc: Global, path: &str) -> Result<Option<String>
 fn bytes_of<F: Files>(rt: &F, alloc: Global, path: &str) -> io::Result<Vec<u8>> {
     let mut file = fs::open(rt, path)?;
     let size = file.metadata().map_or(0, |about| about.len());
-    // one byte more, so that the last read, which returns nothing, does not grow the buffer
+    // One byte more than the size, so that the last read, which returns no bytes, does not grow the
+    // buffer.
     let mut bytes = Vec::with_capacity(alloc, size.saturating_add(1) as usize)?;
     file.read_to_end(&mut bytes)?;
     Ok(bytes)

@@ -17,27 +17,28 @@ abbrev pub prefixes : List ℕ → List (List ℕ)
 prefixes [] = [] ∷ []
 prefixes (character ∷ characters) = [] ∷ map (λ prefix. character ∷ prefix) (prefixes characters)
 
--- the shortest prefix with at least `col` UTF-16 units
+-- the shortest prefix with at least `col` UTF-16 units; `None` if the characters have fewer
 abbrev pub first_reaching : ℕ → List ℕ → Option (List ℕ)
 first_reaching col characters = find (λ prefix. nat_le col (width prefix)) (prefixes characters)
 
--- the offset of a column in a line, in bytes
+-- the byte offset of a column in a line: the first character boundary with at least `col` UTF-16 units before it;
+-- `None` if the line is too short
 abbrev pub column_offset : List ℕ → ℕ → Option ℕ
 column_offset line col = option_map (λ prefix. length (encode_utf8_all prefix)) (first_reaching col (chars line))
 
--- `offset`, if the units before it reach the column
+-- `offset` if the `units` before it reach the column, otherwise `None`
 abbrev pub reached_offset : (col offset units : ℕ) → Option ℕ
 reached_offset col offset units = cond (nat_le col units) (Some offset) None
 
--- a character boundary of a line, and the number of units before it
+-- `offset` is a character boundary of a line, and `units` is the number of UTF-16 units before it
 abbrev pub IsOffset : List ℕ → (offset units : ℕ) → Type 0
 IsOffset line offset units = IsCharBoundary line offset × (units ≡ width (chars (take offset line)))
 
--- the part between two offsets, if both exist
+-- the part of a line between two byte offsets; `None` if either offset is `None`
 abbrev pub part_between : List ℕ → Option ℕ → Option ℕ → Option (List ℕ)
 part_between line (Some start) (Some end) = Some (take (end - start) (drop start line))
 part_between line _ _ = None
 
--- the slice of a line from a column to the column `span` later
+-- the slice of a line from column `col` to the column `span` later; `None` if the line is too short for either column
 abbrev pub slice_of : List ℕ → (col span : ℕ) → Option (List ℕ)
 slice_of line col span = part_between line (column_offset line col) (column_offset line (col + span))

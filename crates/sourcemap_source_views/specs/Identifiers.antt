@@ -29,16 +29,17 @@ abbrev pub is_identifier : List ℕ → Bool
 is_identifier [] = true
 is_identifier (c ∷ cs) = is_start c && list_all is_part cs
 
--- the first word between white space
+-- the first word, where words are separated by white space; empty if there is no word
 abbrev pub first_word : List ℕ → List ℕ
 first_word characters = take_while is_not_whitespace (skip_leading_whitespace characters)
 
--- the UTF-8 text of characters, None if there are none
+-- the UTF-8 text of characters; `None` if there are no characters
 abbrev pub unless_empty : List ℕ → Option (List ℕ)
 unless_empty [] = None
 unless_empty (c ∷ cs) = Some (encode_utf8_all (c ∷ cs))
 
--- the longest identifier at the start of the first word of a text
+-- the longest identifier at the start of the first word of a text; `None` if there is no word, or if the word starts
+-- with no identifier
 abbrev pub token_at_start : List ℕ → Option (List ℕ)
 token_at_start text = unless_empty (identifier_at_start (first_word (chars text)))
 

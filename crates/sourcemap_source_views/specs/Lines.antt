@@ -11,11 +11,12 @@ pub record Line : Type 0 where
 abbrev pub ended_by : List ℕ → List Line → List Line
 ended_by terminator lines = record { body = []; terminator = terminator } ∷ lines
 
--- lines with this byte in front of the first body; `with_return`: with `\r` in front of the first terminator
+-- lines, with this byte put in front of the body of the first line
 abbrev pub with_body : ℕ → List Line → List Line
 with_body byte [] = []
 with_body byte (line ∷ lines) = record { body = byte ∷ line.body; terminator = line.terminator } ∷ lines
 
+-- lines, with `\r` put in front of the terminator of the first line
 abbrev pub with_return : List Line → List Line
 with_return [] = []
 with_return (line ∷ lines) = record { body = line.body; terminator = 13 ∷ line.terminator } ∷ lines
@@ -43,13 +44,13 @@ abbrev pub joined : List Line → List ℕ
 joined [] = []
 joined (line ∷ lines) = line.body ++ (line.terminator ++ joined lines)
 
--- the ranges of lines that start at this offset, without their terminators
+-- the byte ranges of lines without their terminators; the first line starts at `start`
 abbrev pub ranges_from : ℕ → List Line → List (ℕ × ℕ)
 ranges_from start [] = []
 ranges_from start (line ∷ lines) =
     (start, start + length line.body) ∷ ranges_from (start + length line.body + length line.terminator) lines
 
--- the ranges of the lines of a text
+-- the byte ranges of the lines of a text, without their terminators
 abbrev pub line_ranges : List ℕ → List (ℕ × ℕ)
 line_ranges text = ranges_from 0 (lines_of text)
 
@@ -66,8 +67,9 @@ count_ends (byte ∷ text) = cond (is_terminator byte && not (is_crlf byte text)
 abbrev pub HasNoTerminator : Line → Type 0
 HasNoTerminator line = list_any is_terminator line.body ≡ false
 
--- a partial table: its lines, followed by the lines of the text from `start` on, are all lines of the text;
--- no line ends from `start` up to `offset`; if `offset` is between the bytes of a `\r\n`, `start` is after both
+-- a partial table: `table`, followed by the ranges of the lines from `start` on, is the whole table of the text; no
+-- byte from `start` up to `offset`, exclusive, is a terminator; if `offset` is between the bytes of a `\r\n`, `start`
+-- is after both bytes
 pub record IsPartialTable (text : List ℕ) (table : List (ℕ × ℕ)) (start offset : ℕ) : Type 0 where
   pub within : start ≤ length text
   pub left : table ++ ranges_from start (lines_of (drop start text)) ≡ line_ranges text

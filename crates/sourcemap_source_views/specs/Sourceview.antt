@@ -8,11 +8,12 @@ use Rattle.std.proofs.Common.{rules}
 use Rattle.sourcemap_source_views.specs.Columns.{slice_of}
 use Rattle.sourcemap_source_views.specs.Lines.{line_bodies}
 
--- the slice of a line of a text, if it has that line
+-- the slice of a line of a text, from column `col` to the column `span` later; `None` if there is no such line, or if
+-- the line is too short
 abbrev pub view_slice : List ℕ → (line col span : ℕ) → Option (List ℕ)
 view_slice source line col span = option_and_then (λ body. slice_of body col span) (slice_get (line_bodies source) line)
 
--- texts of the same bytes
+-- two texts have the same bytes
 abbrev pub same_source : List ℕ → List ℕ → Bool
 same_source = pointwise nat_eq
 

@@ -1,4 +1,4 @@
--- What a walk back along the tokens of a map has left.
+-- The items that a walk back along the tokens of a map has left.
 use Rattle.std.specs.Prelude.{ℕ, List, [], ◌∷◌, Option, None, Some}
 use Rattle.std.specs.Borrow.{Bor}
 use Rattle.std.specs.Option.{option_copied}
@@ -9,11 +9,11 @@ use Rattle.sourcemap_source_views.specs.declared.walk.RevTokenIter.{RevTokenIter
 abbrev pub item_seen : {T S : Type 0} → (T → S) → T × Option (Bor (List ℕ)) → S × Option (List ℕ)
 item_seen seen item = (seen item.0, option_copied item.1)
 
--- a token, if there is one, and those before it
+-- a token and the tokens before it; empty if there is no token
 abbrev pub tokens_from : {T S : Type 0} → (T → S) → (T → List S) → Option T → List S
 tokens_from seen before None = []
 tokens_from seen before (Some token) = seen token ∷ before token
 
--- the items that are left
+-- the items that the iterator has not returned yet
 abbrev pub walk_left : {T S : Type 0} → (T → S) → (T → List S) → (S → ℕ × ℕ) → RevTokenIter T → List (S × Option (List ℕ))
 walk_left seen before position_value it = walked position_value it.view.now (tokens_from seen before it.token)

@@ -11,7 +11,8 @@ pub struct LineOffset {
     pub units: u64,
 }
 
-/// Returns the offset of a column, `None` if the line is too short.
+/// Returns the offset of a column, which is in UTF-16 units. A column inside a surrogate pair is
+/// moved after the pair. Returns `None` if the line is too short.
 pub fn reach(line: &str, col: u64) -> Option<LineOffset>
     ensures value { option_map (λ at. at.offset) result ≡ column_offset line.now col }
     ensures boundary { IfSome result (λ at. IsCharBoundary line.now at.offset) }
@@ -24,7 +25,8 @@ pub fn reach(line: &str, col: u64) -> Option<LineOffset>
     reach_by_characters(line, skip_blocks(line, col), col)
 }
 
-/// Returns the offset of a column, or the end of the line if it is too short.
+/// Returns the offset of a column, as `reach` finds it. Returns the end of the line if the line is
+/// too short.
 pub fn reach_or_end(line: &str, col: u64) -> LineOffset
     ensures value { reached_offset col result.offset result.units ≡ column_offset line.now col }
     ensures offset { IsOffset line.now result.offset result.units }
@@ -75,7 +77,8 @@ fn reach_by_characters(line: &str, from: LineOffset, col: u64) -> Option<LineOff
     })
 }
 
-// An offset that is not after the column. If the line reaches the column, the offset is near it.
+// An offset that is not after the column. If the line reaches the column, the offset is near the
+// column.
 fn skip_blocks(line: &str, col: u64) -> LineOffset
     ensures offset { IsOffset line.now result.offset result.units }
     ensures before { result.units ≤ col }
@@ -107,7 +110,8 @@ fn next_block(line: &str, at: LineOffset, col: u64) -> Option<LineOffset>
     Some(LineOffset { offset: end, units })
 }
 
-// The first character boundary at least 1024 bytes after an offset, `None` if the line ends before.
+// The first character boundary at least 1024 bytes after an offset, `None` if fewer than 1024 bytes
+// follow the offset.
 fn block_end(line: &str, offset: usize) -> Option<usize>
     ensures boundary { IfSome result (λ end. IsCharBoundary line.now end) }
     ensures ahead { IfSome result (λ end. offset < end) }
@@ -150,8 +154,8 @@ pub fn slice_at(line: &str, col: u32, span: u32) -> Option<&str>
     Some(&rest[..length])
 }
 
-/// `reach_or_end`, where the column of the offset `from` is known. Walks from the start of the line
-/// only if `col` is after that column, and `from` is not the end of the line.
+/// `reach_or_end` with a known offset `from`. Walks from the start of the line only if `col` is
+/// after `from` and `from` is not the end of the line.
 pub fn reach_from(line: &str, from: LineOffset, col: u64) -> LineOffset
     requires { IsOffset line.now from.offset from.units }
     ensures value { reached_offset col result.offset result.units ≡ column_offset line.now col }
@@ -199,8 +203,8 @@ fn is_ascii_before(line: &str, offset: usize, count: u64) -> bool
     line.as_bytes()[offset - count as usize..offset].is_ascii()
 }
 
-// The offset one character before `at`. `None` if that is before the column, or if `at` is the
-// start of the line.
+// The offset one character before `at`. `None` if this offset is before the column, or if `at` is
+// the start of the line.
 fn step_back(line: &str, at: LineOffset, col: u64) -> Option<LineOffset>
     requires offset { IsOffset line.now at.offset at.units }
     requires ahead { col ≤ at.units }

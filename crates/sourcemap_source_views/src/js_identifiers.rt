@@ -17,7 +17,7 @@ pub fn is_valid_javascript_identifier(text: &str) -> bool
 }
 
 /// Returns the longest identifier at the start of the first word, where words are separated by
-/// white space. Returns `None` if there is no word, or it starts with no identifier.
+/// white space. Returns `None` if there is no word, or if the word starts with no identifier.
 pub fn get_javascript_token(text: &str) -> Option<&str>
     ensures { option_map (λ token. token.now) result ≡ token_at_start text.now }
 {
@@ -29,8 +29,8 @@ pub fn get_javascript_token(text: &str) -> Option<&str>
     Some(&words[..length])
 }
 
-/// Whether the longest identifier at the start of a text is `name`. Reads the bytes of the name and
-/// at most one more character.
+/// Returns whether the longest identifier at the start of a text is `name`. An empty `name` gives
+/// false. Reads as many bytes of the text as `name` has, and at most one character after them.
 pub(crate) fn starts_with_identifier(text: &str, name: &str) -> bool
     requires { is_identifier (chars name.now) ≡ true }
     ensures { result ≡ is_text name.now (unless_empty (identifier_at_start (chars text.now))) }

@@ -21,9 +21,10 @@ const BLOCK: usize = 64;
 /// one line more than line terminators.
 #[derive(Debug, Drop)]
 pub struct LineTable {
-    // The first lines, while their offsets fit 32 bits. This halves the table of most texts.
+    // The ranges of the first lines, as long as their offsets fit 32 bits. This halves the size of
+    // the table of most texts.
     near: Vec<(u32, u32)>,
-    // The lines after those.
+    // The ranges of the lines after the lines in `near`.
     far: Vec<(usize, usize)>,
 }
 
@@ -57,8 +58,8 @@ impl LineTable {
         Ok(table)
     }
 
-    // Adds the lines that end in the block at `from`, whose terminators are the bits of `ends`.
-    // Returns the start of the line after them.
+    // Adds the lines that end in the block at `from`. The bits of `ends` mark the terminators in
+    // the block. Returns the start of the line after the added lines.
     #[inline(always)]
     fn push_block(&mut self, bytes: &[u8], start: usize, from: usize, ends: u64) -> Result<usize>
         requires bounded { from + 64 ≤ length bytes.now }
@@ -80,8 +81,8 @@ impl LineTable {
         Ok(start)
     }
 
-    // Adds the lines that end at a terminator from `from` on, byte by byte. Returns the start of
-    // the line after them.
+    // Adds the lines whose terminators are at `from` or later, byte by byte. Returns the start of
+    // the last line, which has no terminator.
     fn push_rest(&mut self, bytes: &[u8], start: usize, from: usize) -> Result<usize>
         requires bounded { from ≤ length bytes.now }
         requires before { IsPartialTable bytes.now self.old start from }
@@ -99,7 +100,8 @@ impl LineTable {
     }
 
     // Adds the line that the terminator at `end` ends, and returns the start of the next line. If
-    // `end` is before `start`, the `\n` of a `\r\n` is at `end`, and the `\r` has ended the line.
+    // `end` is before `start`, the byte at `end` is the `\n` of a `\r\n`, whose `\r` has ended the
+    // line already. Then nothing is added, and `start` is returned.
     #[inline(always)]
     fn push_end(&mut self, bytes: &[u8], start: usize, end: usize) -> Result<usize>
         requires inside { end < length bytes.now }

@@ -79,14 +79,15 @@ impl SourceView {
     /// Returns the part of a line from a column to the column `span` later. Line and column are
     /// 0-based. Column and `span` are in UTF-16 units. Both ends are rounded up to a character
     /// boundary, so that no surrogate pair is split. Returns `None` if there is no such line, or if
-    /// it is too short.
+    /// the line is too short.
     pub fn get_line_slice(&self, line: u32, col: u32, span: u32) -> Option<&str>
         ensures { option_map (λ part. part.now) result ≡ view_slice self.now line col span }
     {
         slice_at(self.get_line(line)?, col, span)
     }
 
-    /// Iterates over the lines, without their terminators, up to line 4294967295.
+    /// Iterates over the lines, without their terminators. Returns at most the first 4294967296
+    /// lines.
     pub fn lines(&self) -> Lines<'_>
         ensures left { lines_left result ≡ take 4294967296 (line_bodies self.now) }
         ensures bound { length (lines_left result) ≤ 4294967296 }
@@ -104,9 +105,9 @@ impl SourceView {
         self.lines.count()
     }
 
-    /// Returns the reference to a source map: the one on the first line that starts with
-    /// `//# sourceMappingURL=` or `//@ sourceMappingURL=`. Returns `None` if no line starts so.
-    /// Here lines end only at `\n`. The only error is `OutOfMemory`.
+    /// Returns the reference to a source map, which is on the first line that starts with
+    /// `//# sourceMappingURL=` or `//@ sourceMappingURL=`. Returns `None` if no line starts so. For
+    /// this search, lines end only at `\n`. The only error is `OutOfMemory`.
     pub fn sourcemap_reference(&self) -> Result<Option<SourceMapRef>>
         ensures value { Locates result (first_reference self.now) }
         ensures memory { IsOkUnless result OutOfMemory }

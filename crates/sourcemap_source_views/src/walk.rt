@@ -1,4 +1,4 @@
-//! The walk back along the tokens of a map that guesses the name of a function.
+//! A walk back along the tokens of a map, to guess the name of a function.
 ghost use Rattle.std.specs.Prelude.{◌≡◌, ◌≤◌, ℕ, List, [], ◌∷◌, IfSome, Option, Some, drop, nat_le, option_map, take, true};
 ghost use Rattle.std.specs.Option.{MatchOption, option_and_then, option_copied};
 ghost use Rattle.std.specs.Str.{IsCharBoundary, chars};
@@ -13,12 +13,13 @@ use crate::js_identifiers::{
 };
 use crate::sourceview::SourceView;
 
-/// A token of a map, with what a walk back along its map needs.
+/// A token of a map, with the methods that a walk back along the map calls.
 pub trait WalkedToken: Copy + Drop {
     /// The type of a token's name.
     type Name;
 
-    // The contents of a token for clauses: its generated position and its name.
+    // Contracts describe a token by a value of this type. The value holds the token's generated
+    // position and its name.
     ghost Seen: { Type 0 };
 
     ghost seen: { Self → Seen };
@@ -125,8 +126,8 @@ impl<'view> Word<'view> {
         Word { cursor, end }
     }
 
-    // The word at another column of the same line. If that word does not start after this word, its
-    // `end` is found without a read past the start of this word.
+    // The word at another column of the same line. If the new word starts at or before the old
+    // word, the search for the new `end` stops at the start of the old word.
     fn moved_to(&self, col: u32) -> Word<'view>
         ensures number { result.cursor.number ≡ self.now.cursor.number }
         ensures line { result.cursor.line.now ≡ self.now.cursor.line.now }
@@ -156,7 +157,8 @@ impl<'view> Word<'view> {
     }
 }
 
-// The offset of the first word at or after an offset of a line.
+// The offset of the first word at or after an offset of a line, or the end of the line if there is
+// no word.
 fn word_from(line: &str, offset: usize) -> usize
     requires { IsCharBoundary line.now offset }
     ensures { IsWord line.now offset result }
@@ -164,7 +166,8 @@ fn word_from(line: &str, offset: usize) -> usize
     offset + blank_length(&line[offset..])
 }
 
-// `word_from`, where `word` is its result for the offset `known`.
+// Returns the same as `word_from` for `offset`. `word` is the result of `word_from` for the offset
+// `known`.
 fn word_near(line: &str, offset: usize, known: usize, word: usize) -> usize
     requires offset { IsCharBoundary line.now offset }
     requires known { IsCharBoundary line.now known }
@@ -178,8 +181,8 @@ fn word_near(line: &str, offset: usize, known: usize, word: usize) -> usize
     }
 }
 
-// `word_from`, where `word` is its result for `next`, which is not before `offset`. White space is
-// read only up to `next`.
+// Returns the same as `word_from` for `offset`. `word` is the result of `word_from` for the offset
+// `next`, which is not before `offset`. White space is read only up to `next`.
 fn word_before(line: &str, offset: usize, next: usize, word: usize) -> usize
     requires order { offset ≤ next }
     requires offset { IsCharBoundary line.now offset }
@@ -215,7 +218,7 @@ fn end_before(line: &str, word: usize, next: usize, end: usize) -> usize
 }
 
 // A cursor at a column of a line, `None` if there is no such line. `last` is the cursor of the
-// token that the walk visited before. If `last` is on the same line, it is moved to the column.
+// previous token in the walk. If `last` is on the same line, it is moved to the column.
 fn next_cursor<'view>(
     view: &'view SourceView,
     last: Option<Cursor<'view>>,
@@ -235,8 +238,8 @@ fn next_cursor<'view>(
     }
 }
 
-// The word at a column of a line, `None` if there is no such line. `last` is the word of the token
-// that the walk visited before. If `last` is on the same line, it is moved to the column.
+// The word at a column of a line, `None` if there is no such line. `last` is the word of the
+// previous token in the walk. If `last` is on the same line, it is moved to the column.
 fn next_word<'view>(
     view: &'view SourceView,
     last: Option<Word<'view>>,
@@ -257,10 +260,10 @@ fn next_word<'view>(
 }
 
 /// An iterator over a token of a map and all tokens before it, the closest first. With each token
-/// it returns the identifier at the token's generated position in a view. That is the longest
-/// identifier at the start of the first word from this position to the end of the line. It is
-/// `None` if the view has no such position, if there is no word, or if the word starts with no
-/// identifier.
+/// it returns the identifier at the token's generated position in a view. The search takes the rest
+/// of the line from this position on. It finds the longest identifier at the start of the first
+/// word of this rest. The identifier is `None` if the view has no such position, if the rest has no
+/// word, or if its first word starts with no identifier.
 #[derive(Drop)]
 pub struct RevTokenIter<'view, T> {
     view: &'view SourceView,
@@ -289,7 +292,8 @@ impl<'view, T: WalkedToken> Iterator for RevTokenIter<'view, T> {
     }
 }
 
-// The identifier at a column of a line, if there is such a line.
+// The identifier at column `col` of the line of `word`. `None` if `word` is `None`, if the line
+// does not reach the column, or if no identifier is there.
 fn identifier_of<'view>(word: Option<Word<'view>>, col: u32) -> Option<&'view str>
     ensures { option_copied result ≡ option_and_then
         (λ w. identifier_from w.cursor.line.now col w.cursor.at.offset w.cursor.at.units)
@@ -298,7 +302,7 @@ fn identifier_of<'view>(word: Option<Word<'view>>, col: u32) -> Option<&'view st
     word?.identifier(col)
 }
 
-// Whether there is a cursor, and the identifier at its column `col` is `name`.
+// Whether there is a cursor, and the identifier at column `col` of its line is `name`.
 fn is_named(cursor: Option<Cursor<'_>>, col: u32, name: &str) -> bool
     requires { is_identifier (chars name.now) ≡ true }
     ensures { result ≡ is_text name.now (option_and_then
@@ -310,9 +314,10 @@ fn is_named(cursor: Option<Cursor<'_>>, col: u32, name: &str) -> bool
     }
 }
 
-// The first token of the walk that has the identifier `name`, and after which the next token of the
-// walk has the identifier `function`. The walk is over `token` and the tokens before it, at most
-// 128 in all. Identifiers are only compared, so their ends are not searched.
+// The first token of the walk that has the identifier `name` and is followed in the walk by a token
+// with the identifier `function`. `None` if there is no such token. The walk is over `token` and
+// the tokens before it, at most 128 in all. The walk only compares an identifier with `name` or
+// `function`. It does not search for the end of the identifier.
 fn function_token<T: WalkedToken>(view: &SourceView, token: T, name: &str) -> Option<T>
     requires { is_identifier (chars name.now) ≡ true }
     ensures { option_map T.seen result ≡ function_token name.now
@@ -356,9 +361,9 @@ impl SourceView {
 
     /// Guesses the original name of a function from its minified name. Walks back over this token
     /// and the tokens before it, at most 128 in all. Stops at the first token that has the minified
-    /// name at its position and whose previous token in the map has `function`. Returns the name of
-    /// the token with the minified name. Returns `None` if there is no such token, if it has no
-    /// name, or if `minified_name` is no identifier.
+    /// name at its position and whose previous token in the map has `function` at its position.
+    /// Returns the name of the token with the minified name. Returns `None` if there is no such
+    /// token, if the token has no name, or if `minified_name` is no identifier.
     pub fn get_original_function_name<T: WalkedToken>(
         &self,
         token: T,

@@ -13,14 +13,14 @@ abbrev pub is_separated : List ℕ → Bool
 is_separated [] = false
 is_separated (byte ∷ text) = is_separator byte
 
--- starts with `/`, or has more than three bytes and starts with a letter, `:` and a separator
+-- starts with `/`, or has more than three bytes and starts with an ASCII letter, `:` and a separator
 abbrev pub is_absolute : List ℕ → Bool
 is_absolute text =
     (slice_index text 0 == 47)
     || (nat_lt 3 (length text)
     && (is_ascii_alphabetic (slice_index text 0) && ((slice_index text 1 == 58) && is_separator (slice_index text 2))))
 
--- parts with one more byte in front of the first
+-- parts, with this byte put in front of the first part; one part of this byte if there are no parts
 abbrev pub with_first_byte : ℕ → List (List ℕ) → List (List ℕ)
 with_first_byte byte [] = (byte ∷ []) ∷ []
 with_first_byte byte (part ∷ parts) = (byte ∷ part) ∷ parts
@@ -30,22 +30,22 @@ abbrev pub path_parts : List ℕ → List (List ℕ)
 path_parts [] = []
 path_parts (byte ∷ text) = cond (is_separated text) ((byte ∷ []) ∷ path_parts text) (with_first_byte byte (path_parts text))
 
--- the longest common list of first parts
+-- the longest list of parts with which both lists start
 abbrev pub common_parts : List (List ℕ) → List (List ℕ) → List (List ℕ)
 common_parts [] qs = []
 common_parts (p ∷ ps) [] = []
 common_parts (p ∷ ps) (q ∷ qs) = cond (bytes_eq p q) (p ∷ common_parts ps qs) []
 
--- the first parts that all lists have in common
+-- the longest list of parts with which all lists start; empty if there are no lists
 abbrev pub first_parts : List (List (List ℕ)) → List (List ℕ)
 first_parts [] = []
 first_parts (parts ∷ []) = parts
 first_parts (parts ∷ next ∷ others) = common_parts parts (first_parts (next ∷ others))
 
--- none for the empty prefix and for `/` alone
+-- a prefix; `None` if it is empty or `/` alone
 abbrev pub unless_root : List ℕ → Option (List ℕ)
 unless_root prefix = cond (bytes_eq prefix [] || bytes_eq prefix (codes "/")) None (Some prefix)
 
--- the common first parts of all absolute paths among the texts, joined
+-- the common first parts of all absolute paths among the texts, joined; `None` if the result is empty or `/` alone
 abbrev pub common_prefix : List (List ℕ) → Option (List ℕ)
 common_prefix texts = unless_root (concat (first_parts (map path_parts (filter is_absolute texts))))

@@ -6,7 +6,8 @@ use Rattle.std.specs.List.{starts_with, ends_with}
 abbrev pub with_slash : List ℕ → List ℕ
 with_slash prefix = if ends_with nat_eq prefix (codes "/") then prefix else prefix ++ codes "/"
 
--- what follows the first prefix, with its slash, that a text starts with; the whole text if it starts with none
+-- the rest of a text after the first prefix that matches, where each prefix is taken `with_slash`; the whole text if no
+-- prefix matches
 abbrev pub without_prefix : List (List ℕ) → List ℕ → List ℕ
 without_prefix [] text = text
 without_prefix (prefix ∷ prefixes) text =

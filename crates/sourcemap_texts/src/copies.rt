@@ -6,7 +6,7 @@ ghost use Rattle.sourcemap_errors.specs.Answer.{Gives};
 use sourcemap_errors::errors::Result;
 use std::alloc::Global;
 
-/// A copy of the string, if there is one. The only error is out of memory.
+/// A copy of the string, `None` if there is no string. The only error is out of memory.
 pub fn copy_text(alloc: Global, text: Option<&str>) -> Result<Option<String>>
     ensures { Gives (option_map string_bytes) result (Ok (option_copied text.entry)) }
 {

@@ -9,12 +9,12 @@ ghost use Rattle.sourcemap_texts.specs.Paths.{is_absolute as starts_at_root, is_
 use sourcemap_errors::errors::Result;
 use std::alloc::Global;
 
-/// Returns the longest common prefix of the absolute paths among `texts` that ends where a part
-/// ends.
+/// Returns the common prefix of the absolute paths among `texts`: the longest list of parts with
+/// which all of these paths start, joined.
 ///
-/// A path is absolute if it starts with `/`, or if it has more than 3 bytes and starts with a
-/// letter, `:` and `/` or `\`. A part starts at every `/` and `\`. Returns `None` if the prefix is
-/// empty or `/` alone. The only error is `OutOfMemory`.
+/// A path is absolute if it starts with `/`, or if it has more than 3 bytes and starts with an
+/// ASCII letter, `:` and `/` or `\`. Paths are split into parts before every `/` and `\`. Returns
+/// `None` if the prefix is empty or `/` alone. The only error is `OutOfMemory`.
 pub fn find_common_prefix<'a, I: Iterator<Item = &'a str> + Drop>(
     alloc: Global,
     texts: I,
@@ -54,7 +54,7 @@ fn is_separator(byte: u8) -> bool
     byte == b'/' || byte == b'\\'
 }
 
-// A copy of the prefix, unless it is empty or the root.
+// A copy of the prefix, `None` if it is empty or `/`.
 fn owned_unless_root(alloc: Global, prefix: &str) -> Result<Option<String>>
     ensures { Gives (option_map string_bytes) result (Ok (unless_root prefix.now)) }
 {
@@ -104,7 +104,7 @@ fn has_same_byte(a: &[u8], b: &[u8], at: usize) -> bool
     at < a.len() && at < b.len() && a[at] == b[at]
 }
 
-// Whether a part of the path, or the path itself, ends before the index `at`.
+// Whether `text` has a separator at the index `at`, or has no byte there.
 fn ends_part(text: &[u8], at: usize) -> bool
     ensures { result ≡ (nat_le (length text.now) at || separates (slice_index text.now at)) }
 {

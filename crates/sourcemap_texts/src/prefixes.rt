@@ -10,7 +10,8 @@ use sourcemap_errors::errors::Result;
 use std::alloc::Global;
 use std::convert::AsStr;
 
-// The rest of the text after a prefix and a slash, or after the prefix alone if that ends with one.
+// The rest of the text after a prefix. If the prefix does not end with a slash, a slash must follow
+// it and is stripped too. `None` if the text does not start so.
 fn after_prefix<'a>(text: &'a str, prefix: &str) -> Option<&'a str>
     ensures { option_copied result ≡ (if starts_with nat_eq text.now (with_slash prefix.now)
         then Some (drop (length (with_slash prefix.now)) text.now) else None) }
@@ -22,7 +23,7 @@ fn after_prefix<'a>(text: &'a str, prefix: &str) -> Option<&'a str>
     rest.strip_prefix("/")
 }
 
-// The rest after the first of the prefixes that the text starts with, if there is one.
+// The rest of the text after the first prefix that matches, `None` if no prefix matches.
 fn after_first_prefix<'a, S: AsStr>(text: &'a str, prefixes: &[S]) -> Option<&'a str>
     ensures { unwrap_or (option_copied result) text.now
         ≡ without_prefix (map S.text prefixes.now) text.now }
@@ -37,7 +38,8 @@ fn after_first_prefix<'a, S: AsStr>(text: &'a str, prefixes: &[S]) -> Option<&'a
 
 /// Strips the first matching prefix from `current`, or from `text` if `current` is `None`. A prefix
 /// without a slash at its end matches only with a slash after it, which is stripped too. Returns
-/// the text that is left, where `None` stands for `text` itself. The only error is out of memory.
+/// the text that is left. A result of `None` means that the text that is left is `text` itself. The
+/// only error is out of memory.
 pub fn strip_text<S: AsStr>(
     alloc: Global,
     text: &str,

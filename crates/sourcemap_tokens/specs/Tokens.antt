@@ -72,11 +72,11 @@ abbrev pub without_repeats : List RawToken → List RawToken
 without_repeats [] = []
 without_repeats (token ∷ rest) = token ∷ changes_after token rest
 
--- the token with `no_id` for a name id that is not below `names`
+-- the token, with its name id replaced by `no_id` if it is not below `names`
 abbrev pub with_valid_name : (names : ℕ) → RawToken → RawToken
 with_valid_name names token = record token { name_id = (if nat_lt token.name_id names then token.name_id else no_id) }
 
--- the tokens that decoding returns after encoding: without repeats, and with `no_id` for a name id that is not below
--- `names`
+-- the tokens that decoding returns after encoding: without repeats, and with each name id replaced by `no_id` if it is
+-- not below `names`
 abbrev pub reduced : (names : ℕ) → List RawToken → List RawToken
 reduced names tokens = map (with_valid_name names) (without_repeats tokens)

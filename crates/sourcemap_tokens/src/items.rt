@@ -3,7 +3,8 @@ ghost use Rattle.std.specs.Prelude.{◌≡◌, None, slice_set};
 ghost use Rattle.std.specs.Option.{option_copied};
 ghost use Rattle.sourcemap_tokens.specs.Items.{item_at};
 
-/// The item with this id. `None` past the end of the list, and where the item is missing.
+/// Returns the item with this id, or `None` if the id is past the end of the list, or if the item
+/// is missing.
 #[inline]
 pub fn item_at<T>(items: &[Option<T>], id: usize) -> Option<&T>
     ensures { option_copied result ≡ item_at items.now id }
@@ -14,8 +15,8 @@ pub fn item_at<T>(items: &[Option<T>], id: usize) -> Option<&T>
     }
 }
 
-/// Moves out the item with this id, and leaves `None` at its index. Returns `None` where `item_at`
-/// does.
+/// Moves out the item with this id, and leaves `None` at its index. Returns `None` if the id is
+/// past the end of the list, or if the item is missing, and then the list is unchanged.
 #[inline]
 pub fn take_item<T: Drop>(items: &mut Vec<Option<T>>, id: usize) -> Option<T>
     ensures taken { result ≡ item_at items.old.items id }

@@ -6,15 +6,16 @@ ghost use Rattle.sourcemap_tokens.specs.Search.{GivesKey, closest};
 use std::cmp::Ordering;
 
 /// Returns the item closest to `key`, with its index: the first item with this key, otherwise the
-/// last item with a smaller key. `map` returns the key of an item. If the slice is not sorted by
-/// these keys, the result is some item whose key is at most `key`, or `None`.
+/// last item with a smaller key. Returns `None` if there is no such item. `map` returns the key of
+/// an item. If the slice is not sorted by these keys, the result is some item whose key is at most
+/// `key`, or `None`.
 pub fn greatest_lower_bound<'a, T, K: Ord + Drop, F: Fn(&'a T) -> K>(
     slice: &'a [T],
     key: &K,
     map: F,
 ) -> Option<(usize, &'a T)>
     requires { F.IsAlwaysCallable map }
-    // the index is the item's own
+    // the slice has this item at this index
     ensures own_index { IfSome result (λ found. slice_get slice.now found.0 ≡ Some found.1.now) }
     ensures closest { (key_of : T → K) → GivesKey (F.post map) key_of
         → IsSortedByKey key_of K.cmp slice.now

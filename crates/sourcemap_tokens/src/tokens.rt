@@ -14,8 +14,8 @@ use sourcemap_errors::errors::Result;
 pub const NO_ID: u32 = 4294967295;
 
 /// One decoded mapping: a generated position (`dst`), and the original position (`src`) and name
-/// that it maps to. Lines and columns count from 0, columns in UTF-16 code units. [`NO_ID`] is no
-/// source or no name.
+/// that it maps to. Lines and columns count from 0, columns in UTF-16 code units. The id [`NO_ID`]
+/// means no source or no name.
 #[derive(Clone, Copy, Debug, PartialEq, Eq)]
 pub struct RawToken {
     /// Generated line.
@@ -63,7 +63,7 @@ pub fn tokens_in_order(tokens: &[RawToken]) -> bool
 }
 
 /// Sorts tokens by generated position. The sort is stable. Allocates only if the tokens are not
-/// sorted yet. Returns only `OutOfMemory`, and then the tokens are unchanged.
+/// sorted yet. The only error is `OutOfMemory`, and then the tokens are unchanged.
 pub fn sort_tokens(tokens: &mut Vec<RawToken>) -> Result<()>
     ensures sorted { OnOk result (tokens.new.items ≡ in_order tokens.old.items) }
     ensures unchanged { OnErr result (tokens.new.items ≡ tokens.old.items) }
@@ -76,9 +76,9 @@ pub fn sort_tokens(tokens: &mut Vec<RawToken>) -> Result<()>
     Ok(())
 }
 
-/// Returns the token closest to a generated position with its index: the first token at the
-/// position, otherwise the last token before it. Line and column count from 0. Requires sorted
-/// tokens.
+/// Returns the token closest to a generated position, with its index: the first token at the
+/// position, otherwise the last token before it. Returns `None` if there is no such token. Line and
+/// column count from 0. Requires sorted tokens.
 pub fn closest_token(tokens: &[RawToken], line: u32, col: u32) -> Option<(usize, RawToken)>
     requires { AreInOrder tokens.now }
     ensures answer { result ≡ closest_token tokens.now (line, col) }
@@ -113,7 +113,7 @@ pub fn one_stable_order(tokens: &[RawToken], sorted: &[RawToken])
 {}
 
 /// A law: removing repeated tokens keeps the closest token of each position. Replacing each name id
-/// that is not below `names` by [`NO_ID`] changes the closest token in the same way.
+/// that is not below `names` by [`NO_ID`] keeps it too, apart from this change to its own name id.
 pub fn reduced_answers_alike(tokens: &[RawToken], names: u32, line: u32, col: u32)
     ensures { closest_item destination position_cmp (reduced names tokens.now) (line, col)
         ≡ option_map (with_valid_name names)

@@ -11,7 +11,7 @@ is_newline byte = byte == 10
 abbrev pub is_colon : ℕ → Bool
 is_colon byte = byte == 58
 
--- parts of a text, without the last one if that is empty
+-- the parts of a text, without the last part if it is empty
 abbrev pub without_empty_last : List (List ℕ) → List (List ℕ)
 without_empty_last [] = []
 without_empty_last (part ∷ []) = if length part == 0 then [] else part ∷ []
@@ -30,7 +30,7 @@ is_number text =
 abbrev pub number_of : List ℕ → Option ℕ
 number_of text = if is_number text then Some (digits_value 10 text) else None
 
--- the position that a line names: a number, a colon and a number, and nothing else
+-- the position that a line names: a number, a colon and a number, and nothing else; `None` for any other line
 abbrev pub position_of : List ℕ → Option (ℕ × ℕ)
 position_of line =
     option_and_then (λ row. option_map (λ col. (row, col)) (number_of (after_first is_colon line)))

@@ -1,5 +1,5 @@
-//! A symbolicator: lists of positions, answered by a map. What it promises follows from the clauses
-//! of `DecodedMap::lookup_token` and of a token's text alone.
+//! A symbolicator: a map answers lists of positions. The contract of `trace_text` relies on two
+//! contracts of the library only: those of `DecodedMap::lookup_token` and of printing a token.
 #![tactic(auto)]
 
 mod positions;

@@ -42,8 +42,8 @@ fn number_before(bytes: &[u8], mark: u8) -> Option<(u32, &[u8])>
     Some((value as u32, &bytes[(index + 1).min(bytes.len())..]))
 }
 
-// The position that the first line names, and the lines after this line. `None` if it names no
-// position.
+// The position that the first line names, and the lines after this line. `None` if the first line
+// names no position.
 fn first_position(lines: &[u8]) -> Option<((u32, u32), &[u8])>
     ensures position { option_map (λ found. found.0) result
         ≡ position_of (before_first is_newline lines.now) }

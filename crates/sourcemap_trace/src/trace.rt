@@ -1,4 +1,4 @@
-//! What a map answers to a list of positions, one on each line.
+//! The answers of a map to a list of positions. The list has one position on each line.
 ghost use Rattle.std.specs.Prelude.{◌≡◌, ◌≢◌, ◌++◌, ℕ, List, codes, Some, None, Ok, IsOkUnless, OnOk, string_bytes};
 ghost use Rattle.sourcemap.specs.Answer.{Gives};
 ghost use Rattle.sourcemap.specs.AnyMap.{map_tree};
@@ -26,9 +26,9 @@ use std::alloc::Global;
 /// returns, or `none` if there is no such token. The answer to any other line is `bad position`.
 /// This includes an empty line, and a line with a carriage return.
 ///
-/// This holds for a regular map, a Hermes map, and an index map whose sections are in order at
-/// every level. Each decoded map is among these. If the sections of an index map are not in order,
-/// the answer to a position is the text of some token, or `none`.
+/// These answers are specified for a regular map, a Hermes map, and an index map whose sections are
+/// in order at every level. Each decoded map is one of these. If the sections of an index map are
+/// not in order, the answer to a position is the text of some token, or `none`.
 pub fn trace_text(alloc: Global, map: &DecodedMap, positions: &[u8]) -> Result<String>
     ensures text { IsInOrder (map_tree map.now) → Gives string_bytes result
         (Ok (trace_of (meaning (map_tree map.now)) positions.now)) }
@@ -44,7 +44,8 @@ pub fn trace_text(alloc: Global, map: &DecodedMap, positions: &[u8]) -> Result<S
     Ok(text)
 }
 
-// Appends the answer to a position and a newline. `None` stands for a line that names no position.
+// Appends to `text` the answer for `position`, then a newline. `None` means that the line names no
+// position; the answer is then `bad position`.
 fn push_answer(text: &mut String, map: &DecodedMap, position: Option<(u32, u32)>) -> Result<()>
     ensures answer { IsInOrder (map_tree map.now) → OnOk result (string_bytes text.new
         ≡ string_bytes text.old
@@ -60,7 +61,7 @@ fn push_answer(text: &mut String, map: &DecodedMap, position: Option<(u32, u32)>
     }
 }
 
-// Appends the answer to this position and a newline.
+// Appends to `text` the answer for the position (`line`, `col`), then a newline.
 fn push_token(text: &mut String, map: &DecodedMap, line: u32, col: u32) -> Result<()>
     ensures answer { IsInOrder (map_tree map.now) → OnOk result (string_bytes text.new
         ≡ string_bytes text.old

@@ -21,7 +21,7 @@ advice_on NotARamBundle = LookAtBundle
 advice_on OutOfMemory = FreeMemory
 advice_on _ = MendWriter
 
--- each kind has a different status
+-- the exit status for an error; each kind of error has a different one
 abbrev pub status_of : Error → ℕ
 status_of (Io _) = 10
 status_of (Utf8 _) = 11

@@ -27,13 +27,13 @@ abbrev pub file_at : Option (List ℕ) → FoundValue
 file_at (Some path) = file path
 file_at None = nowhere
 
--- the file that a URL resolves to, or nowhere, relative to the path of the text that has the URL; a long URL
--- or path may resolve to no file
+-- the file that a URL resolves to, relative to the path of the text that has the URL. The answer is `nowhere` if the
+-- URL resolves to no file, and may also be `nowhere` if the path or the URL is long
 abbrev pub FileOfUrl : List ℕ → List ℕ → Result FoundValue Error → Type 0
 FileOfUrl url path answer =
     Then (UnlessLong (resolved_path path url) (IsLongJoin (url_text path false) url)) (λ found a. a ≡ Ok (file_at found)) answer
 
--- the map embedded in a `data:` URL; for any other URL, the file that the URL resolves to, or nowhere
+-- the map embedded in a `data:` URL; for any other URL, the file that the URL resolves to, or `nowhere`
 abbrev pub MapOfUrl : List ℕ → List ℕ → Result FoundValue Error → Type 0
 MapOfUrl url path answer =
     Then (EmbeddedAnswer url) (λ held a. MatchOption held (FileOfUrl url path a) (λ m. a ≡ Ok (embedded m))) answer
@@ -42,9 +42,9 @@ abbrev pub url_in : Reference → List ℕ
 url_in (usual url) = url
 url_in (legacy url) = url
 
--- where the map of a text at this path is, by the text's reference; nowhere if the text has no reference; an
--- error if the line of the reference or a line before it is not UTF-8, or if no line has a reference and any
--- line is not UTF-8
+-- where the map of a text at this path is, by the result of `first_reference` for the text. `Some None` means that no
+-- line has a reference: the answer is `nowhere`. `None` means that a line is not UTF-8, and that no line before it has
+-- a reference: the answer is an error
 abbrev pub MapByReference : Option (Option Reference) → List ℕ → Result FoundValue Error → Type 0
 MapByReference None path answer = IsErrAnd answer IsInvalidData
 MapByReference (Some None) path answer = answer ≡ Ok nowhere

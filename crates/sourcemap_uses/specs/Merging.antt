@@ -8,11 +8,11 @@ use Rattle.sourcemap.specs.declared.errors.Error.TheVariants.{IncompatibleSource
 abbrev pub AreTooMany : List (List ℕ) → Error → Type 0
 AreTooMany sources e = (e ≡ IncompatibleSourceMap) × (4294967295 < length sources)
 
--- a prefix of these sources was added
+-- the new builder is the old one with a prefix of these sources added
 abbrev pub HasFirstOf : (old new : BuilderValue) → List (List ℕ) → Type 0
 HasFirstOf old new sources =
     (added rest : List (List ℕ)) × (sources ≡ added ++ rest) × (new ≡ fold with_source old added)
 
--- the source with this id is displayed as this text
+-- the builder after a call of `set_source`: the source with this id is now this text
 abbrev pub with_display_text : BuilderValue → ℕ → List ℕ → BuilderValue
 with_display_text b id text = record b { sources = slice_set b.sources id text }

@@ -5,7 +5,7 @@ use Rattle.sourcemap.specs.Reading.{BytesHaveResult, RegularDecodes}
 use Rattle.sourcemap.specs.TokenWalk.{function_name}
 use Rattle.sourcemap.specs.Types.{MapValue, TokenValue, contents_of}
 
--- the name guessed by the map that the bytes decode to
+-- the original name of a function, guessed with the map that `bytes` decodes to; `None` if there is no guess
 abbrev pub IsNameOf : (bytes text : List ℕ) → ℕ × ℕ → (minified : List ℕ) → Option (List ℕ) → Type 0
 IsNameOf bytes text p minified name =
     (m : MapValue) × BytesHaveResult RegularDecodes bytes (Ok m) × (name ≡ function_name m text minified p)

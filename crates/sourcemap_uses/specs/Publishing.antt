@@ -4,14 +4,15 @@ use Rattle.sourcemap.specs.Reading.{BytesHaveResult, RegularDecodes}
 use Rattle.sourcemap.specs.Rewrite.{Removal}
 use Rattle.sourcemap.specs.Types.{MapValue, Meaning, meaning, contents_of}
 
--- removes names and contents, keeps sources
+-- removes names and contents, and cuts no prefix from a source
 abbrev pub no_details : Removal
 no_details = record { with_names = false; with_contents = false; prefixes = [] }
 
 abbrev pub without_name : Meaning → Meaning
 without_name says = record says { name = None }
 
--- the new map means what the old one means, less the names; it has no names and no contents
+-- each position has in the new map the meaning that it has in the old map, without the name; the new map has no names
+-- and no contents
 pub record IsBare (old new : MapValue) : Type 0 where
   pub meaning : (p : ℕ × ℕ) → meaning new p ≡ option_map without_name (meaning old p)
   pub names : new.names ≡ []

@@ -12,13 +12,13 @@ use Rattle.sourcemap.specs.Utils.{closest_item}
 use Rattle.sourcemap.specs.declared.errors.Error.{Error}
 use Rattle.sourcemap.specs.declared.types.RawToken.{RawToken}
 
--- what a token prints; the empty text if there is none
+-- the text that a token with this meaning prints; the empty text if there is no meaning
 abbrev pub printed : Option Meaning → List ℕ
 printed None = []
 printed (Some says) = token_text says
 
--- `flat` is the flattened map of the index. `found` is the first module whose offset is not null, and `first`
--- is its first line.
+-- `flat` is the flattened map of the index map. `found` is the first module whose item in `x_facebook_offsets` is not
+-- null, and no module before it gives an error. `first` is this item: the line of the bundle on which `found` begins.
 pub record IsFirstModule (i : IndexValue) (modules : List (Result ModuleValue Error)) (flat : MapValue) (found : ModuleValue) (first : ℕ) : Type 0 where
   pub flat_is : flat_of (index_tree i) ≡ Ok flat
   pub offsets : List (Option ℕ)
@@ -26,7 +26,8 @@ pub record IsFirstModule (i : IndexValue) (modules : List (Result ModuleValue Er
   pub others : List (Result (ModuleValue × ℕ) Error)
   pub comes_first : filter_map (with_first_line offsets) modules ≡ Ok (found, first) ∷ others
 
--- the position is on the module's lines, and so is the token closest to it
+-- the position is in the module `found`: not before line `first`, and before the end of the module's text. So is the
+-- token that a lookup of the position in the flattened map finds
 pub record IsOnItsLines (flat : MapValue) (found : ModuleValue) (first : ℕ) (p : ℕ × ℕ) : Type 0 where
   pub token : RawToken
   pub inside : is_in first (end_of first found.text) p ≡ true

@@ -30,15 +30,16 @@ pub struct OriginalPosition {
 /// the adjusted map gives. `None` if the adjusted map has no token at or before the position.
 /// Returns the errors of `adjust_mappings`.
 ///
-/// Each token of `adjustment` covers a stretch of the generated text of `map`: from the original
-/// position of the token up to that of the next token, at most to the end of the line. If a stretch
-/// moves an old position to the position looked up, the result is what `map` returned for the old
-/// position. This holds under four premises:
+/// Each token of `adjustment` moves a stretch of the generated text of `map`. The stretch begins at
+/// the original position of the token. It ends before the next original position of a token of
+/// `adjustment`, or at the end of the line if that comes first. Suppose that a stretch moves an old
+/// position in this text to the position looked up. Then the result is what `map` returned for the
+/// old position, under four premises:
 ///
 /// - `map` is well-formed.
 /// - No two tokens of `map` have the same generated position.
-/// - The token of `map` that is closest to the old position is on the line of the old position.
-/// - The adjusted map has tokens of no other stretch between the moved start of this stretch and
+/// - A lookup of the old position in `map` finds a token on the line of the old position.
+/// - No other stretch gives the adjusted map a token between the moved start of this stretch and
 ///   the position looked up, both included.
 pub fn lookup_adjusted(
     alloc: Global,

@@ -18,9 +18,11 @@ use sourcemap::types::RawToken;
 use sourcemap::{DecodedMap, Result, SourceMap, decode_slice};
 use std::alloc::Global;
 
-/// Builds a map from tokens, writes it, reads it back, and returns the original line and column of a
-/// generated position. Each token refers to `source` or to no source. The only error is
-/// `OutOfMemory`.
+/// Builds a map from tokens, writes it, reads it back, and returns the original line and column of
+/// a generated position. Both are 4294967295 if the lookup finds a token without a source. Returns
+/// `None` if no token is at or before the position. Each token must refer to `source`, which has id
+/// 0, or to no source. A token without a source must have 4294967295 as source id, original line
+/// and original column. The only error is `OutOfMemory`.
 pub fn lookup_once_written(
     alloc: Global,
     source: &str,
@@ -49,8 +51,10 @@ fn lookup_source_position(map: &DecodedMap, line: u32, col: u32) -> Option<(u32,
     }
 }
 
-/// Returns the encoded map of these tokens, each of which refers to `source` or to no source. The
-/// bytes decode to that map, without repeated tokens. The only error is `OutOfMemory`.
+/// Returns the encoded map of these tokens. Each token must refer to `source`, which has id 0, or
+/// to no source. A token without a source must have 4294967295 as source id, original line and
+/// original column. The bytes decode to the map without repeated tokens and without name ids. The
+/// only error is `OutOfMemory`.
 pub fn write_tokens(alloc: Global, source: &str, tokens: Vec<RawToken>) -> Result<Vec<u8>>
     requires { AllWithin 1 0 tokens.items }
     ensures reads_back { IfOk result (λ text. ReadsBack (BytesDecode text.items)

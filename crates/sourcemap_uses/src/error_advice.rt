@@ -8,16 +8,18 @@ use sourcemap::errors::JsonFault;
 /// What can be done about an error.
 #[derive(Clone, Copy, Debug, PartialEq, Eq)]
 pub enum Advice {
-    /// Read or write again: a reader or a writer failed, or a header is invalid.
+    /// Read or write again: a reader or a writer failed, or the junk header is invalid.
     ReadAgain,
-    /// Look at what was fetched: it is not JSON, maybe an error page.
+    /// Look at what was fetched: it is not UTF-8 or not JSON. It may be an error page.
     LookAtInput,
-    /// Fix the tool that wrote the map: a key, a number of the mappings or a reference is wrong.
+    /// Fix the tool that wrote the map: a field has the wrong type, or the mappings are invalid or
+    /// refer to a source or name that does not exist.
     MendWriter,
-    /// Use another call: the map is of another kind or cannot be flattened, or the text is not a
-    /// data URL of a map.
+    /// Use another call: the map is of another kind, exceeds a limit or cannot be flattened, or the
+    /// text is not a data URL of a map.
     UseOtherCall,
-    /// Look at the bundle: it is not a RAM bundle, or incomplete.
+    /// Look at the bundle and its index map: the bundle is not a RAM bundle or is incomplete, a
+    /// module is missing or invalid, or the index map has no `x_facebook_offsets`.
     LookAtBundle,
     /// Try again with more memory.
     FreeMemory,

@@ -11,10 +11,11 @@ use sourcemap::{Result, SourceMap};
 use std::alloc::Global;
 use std::io::Write;
 
-/// Writes a map to a file, or to any writer, in pieces. If the map is well-formed, the bytes decode
-/// to a map with the same meaning at every position. That map has the same parts, but may lack
-/// repeated tokens, name ids that name nothing, and contents that belong to no source. After an
-/// error the file may hold a part of the text.
+/// Writes a map to a file, or to any writer, in pieces. If the map is well-formed, the written
+/// bytes decode to a map with the same meaning at every position. The decoded map has the same
+/// parts, but may lack repeated tokens, name ids that name nothing, and contents that belong to no
+/// source. Returns the errors of `encode_in_parts`. After an error the file may hold a part of the
+/// text.
 pub fn export<W: Write>(alloc: Global, map: &SourceMap, file: &mut W) -> Result<()>
     ensures written { OnOk result ((text : List ℕ)
         × Appends (W.contents file.old) (W.contents file.new) text

@@ -19,10 +19,15 @@ pub enum FoundMap {
     Nowhere,
 }
 
-/// Returns where the map of a generated text is, by the first reference in `text`, resolved against
-/// `path`, the path of the text. Errors: `Io` of kind `InvalidData` if the line of the reference or
-/// a line before it is not UTF-8, or if no line has a reference and any line is not UTF-8; the
-/// errors of `decode_data_url` if the reference starts with `data:`; and `OutOfMemory`.
+/// Returns where the map of a generated text is. Resolves the first reference in `text` against
+/// `path`, the path of the text.
+///
+/// Errors:
+///
+/// - `Io` of kind `InvalidData` if the line of the reference or a line before it is not UTF-8.
+/// - `Io` of kind `InvalidData` if no line has a reference and some line is not UTF-8.
+/// - The errors of `decode_data_url` if the reference starts with `data:`.
+/// - `OutOfMemory`.
 pub fn find_map(alloc: Global, text: &[u8], path: &str) -> Result<FoundMap>
     ensures { IsAnswer found_value (MapByReference (first_reference text.now) path.now) result }
 {

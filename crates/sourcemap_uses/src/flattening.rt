@@ -36,7 +36,8 @@ fn have_same_meaning(before: &Token<'_>, after: &Token<'_>) -> bool
     is_one_source & is_one_line & is_one_column & is_one_name & is_one_kind
 }
 
-// Whether `after` means what `before` means. True if there is no `before`.
+// Whether the token `after` has the meaning of the token `before`. True if there is no `before`.
+// False if there is only `before`.
 fn keeps_meaning(before: Option<Token<'_>>, after: Option<Token<'_>>) -> bool
     ensures { Decides result (IfSome (option_map meaning_of_token before.entry)
         (λ says. option_map meaning_of_token after.entry ≡ Some says)) }
@@ -48,11 +49,12 @@ fn keeps_meaning(before: Option<Token<'_>>, after: Option<Token<'_>>) -> bool
     }
 }
 
-/// Whether flattening keeps what an index map returns for a position: the source, the original line
-/// and column, the name, and whether the token is a range token. True if the index has no token for
-/// the position. True for every position if, at every level, the start and all tokens of each
-/// section are before the start of the next section. Requires sorted sections, as in every decoded
-/// index map; otherwise the result is unspecified. Returns the errors of `SourceMapIndex::flatten`.
+/// Returns whether flattening keeps what an index map returns for a position: the source, the
+/// original line and column, the name, and whether the token is a range token. The result is true
+/// if the index map has no token for the position. It is true for every position if, at every
+/// level, the start and all tokens of each section are before the start of the next section. The
+/// sections must be sorted at every level, as in every decoded index map; otherwise the result is
+/// unspecified. Returns the errors of `SourceMapIndex::flatten`.
 pub fn is_kept_flat(index: &SourceMapIndex, line: u32, col: u32) -> Result<bool>
     ensures exact { IfOk result (λ is_kept. IsInOrder (index_tree (index_value index.now))
         → DecidesWhetherKept is_kept (index_tree (index_value index.now)) (line, col)) }

@@ -1,5 +1,5 @@
-//! Finds the function that contains a bytecode offset, and rewrites a map without changing which
-//! function that is.
+//! Finds the function that contains a bytecode offset, and rewrites a map without changing the
+//! function of any offset.
 ghost use Rattle.std.specs.Prelude.{Err, IfErr, IfOk, IsOkUnless, Ok, option_map, string_bytes};
 ghost use Rattle.sourcemap.specs.Answer.{Gives, UnlessMemory};
 ghost use Rattle.sourcemap.specs.Hermes.{hermes_value};
@@ -15,9 +15,10 @@ use sourcemap::{Result, RewriteOptions, SourceMapHermes};
 use std::alloc::Global;
 use std::rt::Files;
 
-/// Returns the name of the function that contains a bytecode offset, by the Hermes map in these
-/// bytes. The name is unspecified if the functions of the source that the offset maps to are not in
-/// order. Returns the errors of `SourceMapHermes::from_slice`.
+/// Returns the name of the function that contains a bytecode offset, by the Hermes map in `bytes`.
+/// Returns `None` if the map has no token or no function name for the offset. If the functions of
+/// the source that the offset maps to are not sorted by position, the result is unspecified.
+/// Returns the errors of `SourceMapHermes::from_slice`.
 pub fn function_at(alloc: Global, bytes: &[u8], offset: u32) -> Result<Option<String>>
     ensures name { IfOk result
         (λ name. IsNameAt bytes.now offset (option_map string_bytes name)) }

@@ -12,10 +12,10 @@ use sourcemap::laws::well_formed_maps_are_in_order;
 use sourcemap::{DecodedMap, Result, decode_slice};
 use std::alloc::Global;
 
-/// Returns the original position of a generated position, by the map in these bytes, as text:
-/// `source:line:column`, and ` name=NAME` if there is a name. `None` if the map has no token for
-/// the position. Lines and columns count from 0, columns in UTF-16 units. Returns the errors of
-/// `decode_slice`.
+/// Returns the original position of a generated position, by the map in `bytes`, as text:
+/// `source:line:column`, and ` name=NAME` if there is a name. A missing source is printed as
+/// `<unknown>`. Returns `None` if the map has no token for the position. Lines and columns count
+/// from 0, columns in UTF-16 units. Returns the errors of `decode_slice`.
 pub fn lookup_text(alloc: Global, bytes: &[u8], line: u32, col: u32) -> Result<Option<String>>
     ensures position { IfOk result
         (λ text. IsLookupText bytes.now (line, col) (option_map string_bytes text)) }
@@ -41,8 +41,8 @@ fn text_at(alloc: Global, map: &DecodedMap, line: u32, col: u32) -> Result<Optio
     }
 }
 
-/// Returns the original position of a stack frame, whose line and column count from 1. The result
-/// counts from 0, as in `lookup_text`.
+/// Returns the result of `lookup_text` for the position of a stack frame. The line and the column
+/// of the frame count from 1. Those in the result count from 0.
 pub fn frame_text(alloc: Global, bytes: &[u8], line: u32, column: u32) -> Result<Option<String>>
     requires line { 0 < line }
     requires column { 0 < column }

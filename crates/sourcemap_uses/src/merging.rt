@@ -44,9 +44,9 @@ pub fn add_sources(builder: &mut SourceMapBuilder, map: &SourceMap) -> Result<()
     Ok(())
 }
 
-/// Adds `source` to a builder, displays it as `display`, and returns the id of the source. Returns
-/// the errors of `add_source`. After an error the builder is unchanged, or has `source` displayed
-/// as itself.
+/// Adds `source` to a builder, replaces it by `display` as `set_source` does, and returns the id of
+/// the source. Returns the errors of `add_source`. After an error the builder is unchanged, or as
+/// after `add_source` alone.
 pub fn add_source_displayed_as(
     builder: &mut SourceMapBuilder,
     source: &str,

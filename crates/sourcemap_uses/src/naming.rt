@@ -67,8 +67,8 @@ pub fn source_line(map: &SourceMap, line: u32, col: u32) -> Option<&str>
     token.get_source_view()?.get_line(token.get_src_line())
 }
 
-/// Returns how many lines a source has: one more than its line ends `\n`, `\r` and `\r\n`. Allocates
-/// nothing.
+/// Returns how many lines a source has: the number of its line ends (`\n`, `\r` or `\r\n`), plus
+/// one. Allocates nothing.
 pub fn line_total(view: &SourceView) -> usize
     ensures { result ≡ count_ends view.now + 1 }
 {

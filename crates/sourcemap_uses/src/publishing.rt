@@ -10,8 +10,10 @@ use sourcemap::{Result, RewriteOptions, SourceMap};
 use std::alloc::Global;
 use std::rt::Files;
 
-/// Removes names and source contents from the map in `bytes`. The result maps each position to the
-/// same original position. Returns the errors of `SourceMap::from_slice`.
+/// Returns the map in `bytes`, encoded without names and source contents. The new map maps each
+/// position to the same original position. Like every rewritten map, it has only the sources that
+/// tokens use, resolved against `sourceRoot`, and no ignore list. Returns the errors of
+/// `SourceMap::from_slice`.
 pub fn publish<F: Files>(rt: &F, alloc: Global, bytes: &[u8]) -> Result<Vec<u8>>
     ensures published { IfOk result (λ text. Publishes bytes.now text.items) }
     ensures error { IfErr result

@@ -12,9 +12,9 @@ use std::alloc::Global;
 use std::rt::Files;
 
 /// Removes unused sources and names. Each used source and each used name is kept once, in the order
-/// of first use. Sources are resolved against `sourceRoot`, and the result has no `sourceRoot`.
-/// Every position keeps its meaning. The result is what `rewrite` returns with default options, and
-/// shrinking it again changes nothing. The only error is `OutOfMemory`.
+/// of first use. Sources are resolved against `sourceRoot`, and the result has no `sourceRoot` and
+/// no ignore list. Every position keeps its meaning. The result is what `rewrite` returns with
+/// default options, and shrinking it again changes nothing. The only error is `OutOfMemory`.
 pub fn shrink<F: Files>(rt: &F, map: SourceMap) -> Result<SourceMap>
     ensures means { IfOk result (λ small. MeansTheSame small map) }
     ensures root { IfOk result (λ small. small.root ≡ None) }
@@ -31,9 +31,8 @@ pub fn shrink<F: Files>(rt: &F, map: SourceMap) -> Result<SourceMap>
     map.rewrite(rt, &RewriteOptions::default())
 }
 
-/// Shrinks a map and looks up a position in the shrunk map. The result is what the original map
-/// gives for the position. `None` if no token is at or before the position. The only error is
-/// `OutOfMemory`.
+/// Shrinks a map and looks up a position in the shrunk map. The result is what `map` gives for the
+/// position: `None` if no token is at or before the position. The only error is `OutOfMemory`.
 pub fn lookup_once_shrunk<F: Files>(
     rt: &F,
     alloc: Global,

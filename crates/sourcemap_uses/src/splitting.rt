@@ -11,13 +11,15 @@ use sourcemap::{Result, SourceMap, SourceMapIndex};
 use std::alloc::Global;
 
 /// Looks up a position in the first module of a bundle, by the map of the module. Lines count from
-/// the first line of the module. Returns the original position as a token prints it, or an empty
-/// text if there is no token or no module. Returns the errors of `split_ram_bundle`, then the error
-/// of the module.
+/// 0 at the first line of the module. Modules whose item in `x_facebook_offsets` is null are
+/// skipped. Returns the original position as a token prints it, or an empty text if there is no
+/// token or no module. Returns the errors of `split_ram_bundle`, then the error of the module.
 ///
-/// The result is that of the flattened map of the whole bundle under two premises. The position is
-/// on a line of the module. In the flattened map, the token closest to the position is on a line of
-/// the module too.
+/// The flattened map of the whole bundle gives the same result for this position, with lines
+/// counted from the start of the bundle, under two premises:
+///
+/// - The position is in the module, before the end of its text.
+/// - A lookup of the position in the flattened map finds a token that is in the module too.
 pub fn trace_first_module<'a>(
     alloc: Global,
     bundle: &'a RamBundle<'a>,

@@ -38,7 +38,7 @@ abbrev pub BitAnswers : List ℕ → Result (List Bool) Error → Type 0
 BitAnswers text (Ok bits) = AreBitsOf text bits
 BitAnswers text (Err e) = IsNonDigitError text e
 
--- the shortest text of bits: it ends with the digit of the last true bit
+-- the shortest text of bits: it ends with the digit of the last true bit, or is empty if no bit is true
 pub record IsBitText (bits : List Bool) (text : List ℕ) : Type 0 where
   pub digits : first_non_digit text ≡ None
   pub each : (j : ℕ) → bit_of text j ≡ slice_index_or bits j false

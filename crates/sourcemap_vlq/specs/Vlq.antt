@@ -1,12 +1,12 @@
--- Base64 VLQ numbers. A digit has five data bits, the least significant digit first, and a
--- continuation bit, worth 32, that is set if more digits follow.
+-- Base64 VLQ numbers. Each digit has five data bits and a continuation bit. The first digit has the least significant
+-- data bits. The continuation bit is worth 32. It is set if another digit follows.
 use Rattle.std.specs.Prelude.{◌≡◌, ◌≢◌, ℕ, ◌+◌, ◌-◌, ◌*◌, ◌/◌, ◌%◌, ◌^◌, ◌<◌, ◌≤◌, ◌==◌, ◌&&◌, nat_lt, nat_le, if◌then◌else◌, List, [], ◌∷◌, ◌++◌, length, Option, Some, None, unwrap_or, Result, Ok, Err, ℤ, pos, unsigned_abs, Any}
 use Rattle.std.specs.List.{AllByRecursion}
 use lib.IntN.{neg_ℤ}
 use Rattle.sourcemap_errors.specs.declared.errors.Error.{Error}
 use Rattle.sourcemap_errors.specs.declared.errors.Error.TheVariants.{VlqLeftover, VlqNoValues, VlqOverflow, InvalidBase64}
 
--- the value of a digit: `A` to `Z`, `a` to `z`, `0` to `9`, `+` and `/`; None for any other byte
+-- the value of a digit: `A` to `Z`, `a` to `z`, `0` to `9`, `+` and `/`; `None` for any other byte
 unfoldable pub digit_value : ℕ → Option ℕ
 digit_value c =
     if nat_le 65 c && nat_le c 90 then Some (c - 65)
@@ -46,7 +46,7 @@ raw_of (c ∷ cs) = data_of c + 32 * raw_of cs
 abbrev pub number_of : ℕ → ℤ
 number_of raw = if raw % 2 == 0 then pos (raw / 2) else neg_ℤ (pos (raw / 2))
 
--- each digit except the last has the continuation bit
+-- there is at least one digit, and each digit has the continuation bit, except for the last
 abbrev pub IsChain : List ℕ → Type 0
 IsChain [] = ⊥
 IsChain (c ∷ []) = IsLast c
@@ -63,12 +63,12 @@ pub record IsGroup (digits : List ℕ) (number : ℤ) : Type 0 where
   pub fits : FitsOneNumber digits
   pub value : number ≡ number_of (raw_of digits)
 
--- a text is the concatenation of the groups of some numbers
+-- a text is the concatenation of the digits of these numbers; a number need not have its shortest digits
 abbrev pub Reads : List ℕ → List ℤ → Type 0
 Reads text [] = text ≡ []
 Reads text (n ∷ ns) = (group rest : List ℕ) × IsGroup group n × (text ≡ group ++ rest) × Reads rest ns
 
--- digits that have the continuation bit and do not overflow
+-- digits that all have the continuation bit and do not overflow; there may be no digits
 pub record IsUnfinished (part : List ℕ) : Type 0 where
   pub continues : AllByRecursion HasContinuation part
   pub fits : FitsOneNumber part
@@ -86,7 +86,7 @@ NumberError text VlqOverflow = (part : List ℕ) × (c : ℕ) × GoesTo text par
 NumberError text VlqLeftover = IsUnfinished text
 NumberError text _ = ⊥
 
--- a text is the group of a number followed by `rest`
+-- a text is the digits of a number followed by `rest`
 pub record BeginsWith (text : List ℕ) (number : ℤ) (rest : List ℕ) : Type 0 where
   pub group : List ℕ
   pub is_group : IsGroup group number

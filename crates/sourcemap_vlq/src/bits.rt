@@ -12,7 +12,7 @@ use sourcemap_errors::errors::{Error, Result};
 use std::alloc::Global;
 
 /// Decodes the bits of `text`, six per digit. Returns `InvalidBase64` for the first byte that is
-/// not a digit, otherwise only `OutOfMemory`.
+/// not a digit. The only other error is `OutOfMemory`.
 pub fn decode_rmi(alloc: Global, text: &str) -> Result<Vec<bool>>
     ensures answers { IsAnswer (λ bits. bits.items) (BitAnswers text.now) result }
     ensures only { (answer : Result (List Bool) Error) → BitAnswers text.now answer
@@ -52,8 +52,9 @@ pub fn test_digits(text: &[u8]) -> Result<()>
     Ok(())
 }
 
-/// The bit with this index, counted from 0, six per digit. False past the end of the text and in a
-/// byte that is not a digit.
+/// Returns the bit with this index, counted from 0. Each digit has six bits, the lowest first.
+/// Returns false if the index is past the end of the text, or if the byte with this bit is not a
+/// digit.
 pub fn has_bit(text: &[u8], index: usize) -> bool
     ensures { result ≡ bit_of text.now index }
 {
@@ -98,7 +99,7 @@ fn bits_of_value(value: u8) -> [bool; 6]
     ]
 }
 
-// The number of digits up to the last true bit.
+// The number of digits up to and including the digit of the last true bit, or 0 if no bit is true.
 fn digit_count(bits: &[bool]) -> usize
     ensures rest { (j : ℕ) → 6 * result ≤ j → slice_index_or bits.now j false ≡ false }
     ensures last { 0 < result → (j : ℕ) × (j / 6 + 1 ≡ result)
@@ -134,8 +135,8 @@ fn bit_from(bits: &[bool], index: usize) -> u8
     u8::from(bits.get(index).copied().unwrap_or(false))
 }
 
-/// A law: a text has at most one answer, a list of bits or an error. Bits have at most one shortest
-/// text.
+/// A law: a text decodes to at most one list of bits or one error. A list of bits has at most one
+/// shortest text.
 pub fn bits_are_determined()
     ensures one_answer { (text : List ℕ) (a b : Result (List Bool) Error) → BitAnswers text a
         → BitAnswers text b → a ≡ b }

@@ -62,10 +62,10 @@ pub fn glyph_char(value: u8) -> char
     char::from(glyph_of(value) % 128)
 }
 
-/// Decodes the number at the front of `text`, and returns it with the text after it. Returns the
-/// first error of that number: `InvalidBase64` for a byte that is not a digit, `VlqOverflow` if the
-/// absolute value is 2^62 or more or there is a fourteenth digit, `VlqLeftover` if the text ends
-/// within the number.
+/// Decodes the number at the front of `text`. Returns the number, and the text after its digits.
+/// Returns the first error of that number: `InvalidBase64` for a byte that is not a digit,
+/// `VlqOverflow` if the absolute value is 2^62 or more or there is a fourteenth digit,
+/// `VlqLeftover` if the text is empty or ends within the number.
 // Most numbers have one or two digits.
 #[inline(always)]
 pub fn next_number(text: &[u8]) -> Result<(i64, &[u8])>
@@ -101,8 +101,8 @@ fn two_digits(text: &[u8]) -> Option<(i64, &[u8])>
     Some((number_from(raw), tail))
 }
 
-// A number of any length. Inlined, so that the caller allocates no stack space for the result on
-// the fast paths.
+// Decodes a number of any length. A call would need stack space for its result. The caller would
+// reserve this space on its fast paths too. So the function is inlined.
 #[inline(always)]
 fn long_number(text: &[u8]) -> Result<(i64, &[u8])>
     ensures number { IfOk result (λ read. BeginsWith text.now read.0 read.1.now) }
@@ -125,7 +125,8 @@ fn long_number(text: &[u8]) -> Result<(i64, &[u8])>
     Err(Error::VlqLeftover)
 }
 
-// Whether the digit with this index and these bits keeps the number below 2^62.
+// Whether a number may have a digit with this index and these data bits. A number has at most
+// thirteen digits, and its absolute value is below 2^62.
 #[inline]
 fn fits_in_number(index: usize, bits: u8) -> bool
     ensures { result ≡ (nat_lt index 12 || ((index == 12) && nat_lt bits 8)) }
@@ -143,8 +144,8 @@ fn number_from(raw: u64) -> i64
     if raw % 2 == 0 { magnitude } else { -magnitude }
 }
 
-/// Appends the shortest digits of `number`. Returns `VlqOverflow` if its absolute value is 2^62 or
-/// more, otherwise only `OutOfMemory`. After an error `text` is unchanged.
+/// Appends the shortest digits of `number`. Returns `VlqOverflow` if the absolute value of `number`
+/// is 2^62 or more. The only other error is `OutOfMemory`. After an error `text` is unchanged.
 pub fn push_number(text: &mut String, number: i64) -> Result<()>
     ensures written { OnOk result ((digits : List ℕ) × IsShortest digits number
         × (string_bytes text.new ≡ string_bytes text.old ++ digits)) }
@@ -166,9 +167,9 @@ pub fn push_number(text: &mut String, number: i64) -> Result<()>
 }
 
 /// Decodes the numbers of a segment. Returns the first error from the left: `InvalidBase64` for a
-/// byte that is not a digit, `VlqOverflow` if the absolute value of a number is 2^62 or more or it
-/// has a fourteenth digit, `VlqLeftover` if the segment ends within a number, `VlqNoValues` if the
-/// segment is empty. Otherwise it returns only `OutOfMemory`.
+/// byte that is not a digit, `VlqOverflow` if the absolute value of a number is 2^62 or more or the
+/// number has a fourteenth digit, `VlqLeftover` if the segment ends within a number, `VlqNoValues`
+/// if the segment is empty. The only other error is `OutOfMemory`.
 pub fn parse_vlq_segment(alloc: Global, segment: &str) -> Result<Vec<i64>>
     ensures answers { IsAnswer (λ numbers. numbers.items) (SegmentAnswers segment.now) result }
     ensures only { (answer : Result (List ℤ) Error) → SegmentAnswers segment.now answer
@@ -187,8 +188,8 @@ pub fn parse_vlq_segment(alloc: Global, segment: &str) -> Result<Vec<i64>>
     Ok(numbers)
 }
 
-/// Encodes numbers as a segment, each with its shortest digits. Returns `VlqOverflow` exactly if
-/// the absolute value of a number is 2^62 or more, otherwise only `OutOfMemory`.
+/// Encodes numbers as a segment, each with its shortest digits. Returns `VlqOverflow` if the
+/// absolute value of a number is 2^62 or more. The only other error is `OutOfMemory`.
 pub fn generate_vlq_segment(alloc: Global, numbers: &[i64]) -> Result<String>
     ensures written { IsAnswer string_bytes (SpellingAnswers numbers.now) result }
     ensures only { (answer : Result (List ℕ) Error) → SpellingAnswers numbers.now answer
@@ -202,8 +203,8 @@ pub fn generate_vlq_segment(alloc: Global, numbers: &[i64]) -> Result<String>
     Ok(text)
 }
 
-/// A law: a segment has at most one answer, a list of numbers or an error. Numbers have at most one
-/// shortest text. It decodes to the same numbers, unless there are none.
+/// A law: a segment decodes to at most one list of numbers or one error. A list of numbers has at
+/// most one shortest text. If the list is not empty, the text decodes to it.
 pub fn segments_are_determined()
     ensures one_answer { (text : List ℕ) (a b : Result (List ℤ) Error) → SegmentAnswers text a
         → SegmentAnswers text b → a ≡ b }
