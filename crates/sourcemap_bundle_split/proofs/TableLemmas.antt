@@ -3,7 +3,7 @@ use Rattle.std.proofs.Common.{◌≡◌, ◌≢◌, ◌∙◌, refl, sym, ap, su
 use Rattle.std.specs.List.{IsDistinct, list_any}
 use Rattle.std.proofs.lemmas.Bool.{eqb-true}
 use Rattle.std.proofs.lemmas.Bool.Decides.{nat_tests}
-use Rattle.std.proofs.lemmas.List.{get_or-set_same, get_or-set_other}
+use Rattle.std.proofs.lemmas.List.{get_or_default, get_or-set_same, get_or-set_other}
 use Rattle.std.proofs.lemmas.Map.Keys.{any_passes_from_place}
 use Rattle.std.proofs.lemmas.Map.Steps.{length-le_from_distinct_below}
 use Rattle.std.proofs.lemmas.Option.{slice_get-get_or}
@@ -46,6 +46,12 @@ number_none numbers order id stand apart = by_cases (number_of order id) refl
         let back : slice_get order m ≡ Some id = number_of-get order id m is in
         let same : get_or numbers id 0 ≡ m = stand m id back in
         absurd (apart (subst (λ n. slice_get order n ≡ Some id) (sym same) back))
+
+-- the same of a number that was read from the table `numbers`, and a list `ids` that was read from `order`
+pub number_none_read : (numbers order ids : List ℕ) (id n default : ℕ) → Stand numbers order → id < length numbers
+    → n ≡ get_or numbers id default → ids ≡ order → slice_get ids n ≢ Some id → number_of order id ≡ None
+number_none_read numbers order ids id n default stand inside read same apart =
+    number_none numbers order id stand (λ at. apart (ap (λ list. slice_get list n) same ∙ ap (slice_get order) (read ∙ get_or_default numbers id default 0 inside) ∙ at))
 
 -- an id that names no item has no number
 pub number_past : (count : ℕ) (order : List ℕ) (id : ℕ) → AreBelow count order → count ≤ id → number_of order id ≡ None

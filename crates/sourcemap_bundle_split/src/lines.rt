@@ -1,12 +1,11 @@
 //! The tokens on the lines of a module.
 ghost use Rattle.std.specs.Prelude.{◌≡◌, ◌≤◌, ℕ, All, filter, length, take, drop, not};
 ghost use Rattle.std.specs.Ordering.{is_lt};
-ghost use Rattle.std.specs.Str.{chars};
 ghost use Rattle.sourcemap_tokens.specs.Tokens.{AreInOrder, destination, position_cmp};
-ghost use Rattle.sourcemap_source_views.specs.Columns.{width};
 ghost use Rattle.sourcemap_bundle_split.specs.ModuleMap.{end_of, tokens_in};
 ghost use Rattle.sourcemap_bundle_split.specs.Lines.{IsBound};
 
+use sourcemap_source_views::columns::units_in;
 use sourcemap_source_views::sourceview::SourceView;
 use sourcemap_tokens::tokens::RawToken;
 
@@ -67,18 +66,4 @@ fn stands_before(token: &RawToken, bound: Bound) -> bool
 {
     let line = u64::from(token.dst_line);
     line < bound.line || (line == bound.line && u64::from(token.dst_col) < bound.col)
-}
-
-// The number of UTF-16 units of a text.
-fn units_in(text: &str) -> u64
-    ensures { result ≡ width (chars text.now) }
-{
-    if text.is_ascii() {
-        return text.len() as u64;
-    }
-    let mut total = 0;
-    for character in text.chars() {
-        total += character.len_utf16() as u64;
-    }
-    total
 }

@@ -1,3 +1,3 @@
 mod StoreLemmas
 mod QuoteLemmas
-mod WritingLemmas
+pub mod WritingLemmas

@@ -3,5 +3,4 @@ pub mod ListLemmas
 pub mod MemberLemmas
 pub mod PlainLemmas
 pub mod SegmentLemmas
-pub mod ValueLemmas
 pub mod WholeLemmas

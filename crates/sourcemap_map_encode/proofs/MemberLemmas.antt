@@ -14,7 +14,7 @@ use Rattle.serde_json.specs.Read.{read}
 use Rattle.serde_json.specs.View.{items_of}
 use Rattle.serde_json.specs.Written.{comma_if, compact_text, members_text}
 use Rattle.sourcemap_json_write.specs.Writing.{IsPlainValue, ArePlainItems}
-use Rattle.sourcemap_map_encode.proofs.ValueLemmas.{IsPlainRest, plain_unsigned, plain_no_members, plain_member, plain_object, plain_array, plain_item, plain_no_items, plain_string, plain_reads_back}
+use Rattle.sourcemap_json_write.proofs.WritingLemmas.{IsPlainRest, plain_unsigned, plain_no_members, plain_member, plain_object, plain_array, plain_item, plain_no_items, plain_string, plain_reads_back}
 use Rattle.sourcemap_records.specs.Field.{put_if, written_list, written_number, written_or_null}
 use Rattle.sourcemap_records.specs.Jsontypes.{FitsU32, plain, written, written_fields}
 use Rattle.sourcemap_map_parts.specs.Contents.{fitted}

@@ -125,8 +125,8 @@ fn block_end(line: &str, offset: usize) -> Option<usize>
     None
 }
 
-// The length of a text in UTF-16 units.
-fn units_in(text: &str) -> u64
+/// The length of a text in UTF-16 units.
+pub fn units_in(text: &str) -> u64
     ensures value { result ≡ width (chars text.now) }
     ensures few { result ≤ length text.now }
 {

@@ -28,7 +28,7 @@ pub record IsFirstModule (i : IndexValue) (modules : List (Result ModuleValue Er
 
 -- the position is in the module `found`: not before line `first`, and before the end of the module's text. So is the
 -- token that a lookup of the position in the flattened map finds
-pub record IsOnItsLines (flat : MapValue) (found : ModuleValue) (first : ℕ) (p : ℕ × ℕ) : Type 0 where
+pub record IsInModule (flat : MapValue) (found : ModuleValue) (first : ℕ) (p : ℕ × ℕ) : Type 0 where
   pub token : RawToken
   pub inside : is_in first (end_of first found.text) p ≡ true
   pub closest : closest_item destination position_cmp flat.tokens p ≡ Some token

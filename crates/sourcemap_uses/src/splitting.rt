@@ -3,7 +3,7 @@ ghost use Rattle.std.specs.Prelude.{◌≡◌, ℕ, ◌+◌, IfOk, string_bytes}
 ghost use Rattle.sourcemap.specs.AnyMap.{index_value};
 ghost use Rattle.sourcemap.specs.BundleModules.{ModuleValue, modules_of};
 ghost use Rattle.sourcemap.specs.Types.{MapValue, meaning};
-ghost use Rattle.sourcemap_uses.specs.Splitting.{IsFirstModule, IsOnItsLines, printed};
+ghost use Rattle.sourcemap_uses.specs.Splitting.{IsFirstModule, IsInModule, printed};
 
 use sourcemap::laws::module_means_what_flat_means;
 use sourcemap::ram_bundle::{RamBundle, split_ram_bundle};
@@ -29,7 +29,7 @@ pub fn trace_first_module<'a>(
 ) -> Result<String>
     ensures { (flat : MapValue) (found : ModuleValue) (first : ℕ)
         → IsFirstModule (index_value map.now) (modules_of bundle.now) flat found first
-        → IsOnItsLines flat found first (first + line, col)
+        → IsInModule flat found first (first + line, col)
         → IfOk result (λ text. string_bytes text ≡ printed (meaning flat (first + line, col))) }
 {
     module_means_what_flat_means();

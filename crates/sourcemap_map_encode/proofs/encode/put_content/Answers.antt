@@ -4,7 +4,7 @@ use Rattle.sourcemap_json_write.specs.Writing.{IsPlainValue}
 use Rattle.sourcemap_records.specs.Field.{written_or_null}
 use Rattle.sourcemap_map_encode.proofs.BufferedLemmas.{OnOk-then, OnOk-any}
 use Rattle.sourcemap_map_encode.proofs.MemberLemmas.{plain_null}
-use Rattle.sourcemap_map_encode.proofs.ValueLemmas.{plain_string}
+use Rattle.sourcemap_json_write.proofs.WritingLemmas.{plain_string}
 use Rattle.sourcemap_map_encode.proofs.encode.put_content.Goals as goal
 
 pub returns-in-Some-clause-is_plain : goal.returns-in-Some-clause-is_plain

@@ -9,7 +9,7 @@ use Rattle.sourcemap_map_encode.specs.Segments.{IsBitsText}
 use Rattle.sourcemap_map_encode.proofs.BufferedLemmas.{OnOk-then}
 use Rattle.sourcemap_map_encode.proofs.PlainLemmas.{plain-utf8}
 use Rattle.sourcemap_map_encode.proofs.SegmentLemmas.{member-grown}
-use Rattle.sourcemap_map_encode.proofs.ValueLemmas.{plain_string}
+use Rattle.sourcemap_json_write.proofs.WritingLemmas.{plain_string}
 use Rattle.sourcemap_map_encode.proofs.encode.put_range_bits.Goals as goal
 
 as_part : (m : MapValue) (h i : Option (List ℕ)) (a b : List ℕ) → list_any (λ t. t.is_range) m.tokens ≡ true

@@ -4,7 +4,7 @@ use Rattle.sourcemap_map_encode.specs.Buffered.{Grows, GrowsBy}
 use Rattle.sourcemap_map_encode.specs.Members.{part, parts_text, mappings_entry, names_entry, ranges_entry, token_entries, IsMappingsPart, IsRangesPart, IsTokensText, IsPlainEntry}
 use Rattle.sourcemap_map_encode.proofs.BufferedLemmas.{Grows-join, OnOk-then}
 use Rattle.sourcemap_map_encode.proofs.PlainLemmas.{plain-utf8}
-use Rattle.sourcemap_map_encode.proofs.ValueLemmas.{plain_string}
+use Rattle.sourcemap_json_write.proofs.WritingLemmas.{plain_string}
 use Rattle.sourcemap_map_encode.proofs.encode.put_tokens.Goals as goal
 
 joined : (later : Bool) (m : MapValue) (mappings : List ℕ) (ranges : Option (List ℕ))

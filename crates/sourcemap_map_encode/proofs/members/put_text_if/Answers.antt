@@ -1,7 +1,7 @@
 use Rattle.std.proofs.Common.{option_copied, option_map, subst, sym}
 use Rattle.serde_json.specs.Data.{string}
 use Rattle.sourcemap_map_encode.specs.Members.{IsPlainEntry}
-use Rattle.sourcemap_map_encode.proofs.ValueLemmas.{plain_string}
+use Rattle.sourcemap_json_write.proofs.WritingLemmas.{plain_string}
 use Rattle.sourcemap_map_encode.proofs.members.put_text_if.Goals as goal
 
 pub returns-clause-is_plain : goal.returns-clause-is_plain

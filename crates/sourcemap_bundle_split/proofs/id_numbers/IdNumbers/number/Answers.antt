@@ -4,7 +4,7 @@ use Rattle.std.proofs.lemmas.List.{get_or_default, length-set}
 use Rattle.sourcemap_bundle_split.specs.Ids.{AreBelow}
 use Rattle.sourcemap_bundle_split.specs.ModuleMap.{number_of}
 use Rattle.sourcemap_bundle_split.specs.Numbers.{Stand}
-use Rattle.sourcemap_bundle_split.proofs.TableLemmas.{below_push, distinct_push, few_ids, number_at, number_none, number_of-new, number_past, stand_push, with_id-known, with_id-new}
+use Rattle.sourcemap_bundle_split.proofs.TableLemmas.{below_push, distinct_push, few_ids, number_at, number_none_read, number_of-new, number_past, stand_push, with_id-known, with_id-new}
 use Rattle.sourcemap_bundle_split.proofs.id_numbers.IdNumbers.number.Goals as goal
 
 pub returns-then-slot-len-clause-number : goal.returns-then-slot-len-clause-number
@@ -47,11 +47,8 @@ invariant_of-self-2 c =
     let order = c.self.inside.order.items in
     let id = c.args.id in
     let inside : id < length numbers = omega (arith, c.if-slot-len.false, c.len.ensures, c.self.inside.numbers.ok.0) in
-    let apart : slice_get order (get_or numbers id 0) ≢ Some id = λ at.
-    (let read : c.index-number.result.now ≡ get_or numbers id 0 = c.index-number.ensures ∙ get_or_default numbers id _ 0 inside in
-    let there = c.is_at.ensures.1 (ap (λ ids. slice_get ids c.index-number.result.now) c.deref.ensures.value ∙ ap (slice_get order) read ∙ at) in
-    let not_there = c.if-is_at.false in cc) in
-    let none : number_of order id ≡ None = number_none numbers order id c.self.invariant.stand apart in
+    let apart : slice_get c.deref.result.now c.index-number.result.now ≢ Some id = λ at. (let there = c.is_at.ensures.1 at in let not_there = c.if-is_at.false in cc) in
+    let none = number_none_read numbers order _ id _ _ c.self.invariant.stand inside c.index-number.ensures c.deref.ensures.value apart in
     let next : c.len-number.result ≡ length order = omega (arith, c.len-number.ensures, c.self.inside.order.ok.0) in
     record {
       few = omega (arith, c.self.invariant.few, length-set numbers id c.len-number.result);
@@ -68,11 +65,8 @@ returns-clause-ids c =
     let order = c.self.inside.order.items in
     let id = c.args.id in
     let inside : id < length numbers = omega (arith, c.if-slot-len.false, c.len.ensures, c.self.inside.numbers.ok.0) in
-    let apart : slice_get order (get_or numbers id 0) ≢ Some id = λ at.
-    (let read : c.index-number.result.now ≡ get_or numbers id 0 = c.index-number.ensures ∙ get_or_default numbers id _ 0 inside in
-    let there = c.is_at.ensures.1 (ap (λ ids. slice_get ids c.index-number.result.now) c.deref.ensures.value ∙ ap (slice_get order) read ∙ at) in
-    let not_there = c.if-is_at.false in cc) in
-    let none : number_of order id ≡ None = number_none numbers order id c.self.invariant.stand apart in
+    let apart : slice_get c.deref.result.now c.index-number.result.now ≢ Some id = λ at. (let there = c.is_at.ensures.1 at in let not_there = c.if-is_at.false in cc) in
+    let none = number_none_read numbers order _ id _ _ c.self.invariant.stand inside c.index-number.ensures c.deref.ensures.value apart in
     rw (← c.self.view_is, length-set numbers id c.len-number.result, c.in_ok-push.ensures.items, with_id-new (length numbers) order id inside none) refl
 
 pub returns-clause-number : goal.returns-clause-number
@@ -81,10 +75,7 @@ returns-clause-number c =
     let order = c.self.inside.order.items in
     let id = c.args.id in
     let inside : id < length numbers = omega (arith, c.if-slot-len.false, c.len.ensures, c.self.inside.numbers.ok.0) in
-    let apart : slice_get order (get_or numbers id 0) ≢ Some id = λ at.
-    (let read : c.index-number.result.now ≡ get_or numbers id 0 = c.index-number.ensures ∙ get_or_default numbers id _ 0 inside in
-    let there = c.is_at.ensures.1 (ap (λ ids. slice_get ids c.index-number.result.now) c.deref.ensures.value ∙ ap (slice_get order) read ∙ at) in
-    let not_there = c.if-is_at.false in cc) in
-    let none : number_of order id ≡ None = number_none numbers order id c.self.invariant.stand apart in
+    let apart : slice_get c.deref.result.now c.index-number.result.now ≢ Some id = λ at. (let there = c.is_at.ensures.1 at in let not_there = c.if-is_at.false in cc) in
+    let none = number_none_read numbers order _ id _ _ c.self.invariant.stand inside c.index-number.ensures c.deref.ensures.value apart in
     let next : c.len-number.result ≡ length order = omega (arith, c.len-number.ensures, c.self.inside.order.ok.0) in
     rw (c.in_ok-push.ensures.items, number_of-new order id none) next
