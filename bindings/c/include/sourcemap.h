@@ -347,7 +347,7 @@ sm_code sm_module_path(sm_map *map, uint32_t id, sm_text *text);
 ** may be that of an earlier call: look at the code. Allocates nothing. */
 sm_code sm_lookup(sm_map *map, uint32_t line, uint32_t column, sm_found *found);
 
-/* Answers each position in turn, as many as both arrays have. Returns how
+/* Answers each position in turn, up to the end of the shorter array. Returns how
 ** many it answered: 0 if the handle holds no map. `found[i].found` says whether
 ** `positions[i]` has a token. The rest of `found` is as it was. Allocates nothing. */
 size_t sm_lookup_many(sm_map *map, const sm_position *positions, size_t count, sm_found *found, size_t length);
@@ -510,9 +510,9 @@ sm_code sm_bytes_text(sm_bytes *bytes, sm_text *text);
 ** Sections count from 0; sm_count() writes how many there are.
 */
 
-/* Writes the generated position at which a section begins, and whether it has a map
-** and a URL. SM_ABSENT if there is no such section, SM_WRONG_KIND if the handle
-** holds no index map; then `start` is as it was. */
+/* Writes the generated position at which a section begins, whether it has a map, and
+** whether it has a URL. SM_ABSENT if there is no such section, SM_WRONG_KIND if the
+** handle holds no index map; then `start` is as it was. */
 sm_code sm_section_start_of(sm_map *map, uint32_t id, sm_section_start *start);
 
 /* The URL of a section. The text is borrowed from `map`. SM_ABSENT if there is no

@@ -33,7 +33,8 @@ fn index_over(alloc: Global, map: DecodedMap) -> Result<SourceMapIndex> {
     Ok(SourceMapIndex::new(alloc, None, sections))
 }
 
-// `depth` index maps nested in one another, but at least one. The innermost holds a regular map.
+// Nests `depth` index maps in one another, or makes one if `depth` is 0. Returns the outermost.
+// The innermost index map holds a regular map.
 fn levels(alloc: Global, depth: u32) -> Result<SourceMapIndex> {
     let inner = decode_slice(alloc, INNER)?;
     let mut index = index_over(alloc, inner)?;

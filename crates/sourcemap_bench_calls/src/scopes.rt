@@ -1,4 +1,4 @@
-//! Names of functions by scopes.
+//! Looks up a function name for each token of a Hermes map.
 
 use sourcemap::{Result, SourceMapHermes};
 use std::alloc::Global;

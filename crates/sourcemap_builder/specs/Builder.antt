@@ -96,8 +96,8 @@ name_if with_name says = cond with_name says.name None
 abbrev pub IsOptionalId : List (List ℕ) → Option (List ℕ) → ℕ → Type 0
 IsOptionalId texts text id = (IsSome text ⊎ (id ≢ no_id)) → id < length texts
 
--- the source id of a token that was added with an optional source is an index of the sources; without a source, it may
--- be `no_id` instead
+-- If the token was added with a source, its source id is an index of `sources`. If it was added without a source, its
+-- source id is an index of `sources` or `no_id`.
 abbrev pub HasSource : List (List ℕ) → Option (List ℕ) → RawToken → Type 0
 HasSource sources source token = IsOptionalId sources source token.src_id
 

@@ -181,8 +181,8 @@ impl SourceMapBuilder {
 
     /// Removes from each source the first of these prefixes that the source starts with. Before
     /// that, a `/` is added to each prefix that does not end with `/`. `~` has no special meaning.
-    /// `add_source` still returns the id of a source for the text with which the source was added.
-    /// The only error is `OutOfMemory`.
+    /// If `add_source` gets the text with which a source was added, it still returns the id of this
+    /// source. The only error is `OutOfMemory`.
     pub fn strip_prefixes<S: AsStr>(&mut self, prefixes: &[S]) -> Result<()>
         ensures { Changes result self.old self.new (record self.old {
           sources = map (without_prefix (map S.text prefixes.now)) self.old.sources;
@@ -245,8 +245,8 @@ impl SourceMapBuilder {
         self.get_source_contents(id).is_some()
     }
 
-    /// Reads the contents of each source that has no contents from a file, and returns the number
-    /// of files that were read. The path of the file is the text with which the source was added,
+    /// For each source without contents, reads its contents from a file. Returns the number of
+    /// files that were read. The path of the file is the text with which the source was added,
     /// resolved against the folder `base_path`. A `base_path` that is not absolute is joined to
     /// `current_dir`. Without a `base_path` the folder is `current_dir`. `sourceRoot` is not used.
     /// A source is skipped if it does not resolve to the path of a file, or if its file does not

@@ -13,8 +13,8 @@ use Rattle.sourcemap_map_regular.specs.Map.{MapValue, resolved_sources}
 abbrev pub last_line : List ℕ → List ℕ
 last_line text = unwrap_or (slice_get (line_bodies text) (length (line_bodies text) - 1)) []
 
--- the position where a text ends that begins at column 0 of `line`: the number of its last line, and the length of this
--- line in UTF-16 units
+-- The end position of a text. The text begins at column 0 of `line`. The position is the number of the text's last
+-- line, and the length of this line in UTF-16 units.
 abbrev pub end_of : ℕ → List ℕ → ℕ × ℕ
 end_of line text = (line + (length (line_bodies text) - 1), width (chars (last_line text)))
 
@@ -52,20 +52,21 @@ moved_by line sources names t = record t {
   name_id = unwrap_or (number_of names t.name_id) no_id;
 }
 
--- the tokens from `line` on and before `end`
+-- the tokens at or after column 0 of `line`, and before `end`
 abbrev pub tokens_in : ℕ → ℕ × ℕ → List RawToken → List RawToken
 tokens_in line end tokens = filter (λ t. is_in line end (destination t)) tokens
 
--- the ids of the sources (`names_in`: of the names) that the tokens from `line` on and before `end` use, each id once,
--- in the order of first use
+-- The source ids of the tokens in `tokens_in line end flat.tokens`, without ids that no source of `flat` has. Each id
+-- occurs once, in the order of first use. `names_in` does the same for name ids.
 abbrev pub sources_in : MapValue → ℕ → ℕ × ℕ → List ℕ
 sources_in flat line end = used_ids (length flat.sources) (map (λ t. t.src_id) (tokens_in line end flat.tokens))
 
 abbrev pub names_in : MapValue → ℕ → ℕ × ℕ → List ℕ
 names_in flat line end = used_ids (length flat.names) (map (λ t. t.name_id) (tokens_in line end flat.tokens))
 
--- the map of the module `name` that begins at `line` of the flat map and ends at `end`: the tokens from `line` on and
--- before `end`, and the sources (with contents) and names that these tokens use, in the order of first use
+-- The map of the module `name`. The module begins at column 0 of `line` of the flat map, and ends at `end`. The map has
+-- the tokens at or after this start, and before `end`. It also has the sources (with contents) and the names that these
+-- tokens use, in the order of first use.
 abbrev pub module_map : MapValue → List ℕ → ℕ → ℕ × ℕ → MapValue
 module_map flat name line end = record {
   file = Some name;

@@ -1,4 +1,4 @@
--- Numbers of ids, as contracts see them.
+-- Tables that number ids, as contracts see them.
 use Rattle.std.specs.Prelude.{◌≡◌, ℕ, ◌≤◌, List, [], length, nat_eq, slice_get, slice_index, Option, Some}
 use Rattle.std.specs.List.{IsDistinct}
 use Rattle.sourcemap_bundle_split.specs.Ids.{AreBelow}

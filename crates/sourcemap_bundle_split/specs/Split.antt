@@ -59,7 +59,7 @@ abbrev pub due_of : MapValue → Result (ModuleValue × ℕ) Error → Result Mo
 due_of flat (Ok found) = parts_at flat found.1 found.0
 due_of flat (Err e) = Err e
 
--- the item of each of these modules that is not skipped
+-- the items for `modules`, in order: one item for each module, but none for a module that is skipped
 abbrev pub dues_of : MapValue → List (Option ℕ) → List (Result ModuleValue Error) → List (Result ModuleParts Error)
 dues_of flat offsets modules = map (due_of flat) (filter_map (with_first_line offsets) modules)
 

@@ -32,7 +32,7 @@ pub(crate) fn end_of(line: u32, view: &SourceView) -> Bound
     }
 }
 
-/// Returns the tokens from the start of `line` on and before `end`.
+/// Returns the tokens at or after the start of `line`, and before `end`.
 pub(crate) fn tokens_in(tokens: &[RawToken], line: u32, end: Bound) -> &[RawToken]
     requires { AreInOrder tokens.now }
     ensures tokens { (e : ℕ × ℕ) → IsBound end e → result.now ≡ tokens_in line e tokens.now }

@@ -34,8 +34,8 @@ pub struct SplitRamBundleModuleIter<'a> {
 ///
 /// A module begins at the line that `x_facebook_offsets` has for its number, and takes as many
 /// lines as its text has. On its last line it ends at the length of this line in UTF-16 units. Its
-/// name is its number followed by `.js`. Its map has the tokens from the module's start on and
-/// before the module's end. The map also has the sources that these tokens use, with their
+/// name is its number followed by `.js`. Its map has the tokens at or after the module's start
+/// and before the module's end. The map also has the sources that these tokens use, with their
 /// contents, and the names that these tokens use, both in the order of first use. Lines of the map
 /// count from the module's first line.
 ///

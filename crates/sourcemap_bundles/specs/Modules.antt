@@ -16,7 +16,7 @@ pub record ModuleValue : Type 0 where
   pub id : ℕ
   pub text : List ℕ
 
--- a file bundle: its startup code, a count that exceeds all numbers of modules, and the modules by their numbers
+-- a file bundle: its startup code, a count, and the modules by their numbers. Every module's number is below the count
 pub record FilesValue : Type 0 where
   pub startup : List ℕ
   pub count : ℕ
@@ -61,7 +61,7 @@ abbrev pub file_module : FilesValue → ℕ → Option ModuleValue
 file_module folder id =
     option_map (λ text. record { id = id; text = text }) (lookup (λ k. is_eq (nat_cmp id k)) folder.modules)
 
--- the count, which exceeds all numbers of modules
+-- the count of the bundle; every module's number is below it
 abbrev pub bundle_count : BundleValue → ℕ
 bundle_count (indexed header bytes) = header.module_count
 bundle_count (files folder) = folder.count

@@ -48,8 +48,8 @@ abbrev pub items_in : Option Held → Option (List (Result ItemValue Error))
 items_in (Some (Split items)) = Some (map item_value items.items)
 items_in _ = None
 
--- If `made` is an item, it has the same value as every result that `Due` allows. If `made` is an error, it is
--- `OutOfMemory`.
+-- If `made` is `Ok item` and `Due` allows the result `due`, then `item` and `due` have the same value. If `made` is an
+-- error, this error is `OutOfMemory`.
 abbrev pub Makes : Result (Result SplitModule Error) Error → (Result ModuleParts Error → Type 0) → Type 0
 Makes made Due = MatchResult made (λ item. (due : Result ModuleParts Error) → Due due → item_value item ≡ due_value due) (λ e. e ≡ OutOfMemory)
 

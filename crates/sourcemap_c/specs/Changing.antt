@@ -79,7 +79,7 @@ abbrev pub IsAdjusted : MapValue → MapTree → Result MapTree Failure → Type
 IsAdjusted adjustment (leaf (regular m)) due = due ≡ as_regular (adjusted m adjustment)
 IsAdjusted adjustment _ due = due ≡ Err WrongKind
 
--- `IsAdjusted` by the map of a handle: an adjustment that is not a regular map gives `WrongKind`
+-- the map adjusted by the map in another handle; `WrongKind` unless both are regular maps
 abbrev pub IsAdjustedBy : Option MapTree → MapTree → Result MapTree Failure → Type 0
 IsAdjustedBy (Some (leaf (regular adjustment))) t due = IsAdjusted adjustment t due
 IsAdjustedBy _ t due = due ≡ Err WrongKind

@@ -67,11 +67,11 @@ ReturnsValue (Some (Some x)) code old new = (code ≡ 0) × (new ≡ x)
 abbrev pub IsAbsentUnlessOk : {X : Type 0} → (code : ℕ) → (old new : X) → Type 0
 IsAbsentUnlessOk code old new = code ≢ 0 → (code ≡ 32) × (new ≡ old)
 
--- a text is present, and the failure is that its bytes are not UTF-8
+-- `present` is true, and the failure is that the bytes are not UTF-8
 abbrev pub IsNoTextIf : (present : Bool) → List ℕ → Failure → Type 0
 IsNoTextIf true bytes (Library e) = IsNoText bytes e
 IsNoTextIf _ bytes _ = ⊥
 
--- a present text is not UTF-8, or the failure is one that `Due` allows
+-- either `present` is true and the failure is that the bytes are not UTF-8, or `Due` allows the failure
 abbrev pub OrNoText : (present : Bool) → List ℕ → (Failure → Type 0) → Failure → Type 0
 OrNoText present bytes Due failure = IsNoTextIf present bytes failure ⊎ Due failure

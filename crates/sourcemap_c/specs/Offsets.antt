@@ -21,8 +21,8 @@ path_in id _ = None
 abbrev pub or_none : Option ℕ → ℕ
 or_none line = unwrap_or line 4294967295
 
--- With `SM_OK` the call writes the line at which each module begins, from module `first` on, as many as exist and fit,
--- and the number of these lines. With another code it writes nothing.
+-- With `SM_OK` the call writes the lines at which the modules begin, starting with the line of module `first`. It stops
+-- at the end of the list or of the array. It also writes how many lines it wrote. With another code it writes nothing.
 pub record WritesLines (due : Option (Option (List (Option ℕ)))) (first code : ℕ) (old new : List ℕ) (before after : ℕ) : Type 0 where
   pub count : ReturnsValue (option_map (option_map (λ lines. min (length old) (length lines - first))) due) code before after
   pub lines : code ≡ 0 → IfSome due (λ found. IfSome found (λ lines. AreFrom or_none first lines new after))

@@ -276,8 +276,9 @@ fn put_source<'a>(held: Option<&'a Held>, id: u32, text: &mut &'a [u8]) -> u32
     }
 }
 
-/// Sets the stored text of a source, which is not resolved against `sourceRoot`. For the text with
-/// which the source was added, `sm_builder_add_source` still writes this id.
+/// Sets the stored text of a source, which is not resolved against `sourceRoot`. The builder
+/// remembers the text with which the source was added. If this text is added again,
+/// `sm_builder_add_source` writes the same id.
 #[unsafe(no_mangle)]
 pub extern "C" fn sm_builder_set_source(
     alloc: Global,
@@ -307,8 +308,9 @@ fn set_source(alloc: Global, builder: &mut Handle, id: u32, source: &[u8]) -> Ou
 }
 
 /// Removes from each source the first of `prefixes` that the source starts with. Before that, `/`
-/// is added to each prefix that does not end with it. For the text with which a source was added,
-/// `sm_builder_add_source` still writes the id of that source.
+/// is added to each prefix that does not end with it. The builder remembers the text with which
+/// each source was added. If such a text is added again, `sm_builder_add_source` writes the same
+/// id.
 #[unsafe(no_mangle)]
 pub extern "C" fn sm_builder_strip_prefixes(
     alloc: Global,

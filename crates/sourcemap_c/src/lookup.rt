@@ -62,8 +62,9 @@ fn put_found(token: Option<Token<'_>>, found: &mut Found) -> u32
     }
 }
 
-/// Looks up the generated positions and writes the answers to `found`, as many as the shorter of
-/// the two arrays has items. Returns the number of answers, which is 0 if the handle holds no map.
+/// Looks up the generated positions in turn and writes the answer to each of them to `found`. Stops
+/// at the end of the shorter array, `positions` or `found`. Returns the number of answers, which is
+/// 0 if the handle holds no map.
 #[unsafe(no_mangle)]
 pub extern "C" fn sm_lookup_many(
     map: &mut Handle,

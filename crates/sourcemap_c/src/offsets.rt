@@ -80,7 +80,7 @@ fn put_numbers(lines: &[Option<u32>], first: usize, offsets: &mut [u32]) -> usiz
     count
 }
 
-/// Borrows the path of the module with this id, of an index map that has a list of paths.
+/// Borrows the path of the module with this id from the list of paths in an index map.
 #[unsafe(no_mangle)]
 pub extern "C" fn sm_module_path<'a>(map: &'a mut Handle, id: u32, text: &mut &'a [u8]) -> u32
     ensures* after { sem 𝓛 (EndsAsBefore map.entry) }

@@ -37,7 +37,7 @@ fn index_of(map: &DecodedMap) -> Option<&SourceMapIndex>
     }
 }
 
-/// Writes the offset of a section, and whether it has a map and a URL.
+/// Writes the offset of a section, whether it has a map, and whether it has a URL.
 #[unsafe(no_mangle)]
 pub extern "C" fn sm_section_start_of(map: &mut Handle, id: u32, start: &mut SectionStart) -> u32
     ensures start { ReturnsValue (option_map (λ ss. option_map start_of (slice_get ss id))

@@ -96,7 +96,7 @@ failure_text Absent = Some (codes "there is none")
 failure_text WrongKind = Some (codes "the handle holds nothing that has this call")
 failure_text PastLimit = Some (codes "a line would pass 4294967295")
 
--- the number of bytes of a text that are written
+-- how many bytes of this text are written to the report: all, but at most 255
 abbrev pub written : List ℕ → ℕ
 written text = min (length text) 255
 

@@ -9,6 +9,6 @@ use Rattle.sourcemap_c_handles.specs.declared.sealed.Sealed.{Sealed}
 abbrev pub with_content : Sealed → Held → Sealed
 with_content sealed held = record sealed { content = Some held }
 
--- after the borrow `held` has ended, `sealed` has the value with which the borrow ended
+-- when the borrow `held` ends, the content of `sealed` becomes the last value of `held`
 abbrev pub BorrowsContent : MutBor Sealed → MutBor Held → Fml
 BorrowsContent sealed held = Lends the_row held_row sealed held (with_content sealed.now)

@@ -1,4 +1,5 @@
-//! A file system without files, for rewriting that loads no contents.
+//! A file system without files. `rewrite` takes a file system as a parameter, but reads no file if
+//! `load_local_source_contents` is false. Such a call can pass `NoFiles`.
 ghost use Rattle.std.specs.Prelude.{IsErr};
 
 use std::alloc::Allocator;

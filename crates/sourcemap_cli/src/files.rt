@@ -34,7 +34,7 @@ pub fn file_bytes<F: Files>(
     }
 }
 
-/// Decodes the map in a file, read as by `file_bytes`.
+/// Gets the bytes of a file from `file_bytes`, and decodes the map in them.
 pub fn file_map<F: Files>(
     rt: &F,
     alloc: Global,

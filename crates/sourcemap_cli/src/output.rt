@@ -149,7 +149,7 @@ pub fn adjusted_json(alloc: Global, map: DecodedMap, adjustment: DecodedMap) -> 
 /// - `IncompatibleSourceMap` if `Compose` gets a map or an adjustment that is not regular.
 /// - `IncompatibleSourceMap` if `Compose` would move a token past column 4294967295.
 /// - `IncompatibleSourceMap` if `Shift` would move a section past row 4294967295.
-/// - `CannotFlatten` as by `SourceMapIndex::flatten`.
+/// - `CannotFlatten` if `SourceMapIndex::flatten` returns it for the map that `Flatten` gets.
 /// - Otherwise only `OutOfMemory`.
 pub fn apply<F: Files>(
     rt: &F,

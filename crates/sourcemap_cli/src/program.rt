@@ -118,9 +118,10 @@ fn usage_reply(alloc: Global) -> Result<Reply>
 /// file. Other commands ignore `file`.
 ///
 /// - Status 0: the output of the command, as returned by `apply`, or for `Trace` by `trace_text`.
-/// - Status 1: the text of the first error and a newline. Errors are checked in this order: the
-///   map's bytes do not decode, as by `decode_slice` (`Io` only for an invalid junk header); the
-///   file could not be read; the file of `Compose` does not decode; the command returns an error.
+/// - Status 1: the text of the first error and a newline. Errors are checked in this order:
+///   `decode_slice` returns an error for `bytes`; the file could not be read; the file of `Compose`
+///   does not decode; the command returns an error. `decode_slice` returns `Io` only if the junk
+///   header is invalid.
 /// - Status 2: the usage, for words that are no command.
 ///
 /// The only error is `OutOfMemory`.
@@ -216,7 +217,8 @@ fn print_reply<W: Write>(alloc: Global, reply: Result<Reply>, output: &mut W) ->
     }
 }
 
-/// Runs the program: prints the reply as by `reply_to`, and returns its status.
+/// Runs the program. Prints the text of the reply that `reply_to` returns for the same words, map
+/// and file. Returns the status of this reply.
 ///
 /// The map is read from `input`, but only if the words are a command. The file of `Compose` or
 /// `Trace` is opened after the input is decoded. A read error and `OutOfMemory` are printed like

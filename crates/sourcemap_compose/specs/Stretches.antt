@@ -35,7 +35,8 @@ abbrev pub end_before : (RawToken → ℕ × ℕ) → RawToken → Option RawTok
 end_before position token None = line_end (position token)
 end_before position token (Some next) = earlier (position next) (line_end (position token))
 
--- the stretches of tokens in order: each from its token up to, not including, its end
+-- one stretch for each token of a list that is in order. A stretch begins at the position of its token, and goes up to,
+-- not including, its end
 abbrev pub stretches : (RawToken → ℕ × ℕ) → List RawToken → List Stretch
 stretches position [] = []
 stretches position (token ∷ rest) = record { token = token; start = position token; end = end_before position token (slice_get rest 0) } ∷ stretches position rest

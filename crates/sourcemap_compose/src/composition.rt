@@ -16,13 +16,16 @@ use std::alloc::Global;
 /// Returns the tokens of `original`, adjusted by those of `adjustment`. The generated text of the
 /// original is the source text of the adjustment. Both lists may be in any order.
 ///
-/// Each token covers that text from its position up to the next token of its list or the end of the
-/// line. A token of `original` and a token of `adjustment` overlap if each begins before the other
-/// ends. Each overlapping pair gives one new token. Its generated position is the position to which
-/// the adjustment moves the start of the overlap. Its original position, source, name and range
-/// flag are those of the token of `original`. If that token is a range token with a source, the
-/// columns from its generated position to the start of the overlap are added to the original
-/// column, up to column 4294967295.
+/// Each token covers a part of that text. For a token of `original`, the part begins at its
+/// generated position; for a token of `adjustment`, at its original position. The part ends where
+/// that of the next token of the same list begins, or at the end of the line. Two tokens overlap if
+/// the part of each begins before the part of the other ends.
+///
+/// Each overlapping pair gives one new token. Its generated position is the position to which the
+/// adjustment moves the start of the overlap. Its original position, source, name and range flag
+/// are those of the token of `original`. If that token is a range token with a source, the columns
+/// from its generated position to the start of the overlap are added to the original column, up to
+/// column 4294967295.
 ///
 /// The new tokens are sorted by generated position, and there are at most as many as in both lists
 /// together. Sources and names of the adjustment are ignored. The errors are

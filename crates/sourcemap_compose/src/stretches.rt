@@ -76,7 +76,8 @@ pub(crate) fn stretch_at(side: Side, tokens: &[RawToken], index: usize) -> Optio
     Some(Stretch { token, start, end })
 }
 
-// A stably sorted copy, or `None` without an allocation if the tokens are in order already.
+// Returns a stably sorted copy of the tokens. If they are in order already, returns `None` and
+// allocates nothing.
 pub(crate) fn sorted_copy(
     alloc: Global,
     side: Side,

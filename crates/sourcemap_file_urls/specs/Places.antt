@@ -33,7 +33,7 @@ components path = filter is_component (slice_split is_slash path)
 abbrev pub end_text : Bool → List (List ℕ) → List ℕ
 end_text folder parts = if folder || (length parts == 0) then codes "/" else []
 
--- a slash and the escaped component, for each component
+-- for each component: `/`, then the component, escaped
 abbrev pub escaped : List (List ℕ) → List ℕ
 escaped parts = flat_map (λ part. codes "/" ++ percent_encode ESCAPED part) parts
 

@@ -37,7 +37,8 @@ relative_path base target =
     let apart = after_common (folder_parts base) (parts target) in
     or_dot (steps_up apart.0 ++ join_with_byte 47 apart.1)
 
--- the folder reached by a path: `.` stays, `..` drops the last part, any other part is appended
+-- the folder that a path leads to from `folder`: `.` changes nothing, `..` drops the last part of the folder, and any
+-- other part is appended to the folder
 abbrev pub followed : List (List ℕ) → List (List ℕ) → List (List ℕ)
 followed folder [] = folder
 followed folder (part ∷ rest) =

@@ -73,8 +73,8 @@ pub fn named_path(alloc: Global, base: &Url, reference: &str) -> Result<Option<S
     }
 }
 
-// The text of a path's URL: `file://`, then a `/` and the escaped component for each component. A
-// `/` follows if `folder` is true or if there is no component.
+// The text of the URL of `path`. It begins with `file://`. For each component it then has a `/` and
+// the component, escaped. It ends with a `/` if `folder` is true or if there is no component.
 fn url_text(alloc: Global, path: &str, folder: bool) -> Result<String>
     ensures { Gives string_bytes result (Ok (spec.url_text path.now folder)) }
 {

@@ -35,7 +35,7 @@ pub fn relative_paths_lead_to_their_targets(base: &str, target: &str)
         ≡ parts target.now }
 {}
 
-// Appends `../` for each part of the folder of a path.
+// Appends `../` to `path` for each part of the folder of `base`.
 fn push_steps(path: &mut String, base: &str) -> Result<()>
     ensures adds { OnOk result (string_bytes path.new
         ≡ string_bytes path.old ++ steps_up (folder_parts base.now)) }
@@ -49,7 +49,7 @@ fn push_steps(path: &mut String, base: &str) -> Result<()>
     Ok(())
 }
 
-// Appends the parts of a path, separated by `/`.
+// Appends the parts of `target` to `path`, separated by `/`.
 fn push_joined(path: &mut String, target: &str) -> Result<()>
     ensures adds { OnOk result (string_bytes path.new
         ≡ string_bytes path.old ++ join_with_byte 47 (parts target.now)) }

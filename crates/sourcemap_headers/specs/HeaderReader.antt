@@ -56,7 +56,7 @@ has_failed r = is_invalid r.state
 abbrev pub remaining_of : {R : Type 0} → (R → Option (List ℕ)) → StripHeaderReader R → Option (List ℕ)
 remaining_of remaining r = option_and_then (remaining_in r.state) (remaining r.reader)
 
--- the bytes that one read put at the front of the buffer and that are not junk; no bytes if the read failed or gave
+-- the output of a read: the bytes at the front of the buffer that are not junk; no bytes if the read failed or gave
 -- only junk
 abbrev pub output : {E : Type 0} → Result (Option ℕ) E → List ℕ → List ℕ
 output (Ok (Some n)) buf = take n buf

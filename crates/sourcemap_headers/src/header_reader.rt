@@ -212,7 +212,7 @@ impl<R: Read + Drop> Read for StripHeaderReader<R> {
         ensures again { IsTrue (has_failed self.old) → IsErr result × IsTrue (has_failed self.new) }
         ensures error { IfErr result (λ e. IsTrue (has_failed self.new)
             → error_kind e ≡ InvalidData) }
-        // the header is only found to be invalid if the bytes in the buffer prove it
+        // if a read finds that the header is invalid, the bytes in `buf` prove it
         ensures in_buffer { has_failed self.old ≡ false → IsTrue (has_failed self.new)
             → ContainsInvalidHeader buf.new }
         ensures sound { OnOk result (has_failed self.new ≡ false) }

@@ -17,7 +17,7 @@ abbrev pub scoped : Tree → List ScopeEntry → Tree
 scoped (plain fields) entries = plain (with_scopes fields entries)
 scoped (indexed fields sections) entries = indexed (with_scopes fields entries) sections
 
--- a record that the map is written as: a record of the regular map, with the scopes as decoded
+-- a record that the map is written as: a record of the regular map, with the entries of scopes that the map holds
 abbrev pub IsRecordOf : HermesValue → Tree → Type 0
 IsRecordOf h t = (r : Tree) × IsRecordOfRegular h.map r × (t ≡ scoped r h.scopes.entries)
 

@@ -16,8 +16,8 @@ pub record HermesValue : Type 0 where
 abbrev pub hermes_value : SourceMapHermes → HermesValue
 hermes_value h = record { map = h.sm; scopes = h.scopes }
 
--- the regular map is well-formed, there are at most 4294967295 entries of scopes, and each function map is the one that
--- its entry encodes
+-- the regular map is well-formed, there are at most 4294967295 entries of scopes, and each source with an entry has the
+-- function map that the entry encodes, or none if it encodes none
 pub record IsWellFormed (h : HermesValue) : Type 0 where
   pub map : IsWellFormedRegular h.map
   pub few : AreFewScopes h.scopes.entries

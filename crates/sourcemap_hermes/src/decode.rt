@@ -18,7 +18,7 @@ use sourcemap_records::jsontypes::RawSourceMap;
 use std::alloc::Global;
 use std::io::Read;
 
-// The most sources that may have scopes.
+// A record with more entries of scopes than this is an error.
 const SCOPE_LIMIT: usize = 4294967295;
 
 /// Decodes a record to a Hermes map. Sections of the record are ignored. Returns

@@ -27,8 +27,7 @@ impl Encodable for SourceMapHermes {
         ensures answer { IsAnswer tree (RecordAnswer (hermes_value self.now)) result }
         ensures fine { IfOk result (λ r. IsFine (tree r)) }
         // If the map is well-formed, the record decodes to a map with the same meaning at every
-        // position, with the parts that `KeepsParts` names, and with the same functions of its
-        // sources.
+        // position, with the parts that `KeepsParts` names, and with the same scopes.
         ensures reads_back { IfOk result (λ r. IsWellFormed (hermes_value self.now)
             → ReadsBack (HermesDecodes (flat (tree r))) (Restores (hermes_value self.now))) }
     {
@@ -81,8 +80,7 @@ pub fn written_maps_are_compact()
 {}
 
 /// A law: if a well-formed map is encoded, the bytes decode to a map with the same meaning at every
-/// position and the same functions of its sources. `KeepsParts` says which parts of the regular map
-/// are kept.
+/// position, and with the same scopes. `KeepsParts` says which parts of the regular map are kept.
 pub fn written_maps_read_back()
     ensures { (h : HermesValue) (text : List ℕ)
         → IsEncoded (RecordAnswer h) text → IsWellFormed h

@@ -19,8 +19,8 @@ impl SourceMapHermes {
     ghost use Rattle.sourcemap_hermes.specs.Map.{hermes_value, function_name, token_scope};
 
     /// The number of entries of scopes. The index of an entry is the id of its source: a source has
-    /// no scopes if its id is this number or greater. An entry may be empty. Each function map is
-    /// the one that its entry encodes.
+    /// no scopes if its id is this number or greater. An entry may be empty. A source with an entry
+    /// has the function map that the entry encodes, or none if the entry is empty or invalid.
     pub fn scope_count(&self) -> u32
         ensures count { result ≡ length (hermes_value self.now).scopes.entries }
         ensures few { AreFewScopes (hermes_value self.now).scopes.entries }

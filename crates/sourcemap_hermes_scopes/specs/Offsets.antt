@@ -51,7 +51,7 @@ ScopeLinesRead (line ∷ lines) (segments ∷ decoded_lines) = SegmentsRead (par
 abbrev pub IsUnreadable : List ℕ → Type 0
 IsUnreadable part = (part ≢ []) × ((e : Error) × HasError part e)
 
--- a text encodes the offsets of its lines, or `None` if a part of a line is invalid
+-- a text of scope mappings decodes to these offsets, or to `None` if a part of a line is invalid
 abbrev pub StandsFor : List ℕ → Option (List HermesScopeOffset) → Type 0
 StandsFor text (Some offsets) =
     (decoded_lines : List (List Segment)) × ScopeLinesRead (lines_of text) decoded_lines × (offsets ≡ offsets_of_lines [] decoded_lines)

@@ -1,4 +1,4 @@
--- An index map of which one part is changed, or one section is borrowed mutably.
+-- How an index map is made and how a part of it is replaced. What a mutable borrow of a section changes.
 use Rattle.std.specs.Prelude.{◌≡◌, ℕ, List, slice_set, Option, None}
 use Rattle.std.specs.Option.{OnSome}
 use Rattle.std.specs.Borrow.{LendsSo, MutBor, Fml}

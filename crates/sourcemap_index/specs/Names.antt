@@ -9,8 +9,8 @@ use Rattle.sourcemap_index_model.specs.Meaning.{lookup}
 use Rattle.sourcemap_index_model.specs.WellFormed.{IsInOrder}
 
 -- the original name of the function with this minified name in the generated text `source`. The name is guessed from
--- the token closest to the position and the tokens before it in the same regular map. In an index map this is the map
--- of one section
+-- the token closest to the position and from the tokens before it in the regular map of this token. The tokens of an
+-- index map's other sections are not used
 abbrev pub guessed_in : MapTree → (source minified : List ℕ) → ℕ × ℕ → Option (List ℕ)
 guessed_in t source minified p = option_and_then (guessed_from source minified) (lookup t p)
 
@@ -25,7 +25,7 @@ abbrev pub name_in_bytecode : HermesValue → ℕ × ℕ → Option (List ℕ)
 name_in_bytecode h p = if p.0 == 0 then function_in_bytecode h p.1 else None
 
 -- the name of the function at a position in a map of any kind. For a map that is not a Hermes map, the name is guessed
--- from `source` and `minified`; it is `None` without both of them
+-- from `source` and `minified`; this name is `None` if `source` or `minified` is `None`
 abbrev pub function_name : MapTree → (source minified : Option (List ℕ)) → ℕ × ℕ → Option (List ℕ)
 function_name (leaf (hermes h)) source minified p = name_in_bytecode h p
 function_name t (Some source) (Some minified) p = guessed_in t source minified p

@@ -1,4 +1,4 @@
--- A section of which one part is changed, or the map is borrowed mutably.
+-- How a section is made and how a part of it is replaced. What a mutable borrow of its map changes.
 use Rattle.std.specs.Prelude.{◌≡◌, ℕ, List, map, Option, Some}
 use Rattle.std.specs.Option.{OnSome}
 use Rattle.std.specs.Borrow.{LendsSo, MutBor, Fml}

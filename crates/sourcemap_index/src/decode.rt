@@ -62,8 +62,8 @@ fn decode_owned(alloc: Global, bytes: Vec<u8>) -> Result<DecodedMap>
 /// text. `OutOfMemory` can come at any time.
 pub fn decode_slice(alloc: Global, bytes: &[u8]) -> Result<DecodedMap>
     ensures answer { IsAnswer map_tree (BytesDecode bytes.now) result }
-    // Unless memory runs out, the bytes determine the result. Of an `Io` error they determine the
-    // kind.
+    // Unless memory runs out, the bytes determine the result. Of an `Io` error, they determine only
+    // the kind.
     ensures only { (due : Result MapTree Error) → BytesDecode bytes.now due
         → IsAnswer map_tree (AreSame due) result }
     ensures well_formed { IfOk result (λ m. IsWellFormed (map_tree m)) }
@@ -75,8 +75,8 @@ pub fn decode_slice(alloc: Global, bytes: &[u8]) -> Result<DecodedMap>
 /// the map is made.
 pub fn decode_vec(alloc: Global, input: Vec<u8>) -> Result<DecodedMap>
     ensures answer { IsAnswer map_tree (BytesDecode input.items) result }
-    // Unless memory runs out, the bytes determine the result. Of an `Io` error they determine the
-    // kind.
+    // Unless memory runs out, the bytes determine the result. Of an `Io` error, they determine only
+    // the kind.
     ensures only { (due : Result MapTree Error) → BytesDecode input.items due
         → IsAnswer map_tree (AreSame due) result }
     ensures well_formed { IfOk result (λ m. IsWellFormed (map_tree m)) }
@@ -110,8 +110,8 @@ fn decode_url(alloc: Global, url: &str) -> Result<DecodedMap>
 /// bytes, and this result is never `InvalidDataUrl`.
 pub fn decode_data_url(alloc: Global, url: &str) -> Result<DecodedMap>
     ensures answer { IsAnswer map_tree (UrlDecodes url.now) result }
-    // Unless memory runs out, the URL determines the result. Of an `Io` error it determines the
-    // kind.
+    // Unless memory runs out, the URL determines the result. Of an `Io` error, it determines only
+    // the kind.
     ensures only { (due : Result MapTree Error) → UrlDecodes url.now due
         → IsAnswer map_tree (AreSame due) result }
     // An error in the decoded bytes is never `InvalidDataUrl`.
@@ -144,8 +144,8 @@ impl SourceMapIndex {
     /// decoded.
     pub fn from_slice(alloc: Global, bytes: &[u8]) -> Result<Self>
         ensures answer { IsAnswer index_value (BytesHaveResult IndexDecodes bytes.now) result }
-        // Unless memory runs out, the bytes determine the result. Of an `Io` error they determine
-        // the kind.
+        // Unless memory runs out, the bytes determine the result. Of an `Io` error, they determine
+        // only the kind.
         ensures only { (due : Result IndexValue Error) → BytesHaveResult IndexDecodes bytes.now due
             → IsAnswer index_value (AreSame due) result }
         ensures well_formed { IfOk result (λ i. IsWellFormed (index_tree (index_value i))) }

@@ -5,9 +5,9 @@ use sourcemap_map_regular::map::SourceMap;
 use sourcemap_records::jsontypes::DebugId;
 use std::alloc::Global;
 
-/// A section of an index map. It starts at its offset, which is a generated line and column. It has
-/// the map of the generated text from the offset on, the URL of that map, both or neither. Lines
-/// and columns count from 0, columns in UTF-16 units.
+/// A section of an index map. It starts at its offset, which is a generated line and column. Its
+/// map is for the generated text from the offset on, and its URL is the URL of that map. A section
+/// can lack the map, the URL or both. Lines and columns count from 0, columns in UTF-16 units.
 #[derive(Debug, Drop)]
 #[cycle(family)]
 pub struct SourceMapSection {

@@ -126,8 +126,8 @@ impl SourceMapIndex {
         self.x_facebook_offsets.is_some() & self.x_metro_module_paths.is_some()
     }
 
-    /// The line, counted from 0, at which each module of a bundle starts, by the number of the
-    /// module. An item is `None` if there is no module with its number. The result is `None` if the
+    /// The lines at which the modules of a bundle start. Item `n` is the line, counted from 0, at
+    /// which module `n` starts, or `None` if there is no module `n`. The result is `None` if the
     /// index map has no such list.
     pub fn x_facebook_offsets(&self) -> Option<&[Option<u32>]>
         ensures { option_map (λ xs. xs.now) result

@@ -24,8 +24,8 @@ impl SourceMapSection {
     ghost use Rattle.sourcemap_index.specs.Family.{map_tree, section_value};
     ghost use Rattle.sourcemap_index.specs.Section.{section_made, with_url, with_map, LendsMap};
 
-    /// A section that starts at `offset`, a generated line and column. It has a map, the URL of its
-    /// map, both or neither. The only error is `OutOfMemory`.
+    /// A section that starts at `offset`, a generated line and column. `url` is the URL of the
+    /// section's map. `url`, `map` or both can be `None`. The only error is `OutOfMemory`.
     pub fn new(
         alloc: Global,
         offset: (u32, u32),

@@ -44,7 +44,7 @@ pub record IsPartOf (m : MapValue) (part : Part) : Type 0 where
   pub sources : entry_values part.sources.now ≡ source_entries m
   pub names : entry_values part.names.now ≡ name_entries m
 
--- `piece` can be added to `before` without an error, and exactly these pieces and `piece` were added
+-- exactly the pieces in `before` were added, and then `piece`. `piece` can be added to `before` without an error
 pub record GathersMore (before : List Piece) (piece : Piece) (g : Gathering) : Type 0 where
   pub gathered : Gathers (before ++ piece ∷ []) g
   pub due : with_piece before piece ≡ Ok (before ++ piece ∷ [])

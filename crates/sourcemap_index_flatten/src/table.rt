@@ -25,7 +25,7 @@ pub(crate) struct Entry<'a> {
 #[derive(Drop)]
 pub(crate) struct Table<'a> {
     pub(crate) entries: Vec<Entry<'a>>,
-    // numbers the texts of the entries
+    // finds the number of a text, which is the index of its entry
     ids: TextIndex<'a>,
 }
 

@@ -42,8 +42,9 @@ by_offset ss = sorted_by {K = ℕ × ℕ} section_offset position_cmp ss
 abbrev pub index_of : Fields → List MapSection → MapTree
 index_of fields ss = index (index_parts fields) (sections_from (by_offset ss))
 
--- the map that a record decodes to, or the error; too many sections are an error before any section
--- is decoded; otherwise the first error in the order of the text is returned
+-- the map that a record decodes to, or the error. A record with more than 2^32 - 1 sections gives
+-- `IncompatibleSourceMap`, and its sections are not decoded. Otherwise the sections are decoded in their order in the
+-- record, and the first error is returned
 abbrev mutual
   pub TreeDecodes : Tree → Result MapTree Error → Type 0
   TreeDecodes (plain fields) answer = LeafDecodes fields fields.x_facebook_sources answer

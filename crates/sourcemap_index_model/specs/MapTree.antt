@@ -10,7 +10,7 @@ pub data LeafMap : Type 0 where
   regular : MapValue → LeafMap
   hermes : HermesValue → LeafMap
 
--- the regular map that a map without sections is or holds
+-- the map itself if it is a regular map; the regular map in it if it is a Hermes map
 abbrev pub held : LeafMap → MapValue
 held (regular m) = m
 held (hermes h) = h.map

@@ -178,8 +178,8 @@ fn put_first(
     Ok(())
 }
 
-// Appends a string to `texts`, and its id to `others`, since its digest is in `firsts` already. If
-// memory runs out, neither changes.
+// Appends a string to `texts`, and its id to `others`. This is for a new string whose digest is in
+// `firsts` already, with the id of another string. If memory runs out, neither changes.
 fn put_other(
     texts: &mut Vec<String>,
     others: &mut BTreeMap<String, u32>,

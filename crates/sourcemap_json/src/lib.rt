@@ -1,6 +1,6 @@
-//! Facade for records of source maps, junk headers, data URLs, detection and references. It re-exports
-//! items of `sourcemap_headers`, `sourcemap_records`, `sourcemap_detection` and
-//! `sourcemap_references`.
+//! Facade that re-exports items of four crates. `sourcemap_records` has source map records.
+//! `sourcemap_headers` has junk headers and data URLs. `sourcemap_detection` detects source maps.
+//! `sourcemap_references` finds references to source maps.
 #![tactic(auto)]
 
 pub mod decoder;

@@ -91,8 +91,9 @@ fn unescape(buffer: &mut Vec<u8>, text: &[u8], start: usize) -> Result<(usize, u
     }
 }
 
-/// Extends the buffer by zeros if it has fewer than `SLACK` bytes from `to` on. Appends as many
-/// zeros as the last `left` bytes of the text may need, but at most all of [`ZEROS`].
+/// Extends the buffer by zeros if it has fewer than `SLACK` bytes from `to` on. `left` is how many
+/// bytes of the text remain. They decode to at most `left` bytes. So it appends `left + 2 * SLACK`
+/// zeros, but at most all of [`ZEROS`].
 #[inline(always)]
 fn extend_with_zeros(buffer: &mut Vec<u8>, to: usize, left: usize) -> Result<(), AllocError>
     requires { (to ≤ length buffer.old.items) × (left < 2 ^ 63) }

@@ -1,6 +1,6 @@
-//! Strings that need no escape, tested and copied by blocks. A short string that is one to three
-//! times as long as a block is covered by three blocks, which may overlap. So neither the test nor
-//! the copy goes byte by byte.
+//! Strings that need no escape, tested and copied by blocks. Three blocks of equal size cover a
+//! short string that is not empty. They may overlap. So neither the test nor the copy loops over
+//! single bytes.
 ghost use Rattle.std.specs.Prelude.{◌≡◌, ◌+◌, ◌≤◌, [], ◌∷◌, ◌++◌, length, OnOk};
 ghost use Rattle.std.specs.Bool.{OnTrue};
 ghost use Rattle.json.specs.Ascii.{quote};
@@ -18,8 +18,9 @@ const SHORT: usize = 48;
 /// A string of more bytes than this is written by blocks, without a test of the whole string first.
 pub(crate) const LONG: usize = 1024;
 
-// At least as many zeros as a short string in quotes has bytes. A vector is extended by them, with
-// one test of its capacity and a few stores. The string is then written over them.
+// A short string in quotes has at most 50 bytes, so these 64 zeros are enough for it. A vector is
+// extended by all of them, with one test of its capacity and a few stores. The string is then
+// written over the first zeros, and the vector is cut after the string.
 static ZEROS: [u8; 64] = [0; 64];
 
 /// Whether a string is short and needs no escape.

@@ -40,8 +40,8 @@ impl Model for ColumnSamples {
 }
 
 impl ColumnSamples {
-    /// Samples the columns of tokens that are on `lines` lines. There are no samples if the tokens
-    /// are few or the lines are short. The only error is out of memory.
+    /// Samples the columns of `tokens`. `lines` is the number of lines that hold tokens. There are
+    /// no samples if the tokens are few or the lines are short. The only error is out of memory.
     pub(crate) fn new(
         alloc: Global,
         tokens: &[RawToken],

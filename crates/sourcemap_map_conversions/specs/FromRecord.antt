@@ -52,7 +52,7 @@ abbrev pub TokensAnswer : Fields → Result (List RawToken) Error → Type 0
 TokensAnswer r answer = MappingsAnswer (list_or_empty r.mappings) (list_or_empty r.range_mappings)
     (record { sources = length (list_or_empty r.sources); names = length (list_or_empty r.names) }) answer
 
--- the parts of a record with these tokens
+-- the parts of the record `r`. Their tokens are `tokens`; the mappings of `r` are not used
 abbrev pub parts_from : Fields → List RawToken → PartsValue
 parts_from r tokens = record {
   metadata = record {

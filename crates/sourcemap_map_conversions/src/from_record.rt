@@ -58,8 +58,8 @@ struct RecordParts {
 
 /// Returns the parts of the regular map in a record. Sections and function maps are ignored. The
 /// error is `IncompatibleSourceMap` if there are more than 4294967295 sources, names or contents.
-/// Otherwise it is the first error of the mappings. Any other error is `OutOfMemory`. The texts of
-/// the mappings are dropped before names and sources are converted.
+/// Otherwise, if the mappings are invalid, it is their first error. The only other error is
+/// `OutOfMemory`. The texts of the mappings are dropped before names and sources are converted.
 pub fn parts_of_record(alloc: Global, rsm: RawSourceMap) -> Result<Parts>
     ensures answer { IsAnswer parts_view (PartsAnswer (flat (tree rsm))) result }
     ensures few_names { IfOk result (λ parts. vec_len parts.names ≤ 4294967295) }

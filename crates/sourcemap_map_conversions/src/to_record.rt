@@ -63,11 +63,11 @@ struct WrittenLists {
     ids: Vec<u32>,
 }
 
-/// Returns the record of these parts. It always has `version` 3, `sources` without the root,
-/// `names` and `mappings`. It has `file`, `sourceRoot` and a debug id if the map has them. It has
-/// `rangeMappings` if a token is a range token, and `ignoreList` if this list is not empty. It has
-/// `sourcesContent`, with one item for each source, if a source has contents. Texts are copied. The
-/// only error is `OutOfMemory`.
+/// Returns the record of these parts. It always has `version` 3, `names`, `mappings` and `sources`.
+/// The sources are not resolved against the root. The record has `file`, `sourceRoot` and a debug
+/// id if the map has them. It has `rangeMappings` if a token is a range token, and `ignoreList` if
+/// this list is not empty. It has `sourcesContent`, with one item for each source, if a source has
+/// contents. Texts are copied. The only error is `OutOfMemory`.
 pub fn record_of(
     alloc: Global,
     metadata: &MapMetadata,

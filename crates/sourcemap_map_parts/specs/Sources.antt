@@ -20,7 +20,7 @@ is_absolute_source text =
     starts_with nat_eq text (codes "/")
     || (starts_with nat_eq text (codes "http:") || starts_with nat_eq text (codes "https:"))
 
--- the text without one slash at its end
+-- if the text ends with `/`, the text without this last `/`; otherwise the text itself
 abbrev pub without_slash : List ℕ → List ℕ
 without_slash text = if ends_with nat_eq text (codes "/") then take (length text - 1) text else text
 

@@ -59,7 +59,7 @@ impl Contents {
         Ok(Contents { views })
     }
 
-    /// Contents of these views.
+    /// Makes a `Contents` that holds these views.
     pub fn of_views(views: Vec<Option<SourceView>>) -> Contents
         requires { vec_len views ≤ 4294967295 }
         ensures { result ≡ views.items }

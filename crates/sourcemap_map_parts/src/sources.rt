@@ -76,9 +76,10 @@ impl Sources {
     }
 
     /// Replaces the root and resolves all sources against the new root. A resolved source is the
-    /// root without one slash at its end, then `/`, then the source. A source that starts with `/`,
-    /// `http:` or `https:` is absolute, and no root changes it. An empty root or `None` changes no
-    /// source. The only error is `OutOfMemory`, and then nothing changes.
+    /// root, then `/`, then the source. If the root ends with `/`, resolving leaves out this last
+    /// `/` of the root. A source that starts with `/`, `http:` or `https:` is absolute, and no root
+    /// changes it. An empty root or `None` changes no source. The only error is `OutOfMemory`, and
+    /// then nothing changes.
     pub fn set_root(&mut self, root: Option<String>) -> Result<()>
         ensures { Changes result self.old self.new
             (record self.old { root = option_map string_bytes root }) }
@@ -304,10 +305,10 @@ fn put_text(texts: &mut Vec<String>, id: usize, text: String)
     texts[id] = text;
 }
 
-// Updates the resolved sources before the source with this id is replaced by the text `source`. If
-// `resolved_list` is `None`, the root changes no source in `sources`. The list is then created if
-// the root is not empty, since such a root may change the new text. The only error is
-// `OutOfMemory`, and then `resolved_list` is unchanged.
+// Updates the resolved sources for the new text `source` of the source with this id. The caller
+// changes the unresolved source afterwards. If `resolved_list` is `None`, the root changes no
+// source in `sources`. In that case the list is created if the root is not empty, since such a root
+// may change the new text. The only error is `OutOfMemory`, and then `resolved_list` is unchanged.
 fn update_resolved(
     alloc: Global,
     resolved_list: &mut Option<Vec<String>>,

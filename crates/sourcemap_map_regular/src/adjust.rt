@@ -22,12 +22,14 @@ impl SourceMap {
     /// Each token of `adjustment` moves a stretch of the text that this map describes. The stretch
     /// begins at the original position of the token. It ends before the original position of the
     /// next token, in the order of original positions, or at the end of the line if that comes
-    /// first. A position that a stretch moves keeps its meaning if all of this holds:
+    /// first. The start of the stretch moves to the generated position of the token. Each new token
+    /// comes from one stretch. A position that a stretch moves keeps its meaning if all of this
+    /// holds:
     ///
     /// - The map is well-formed, and no two of its tokens have the same generated position.
     /// - The token of this map that is closest to the position is on the line of the position.
-    /// - No other stretch gives a new token whose generated position lies between the moved start
-    ///   of this stretch and the moved position, both included.
+    /// - All new tokens in a range come from this stretch. The range begins at the moved start of
+    ///   this stretch and ends at the moved position, both included.
     pub fn adjust_mappings(&mut self, adjustment: &SourceMap) -> Result<()>
         ensures value { Gives (λ _. self.new) result (adjusted self.old adjustment.now) }
         ensures unchanged { OnErr result (self.new ≡ self.old) }

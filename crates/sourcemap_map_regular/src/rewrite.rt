@@ -21,11 +21,11 @@ impl SourceMap {
     ghost use Rattle.sourcemap_map_regular.specs.Rewrite.{first_ids, LeavesMeaning, MeansLess, Rewrites, TokensMeanLess};
 
     /// Reduces the map to the sources and names that tokens use, each once, in the order of first
-    /// use. Sources are resolved against `sourceRoot`, and the result has no root. If several
-    /// sources resolve to one text, the result has one source for them. Some of these sources may
-    /// have no contents. Of the others, the one that tokens use first gives the contents. File and
-    /// debug id are kept, and the ignore list is cleared. `options` says whether names and contents
-    /// are kept, and which prefixes are cut from sources.
+    /// use. Sources are resolved against `sourceRoot`, and the result has no root. If tokens use
+    /// several sources that resolve to one text, the result has one source for them. It gets
+    /// contents if any of them has contents. If several have contents, the one of these that tokens
+    /// use first gives the contents. File and debug id are kept, and the ignore list is cleared.
+    /// `options` says whether names and contents are kept, and which prefixes are cut from sources.
     ///
     /// With `load_local_source_contents`, contents are loaded from files for sources without
     /// contents, or for all sources if contents are not kept. Each of these sources, before any

@@ -14,6 +14,6 @@ names_text texts text id = option_map_or (bytes_eq text) (slice_get texts id) fa
 abbrev pub first_of : List (List ℕ) → List ℕ → List ℕ → ℕ
 first_of texts ids text = unwrap_or (find (names_text texts text) ids) no_id
 
--- for each text at one of these indices, the first of these indices that has the text; in the order of first use
+-- one index for each text in `texts_in_use`, in the same order: the first of `ids` that is an index of the text
 abbrev pub firsts_of : List (List ℕ) → List ℕ → List ℕ
 firsts_of texts ids = map (first_of texts ids) (texts_in_use texts ids)

@@ -7,8 +7,8 @@ use Rattle.sourcemap_map_rewrite.specs.KeptContents.{AreKept}
 use Rattle.sourcemap_map_rewrite.specs.Options.{options_folder}
 use Rattle.sourcemap_map_rewrite.specs.declared.options.RewriteOptions.{RewriteOptions}
 
--- the contents of these sources after loading. The options give a folder. Only sources that had no contents and that
--- resolve to the path of a file may get contents
+-- the options give a folder, and loading turns the contents `before` into the contents `after`. It may add contents
+-- only to a source that had none and that resolves to the path of a file
 abbrev pub AreLoaded : RewriteOptions → List (List ℕ) → (before after : List (Option (List ℕ))) → Type 0
 AreLoaded options sources before after = IsSomeAnd (options_folder options) (λ folder. Fills folder sources before after)
 

@@ -68,7 +68,9 @@ pub record Assigns (text : List ℕ) (id number : ℕ) (old new : Numbering) : T
   pub order : new.seen.order.items ≡ old.seen.order.items ++ id ∷ []
   pub numbers : new.seen.numbers.items ≡ slice_set old.seen.numbers.items id number
 
--- exactly the source and name numbers of the tokens were seen
+-- the sources that `s` has seen are the sources that tokens use, in the order of first use. The same holds for `n` and
+-- the names. If `f` has results only for indices of `sources`, then its first result is the same along `s.order` and
+-- along the source ids of the tokens
 pub record AreSeen (sources names : List (List ℕ)) (tokens : List RawToken) (s n : NewNumbers) : Type 0 where
   pub kept_sources : seen_texts sources s ≡ texts_in_use sources (map (λ t. t.src_id) tokens)
   pub kept_names : seen_texts names n ≡ texts_in_use names (map (λ t. t.name_id) tokens)

@@ -40,8 +40,8 @@ pub(crate) fn without_contents(alloc: Global, count: usize) -> Result<Vec<Option
     Ok(list)
 }
 
-// The contents by new number. If several old numbers have the same new number, the first of them in
-// `order` with contents gives its contents.
+// The contents by new number. If several old numbers have the same new number, the contents come
+// from the first of them that has contents. `order` decides which one is first.
 pub(crate) fn kept_contents(
     alloc: Global,
     mut contents: Vec<Option<SourceView>>,

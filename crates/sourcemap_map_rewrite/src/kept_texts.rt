@@ -18,7 +18,8 @@ fn take_text(alloc: Global, texts: &mut Vec<String>, id: usize) -> String
     mem::replace(&mut texts[id], String::new(alloc))
 }
 
-// The texts in use, in the order of their new numbers. Each is moved from its first old number.
+// The texts in use, in the order of their new numbers. If a text has several old numbers, it is
+// moved out of `texts` at the first of these in `numbers.order`.
 pub(crate) fn kept_texts(
     alloc: Global,
     mut texts: Vec<String>,

@@ -58,11 +58,11 @@ pub struct RewrittenParts {
     pub first_ids: Vec<u32>,
 }
 
-/// Rewrites the parts of a map. `with_root` has the sources resolved against `sourceRoot`; `None`
-/// means that they are the same as `sources`. The prefix `~` means the common prefix of the
-/// absolute paths among `sources`. The option `with_names` is ignored; the caller applies it to
-/// `names` beforehand, with [`names_if`]. The errors are `Io` of kind `InvalidInput` if contents
-/// are to be loaded and the folder is not absolute, and `OutOfMemory`.
+/// Rewrites the parts of a map. The list `with_root` contains the sources after resolution against
+/// `sourceRoot`; `None` means that resolution changes nothing. The prefix `~` means the common
+/// prefix of the absolute paths among `sources`. The option `with_names` is ignored; the caller
+/// applies it to `names` beforehand, with [`names_if`]. The errors are `Io` of kind `InvalidInput`
+/// if contents are to be loaded and the folder is not absolute, and `OutOfMemory`.
 pub fn rewritten_parts<F: Files>(
     rt: &F,
     alloc: Global,
@@ -86,7 +86,7 @@ pub fn rewritten_parts<F: Files>(
     let prefixes = all_prefixes(alloc, options.strip_prefixes, sources.as_slice())?;
     let texts = into_rooted_or_plain(with_root, sources);
     let texts = kept_texts(alloc, texts, &numbers.sources)?;
-    // before prefixes are cut: a source with its prefix leads to its file
+    // prefixes are cut later, because loading needs the whole source to find its file
     let contents = resulting_contents(
         rt,
         alloc,

@@ -21,7 +21,7 @@ is_above n t = nat_lt t.dst_line n
 abbrev pub line_count : List RawToken → ℕ
 line_count tokens = option_map_or (λ t. t.dst_line + 1) (last_or None tokens) 0
 
--- each part satisfies `IsPart` for its line, from line n on
+-- a list has one item for each line, from line n on. Each item satisfies `IsPart` for its line
 abbrev pub EachLine : (ℕ → List ℕ → Type 0) → ℕ → List (List ℕ) → Type 0
 EachLine IsPart n [] = Unit {0}
 EachLine IsPart n (part ∷ parts) = IsPart n part × EachLine IsPart (n + 1) parts

@@ -106,8 +106,9 @@ fn next_step(rest: &[u8]) -> Option<(u32, &[u8])>
 
 // The fast path of `any_part`, for a segment of one, four or five numbers. Returns the same numbers
 // and the same text after the `,`. Returns `None` if a number is invalid, or if the segment has
-// another count of numbers. There is no loop: each of the five numbers tends to have the same
-// length in all segments, which helps branch prediction.
+// another count of numbers. There is no loop: each of the five numbers has its own copy of the
+// decoding code. The numbers at one index tend to have the same length in all segments. So the
+// branches of each copy are easy to predict.
 #[inline(always)]
 pub(crate) fn usual_part(line: &[u8]) -> Option<(Numbers, Option<&[u8]>)>
     ensures read { IfSome result (λ read. HasFirstPart line.now read.0 read.1) }

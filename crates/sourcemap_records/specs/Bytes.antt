@@ -1,6 +1,6 @@
--- The JSON value and the record of bytes, and the errors for bytes that have no JSON value or no record. The results of
--- decoding a JSON value, bytes or a data URL, given the results of decoding a record. What a call that reads bytes may
--- return.
+-- The JSON value that bytes hold, and the record of this value. The errors for bytes that hold no JSON value, or a JSON
+-- value that is not a record. The results of decoding a JSON value, bytes or a data URL, given the results of decoding
+-- a record. What a call that reads bytes may return.
 use Rattle.std.specs.Prelude.{◌≡◌, ◌⊎◌, ℕ, List, Option, Some, None, IfSome, MatchOption, Result, Ok, Err, IsErrAnd, IsUtf8}
 use Rattle.std.specs.IoError.{error_kind}
 use Rattle.std.specs.declared.io.Error.{Error as IoError}

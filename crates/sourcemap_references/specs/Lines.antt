@@ -40,7 +40,7 @@ abbrev pub IfMarked : Lines → (Line → Type 0) → Type 0
 IfMarked (Marked line) Holds = Holds line
 IfMarked (Unmarked _) Holds = Unit {0}
 
--- the property holds of the end of the lines that were read, if none of them has a mark
+-- the property holds of the end of the last line that was read, if no line that was read has a mark
 abbrev pub IfUnmarked : Lines → (ℕ → Type 0) → Type 0
 IfUnmarked (Marked _) Holds = Unit {0}
 IfUnmarked (Unmarked end) Holds = Holds end

@@ -26,7 +26,8 @@ resolved base url = if is_data_url url then None else joined base url
 abbrev pub resolved_path : List ℕ → List ℕ → Option (List ℕ)
 resolved_path path url = if is_data_url url then None else path_from path false url
 
--- a URL made of these texts may, with its escapes, exceed 4 GB
+-- `base` has 2^28 bytes or more, or the parsed `base` and `url` together have 2^28 bytes or more. Resolving adds
+-- escapes to a URL, so the resolved URL may then exceed 4 GB
 abbrev pub IsLongJoin : List ℕ → List ℕ → Type 0
 IsLongJoin base url = IsLong (length base) ⊎ IsOkAnd (parse_url None base) (λ from. IsLong (length (serialize from) + length url))
 

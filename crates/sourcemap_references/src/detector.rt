@@ -61,8 +61,9 @@ impl SourceMapRef {
     /// Resolves the URL of the source map against the URL of the file that holds the reference.
     ///
     /// Returns `None` if the reference is a `data:` URL, or if either URL is rejected. It may also
-    /// return `None` if both URLs together, `minified_url` with its escapes, have 2^28 bytes or
-    /// more. The only error is `OutOfMemory`.
+    /// return `None` in two cases: `minified_url` has 2^28 bytes or more, or it has 2^28 bytes or
+    /// more together with the URL in the reference. The second case counts the escapes that parsing
+    /// adds to `minified_url`. The only error is `OutOfMemory`.
     pub fn resolve(&self, minified_url: &str) -> Result<Option<String>>
         ensures { IsAnswer (option_map string_bytes)
             (UnlessLong (resolved minified_url.now (url_of self.now))
@@ -80,9 +81,9 @@ impl SourceMapRef {
     /// Resolves the path of the source map against the path of the file that holds the reference.
     ///
     /// Returns `None` if the reference is a `data:` URL or leads to no file path, or if
-    /// `minified_path` does not start with `/`. It may also return `None` if the URL of the source
-    /// map and the `file` URL of `minified_path`, with its escapes, together have 2^28 bytes or
-    /// more. The only error is `OutOfMemory`.
+    /// `minified_path` does not start with `/`. It may also return `None` if the `file` URL of
+    /// `minified_path` and the URL in the reference together have 2^28 bytes or more. This size
+    /// includes the escapes in the `file` URL. The only error is `OutOfMemory`.
     pub fn resolve_path(&self, minified_path: &str) -> Result<Option<String>>
         ensures { IsAnswer (option_map string_bytes)
             (UnlessLong (resolved_path minified_path.now (url_of self.now))

@@ -29,8 +29,8 @@ position_in source position =
 abbrev pub identifier_at : List ℕ → ℕ × ℕ → Option (List ℕ)
 identifier_at source position = option_and_then (λ found. token_at_start (drop found.1 found.0)) (position_in source position)
 
--- the identifier at a column of a line, searched from `offset`; `None` if the `units` before `offset` do not reach the
--- column, or if no identifier is there
+-- the identifier that `token_at_start` finds in the rest of a line from `offset` on. `units` is the number of UTF-16
+-- units before `offset`. The result is `None` if `units` is less than `col`, or if `token_at_start` finds none
 abbrev pub identifier_from : List ℕ → (col offset units : ℕ) → Option (List ℕ)
 identifier_from line col offset units = option_and_then (λ at. token_at_start (drop at line)) (reached_offset col offset units)
 

@@ -20,7 +20,7 @@ is_absolute text =
     || (nat_lt 3 (length text)
     && (is_ascii_alphabetic (slice_index text 0) && ((slice_index text 1 == 58) && is_separator (slice_index text 2))))
 
--- parts, with this byte put in front of the first part; one part of this byte if there are no parts
+-- parts, with this byte put in front of the first part; if there are no parts, a single part with only this byte in it
 abbrev pub with_first_byte : ℕ → List (List ℕ) → List (List ℕ)
 with_first_byte byte [] = (byte ∷ []) ∷ []
 with_first_byte byte (part ∷ parts) = (byte ∷ part) ∷ parts

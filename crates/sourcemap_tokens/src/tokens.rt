@@ -112,8 +112,9 @@ pub fn one_stable_order(tokens: &[RawToken], sorted: &[RawToken])
         → sorted.now ≡ in_order tokens.now }
 {}
 
-/// A law: removing repeated tokens keeps the closest token of each position. Replacing each name id
-/// that is not below `names` by [`NO_ID`] keeps it too, apart from this change to its own name id.
+/// A law about `reduced`, which removes repeated tokens and replaces each name id that is not below
+/// `names` by [`NO_ID`]. The token closest to a position stays the same, except that its name id is
+/// replaced if it is not below `names`.
 pub fn reduced_answers_alike(tokens: &[RawToken], names: u32, line: u32, col: u32)
     ensures { closest_item destination position_cmp (reduced names tokens.now) (line, col)
         ≡ option_map (with_valid_name names)

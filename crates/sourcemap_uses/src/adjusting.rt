@@ -1,4 +1,4 @@
-//! Looks up positions after a later build step.
+//! Looks up positions in the output of a later build step.
 ghost use Rattle.std.specs.Option.{option_copied};
 ghost use Rattle.std.specs.Prelude.{◌≡◌, ℕ, Err, IfErr, IfOk, IsOkUnless, Ok, option_map, string_bytes};
 ghost use Rattle.sourcemap.specs.Adjust.{adjusted};

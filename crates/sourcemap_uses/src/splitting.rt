@@ -13,7 +13,8 @@ use std::alloc::Global;
 /// Looks up a position in the first module of a bundle, by the map of the module. Lines count from
 /// 0 at the first line of the module. Modules whose item in `x_facebook_offsets` is null are
 /// skipped. Returns the original position as a token prints it, or an empty text if there is no
-/// token or no module. Returns the errors of `split_ram_bundle`, then the error of the module.
+/// token or no module. Returns the errors of `split_ram_bundle`, and any error that its iterator
+/// gives for this module.
 ///
 /// The flattened map of the whole bundle gives the same result for this position, with lines
 /// counted from the start of the bundle, under two premises:
