@@ -18,7 +18,8 @@ UnlessMemory _ P = P
 abbrev pub Does : {T : Type 0} → Result T Failure → (Done : Type 0) → (Due : Failure → Type 0) → (Kept : Type 0) → Type 0
 Does result Done Due Kept = MatchResult result (λ _. Done) (λ failure. UnlessMemory failure (Due failure) × Kept)
 
--- the code and the error report of a call whose result is as `Does` says
+-- The code and the error report that a call returns and writes. After success `Done` holds, and the report is
+-- unchanged. After a failure `Kept` holds, and the report is of a failure that `Due` allows, or of out of memory.
 pub record Answers (code : ℕ) (old new : ErrorReport) (Done : Type 0) (Due : Failure → Type 0) (Kept : Type 0) : Type 0 where
   pub done : code ≡ 0 → Done
   pub silent : code ≡ 0 → new ≡ old

@@ -19,7 +19,7 @@ pub enum Command {
     Flatten,
     /// `compose FILE`: the regular map adjusted by the map in this file, as JSON text.
     Compose(String),
-    /// `shift ROWS`: the index map with each section moved down by this many rows, as JSON text.
+    /// `shift ROWS`: the index map with each section moved down by ROWS rows, as JSON text.
     Shift(u32),
     /// `trace FILE`: the closest token to each generated position that this file lists.
     Trace(String),

@@ -137,7 +137,7 @@ pub fn adjusted_json(alloc: Global, map: DecodedMap, adjustment: DecodedMap) -> 
 /// - `Rewrite`, `Flatten`, `Compose`, `Shift`: compact JSON and a newline. `Rewrite`: the map
 ///   rewritten with default options. For a Hermes map, the JSON has the function scopes too.
 ///   `Flatten`: the flattened index map. `Compose`: the map adjusted by `adjustment`. `Shift`: the
-///   index map with each section moved down by this many rows.
+///   index map with each section moved down by the rows of the command.
 ///
 /// `Compose` takes an adjustment, and no other command does. `command` must not be `Trace`, which
 /// also needs positions; use `sourcemap_trace::trace_text` for it.

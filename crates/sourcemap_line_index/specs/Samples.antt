@@ -20,8 +20,8 @@ pub record HasRisingColumns (tokens : List RawToken) (first end : ℕ) : Type 0 
   pub within : end ≤ length tokens
   pub rises : (d : RawToken) → Rises (col_at tokens d) first end
 
--- for columns that do not fall: `index` is the index of the first token from index `first` up to, not including, `end`
--- whose column is at least `col`, or `end` if there is no such token
+-- The search range is from index `first` up to, not including, `end`, and the columns in it do not fall. Then `index`
+-- is the index of the first token in the range with a column of at least `col`, or `end` if there is no such token.
 pub record IsFirstAtColumn (tokens : List RawToken) (first end col index : ℕ) : Type 0 where
   pub at_least : first ≤ index
   pub at_most : index ≤ end

@@ -32,19 +32,19 @@ pub record Segment : Type 0 where
   pub index : ℕ
   pub numbers : List ℤ
 
--- number k of a segment, counted from 0, modulo 2^32; 0 if the segment has no number k
+-- the number at index `k` of a segment, modulo 2^32; 0 if the segment has no number at this index
 abbrev pub step : ℕ → Segment → ℕ
 step k s = option_map_or (λ z. unsigned_abs (int_rem_euclid z (pos (2 ^ 32)))) (slice_get s.numbers k) 0
 
--- the sum of number k over some segments, modulo 2^32
+-- the sum, modulo 2^32, of the numbers at index `k` of some segments
 abbrev pub sum_at : ℕ → List Segment → ℕ
 sum_at k segments = sum_by (step k) segments % 2 ^ 32
 
 abbrev pub has_number : ℕ → Segment → Bool
 has_number k s = nat_lt k (length s.numbers)
 
--- a field of the token of segment s, for number k: the sum of number k over all segments up to and including s, or
--- `no_id` if s has no number k
+-- a field of the token of segment `s`: the sum of the numbers at index `k` of all segments up to and including `s`, or
+-- `no_id` if `s` has no number at this index
 abbrev pub field : ℕ → List Segment → Segment → ℕ
 field k all s = if has_number k s then sum_at k all else no_id
 

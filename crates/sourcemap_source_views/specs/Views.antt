@@ -1,4 +1,4 @@
--- The lines that an iterator over a view has left.
+-- The lines that an iterator over a view has not yet returned.
 use Rattle.std.specs.Prelude.{ℕ, List, drop, take}
 use Rattle.sourcemap_source_views.specs.Lines.{line_bodies}
 use Rattle.sourcemap_source_views.specs.declared.sourceview.Lines.{Lines}

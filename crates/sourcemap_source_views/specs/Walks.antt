@@ -1,4 +1,4 @@
--- The items that a walk back along the tokens of a map has left.
+-- The items that a walk back along the tokens of a map has not yet returned.
 use Rattle.std.specs.Prelude.{ℕ, List, [], ◌∷◌, Option, None, Some}
 use Rattle.std.specs.Borrow.{Bor}
 use Rattle.std.specs.Option.{option_copied}
