@@ -206,12 +206,13 @@ export declare function isIgnored(map: TraceMap, source: string): boolean;
 
 /**
  * The mappings as lines of segments. They belong to the map: do not change them. Throws
- * PAST_LIMIT if they are not given so and have more than 16,777,216 lines.
+ * PAST_LIMIT if they have more than 16,777,216 lines, unless the map was made of such lines,
+ * in order.
  */
 export declare function decodedMappings(map: TraceMap): readonly SourceMapSegment[][];
 /**
- * The mappings as text: the one that was given, else one that the library writes. Throws
- * PAST_LIMIT if it is not given and has more than 16,777,216 lines.
+ * The mappings as text: the text that was given, or else a text that the library writes. Throws
+ * PAST_LIMIT if no text was given and the mappings have more than 16,777,216 lines.
  */
 export declare function encodedMappings(map: TraceMap): string;
 /** The fields of the map with decoded mappings. */

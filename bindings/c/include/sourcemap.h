@@ -8,39 +8,43 @@
 ** bytes with a length; none ends with a zero byte unless this page says so.
 **
 ** A handle is a small struct in the caller's memory. It begins as zeros
-** (SM_EMPTY), which hold nothing. A call that fills a handle drops what the
-** handle held before; a call that fails leaves each handle as it was. A handle
-** that is full owns memory until sm_close(). Never copy a handle: pass its
-** address.
+** (SM_EMPTY), which hold nothing. A call that fills a handle drops what the handle
+** held before. A handle owns the memory of what it holds until another call fills or
+** empties it, or sm_close() closes it. Never copy a handle: pass its address.
 **
-** Most calls return a code: SM_OK, or why they failed. Those that take an
-** sm_error also write the code, the numbers and the printed text of the error
-** there. On success the sm_error is as it was. Any of these may return
-** SM_OUT_OF_MEMORY, which is an error like the others: nothing has changed, and
-** the same call may be made again. Three calls differ: sm_builder_finish() empties
-** its builder, sm_sections_finish() may empty its sections, and
-** sm_builder_add_tokens() may have added some. A call that fails writes nothing but
-** its sm_error. Where several errors apply, it names one.
+** Most calls return a code: SM_OK, or why they failed. A call that takes an
+** sm_error also writes the code, the numbers and the printed text of the error
+** there. On success the sm_error is as it was. A call that takes an sm_error may
+** fail with SM_OUT_OF_MEMORY; no other call does. If several errors apply, a call
+** returns one of them. It is unspecified which, unless its comment says so.
 **
-** A text that a call writes to an sm_text is not copied. It points into the
-** handle that it was read from (for sm_function_name(), into its
-** map), and is valid until a call changes, fills or closes that handle. A call
-** whose comment says "changes" changes its first handle, and one whose comment
-** says "fills" fills the handle that it names. All other handles stay as they are.
+** A call that fails writes nothing but its sm_error, and leaves each handle as it
+** was. So the same call may be made again after SM_OUT_OF_MEMORY. There are three
+** exceptions, all on SM_OUT_OF_MEMORY: sm_builder_finish() empties its builder,
+** sm_sections_finish() may empty its sections, and sm_builder_add_tokens() may have
+** added some of the tokens.
+**
+** A text that a call writes to an sm_text is borrowed, not copied. It points into
+** the handle that it was read from, and is valid until a call changes, fills or
+** closes that handle. A call whose comment says "changes" changes its first handle.
+** A call whose comment says "fills" fills the handle that the comment names. All
+** other handles stay as they are.
 **
 ** WHAT THE CALLER OWES
 **
 ** The calls are proved for arguments that are what their types say:
 **
-**   - A pointer is not null, also where the length beside it is 0. It points to
-**     as many initialised values as the length says. An sm_text that a call
-**     writes begins as SM_TEXT_EMPTY, any other struct as zeros.
+**   - A pointer is not null, even if the length beside it is 0. It points to as
+**     many initialised values as the length says, or to one if there is no length.
+**     This holds for what the call writes too. Before the first call that writes
+**     it, an sm_text is SM_TEXT_EMPTY, and any other struct is zeros.
 **   - What two arguments of one call point to does not overlap.
 **   - A handle is used by one call at a time. It may be handed to another
-**     thread, with the synchronisation that the platform asks for. Handles do
-**     not share anything that can be seen: each thread may use its own. With
-**     sm_share() two handles hold one map without a copy of it.
-**   - malloc, realloc and free belong together, and align as C asks.
+**     thread, with the synchronisation that the platform asks for. Two handles are
+**     independent, even if they hold one map by sm_share(): each thread may use
+**     its own.
+**   - malloc, realloc and free of the process are those of one allocator. The
+**     memory that they return is aligned as C asks.
 **   - No call is made in a signal handler.
 */
 #ifndef SOURCEMAP_H
@@ -54,8 +58,9 @@
 extern "C" {
 #endif
 
-/* The release of the crate whose names and answers this library has, and the
-** version of this interface. sm_interface() returns the one that was linked. */
+/* SM_VERSION is the release of the Rust crate whose names and answers this library
+** has. SM_INTERFACE is the version of this interface: sm_interface() returns that of
+** the linked library. */
 #define SM_VERSION "9.3.2"
 #define SM_INTERFACE 1u
 
@@ -65,14 +70,14 @@ extern "C" {
 /*
 ** CODES
 **
-** A code is one of these. The second group is of this interface alone.
+** A code is one of these. Those from 32 on are of this interface alone.
 */
 typedef uint32_t sm_code;
 
 #define SM_OK 0u
 #define SM_IO 1u                    /* a junk header is invalid, or a line of a generated text is not UTF-8 */
 #define SM_UTF8 2u                  /* bytes that should be text are not UTF-8 */
-#define SM_RANGE 3u                 /* a range passes the end of a bundle: start, size, length */
+#define SM_RANGE 3u                 /* a range of `size` bytes from `start` passes the `length` of a bundle */
 #define SM_BAD_JSON 4u              /* number 0: not JSON; 1: a field has the wrong type */
 #define SM_VLQ_LEFTOVER 5u          /* a segment ends within a number */
 #define SM_VLQ_NO_VALUES 6u         /* a segment has no number */
@@ -80,15 +85,15 @@ typedef uint32_t sm_code;
 #define SM_BAD_SEGMENT_SIZE 8u      /* a segment has `number` numbers, not 1, 4 or 5 */
 #define SM_BAD_SOURCE_REFERENCE 9u  /* a segment names source `number`, which does not exist */
 #define SM_BAD_NAME_REFERENCE 10u   /* a segment names name `number`, which does not exist */
-#define SM_INCOMPATIBLE 11u         /* the map is of another kind, or past a limit */
+#define SM_INCOMPATIBLE 11u         /* a count, a line or a column is past its limit */
 #define SM_INVALID_DATA_URL 12u     /* the text is no data URL of a source map */
 #define SM_CANNOT_FLATTEN 13u       /* an index map can't become one regular map; the text says why */
 #define SM_INVALID_BUNDLE_MAGIC 14u /* a bundle does not begin with its magic number */
-#define SM_INVALID_BUNDLE_INDEX 15u /* a bundle has no module of that number */
+#define SM_INVALID_BUNDLE_INDEX 15u /* the number of a module is past the last one of its bundle */
 #define SM_INVALID_BUNDLE_ENTRY 16u /* a bundle's entry of a module is invalid */
-#define SM_NOT_A_BUNDLE 17u         /* there is no bundle */
+#define SM_NOT_A_BUNDLE 17u         /* an index map has no list of the lines at which modules begin */
 #define SM_INVALID_RANGE_INDEX 18u  /* reserved; no call returns it */
-#define SM_INVALID_BASE64 19u       /* `number` is the byte that is no digit */
+#define SM_INVALID_BASE64 19u       /* a byte is no digit; `number` is the value of the byte */
 #define SM_OUT_OF_MEMORY 20u        /* memory ran out */
 
 #define SM_ABSENT 32u               /* there is none: no token, text, id or module */
@@ -137,10 +142,11 @@ typedef struct sm_text {
 
 #define SM_TEXT_EMPTY { (const uint8_t *)"", 0 }
 
-/* Why a call failed. `text` holds the printed text and a zero byte after it; of
-** a longer text its first SM_ERROR_TEXT - 1 bytes, which may end within a
-** character. `text_length` is the length of the whole text. Numbers that the code
-** does not use are 0. */
+/* Why a call failed. `text` holds the printed text and a zero byte after it. If the
+** printed text has more than SM_ERROR_TEXT - 1 bytes, `text` holds only that many
+** of its first bytes, and may end within a character. `text_length` is the length of
+** the whole printed text. The comment of a code says what `number`, `start`, `size`
+** and `length` are. Those that it does not name are 0. */
 #define SM_ERROR_TEXT 256
 
 typedef struct sm_error {
@@ -159,11 +165,12 @@ typedef struct sm_position {
     uint32_t column;
 } sm_position;
 
-/* A token: a generated position, the original position that it maps to, and
-** what it names. `source` and `name` are ids, or SM_NONE. In a map that was
-** opened, a token without a source has SM_NONE as its original line and column.
-** An id may name nothing: name ids do after sm_remove_names(), and any id may in a map
-** that was built. So ask sm_source() or sm_name() before you use it as an index. */
+/* A token: a generated position, the original position that it maps to, its source
+** and its name. `source` and `name` are ids, or SM_NONE. In a map that was opened, a
+** token without a source has SM_NONE as its original line and column. Not each id
+** names something. After sm_remove_names() no name id does. In a map that was built,
+** any id may name nothing. So ask sm_source() or sm_name() before you use an id as an
+** index. */
 typedef struct sm_token {
     uint32_t line;
     uint32_t column;
@@ -174,20 +181,22 @@ typedef struct sm_token {
     bool is_range;
 } sm_token;
 
-/* The answer to a position: `found` says whether there is a closest token, at
-** the position or before it. The token is as in its map, but the `original_column`
-** of a range token on the line looked up counts on to the position, up to 4294967295.
-** In an index map the token is that of the section that answers: `line` and `column`
-** count from where the section begins (`column` on its first line only), and `source`
-** and `name` are ids in the section's map. Where sm_lookup_many() finds nothing, all
-** else is 0. */
+/* The answer to a position. `found` says whether there is a closest token. `token` is
+** that token as its map has it, with one exception: a range token on the line of the
+** position. To its `original_column` the answer adds the columns from the token to
+** the position. A sum above 4294967295 is written as 4294967295.
+** In an index map `token` is a token of the map of a section; if index maps are
+** nested, of the innermost section. Its `line` counts from the line where the section
+** begins. On the first line of the section, its `column` counts from the column where
+** the section begins. `source` and `name` are ids in the section's map.
+** If sm_lookup_many() finds no token, it writes zeros to `token`. */
 typedef struct sm_found {
     sm_token token;
     bool found;
 } sm_found;
 
-/* How many items a map has. An index map has sections alone; the others have
-** no sections. 4294967295 also means more. */
+/* How many items a map has. In an index map all counts but `sections` are 0. In the
+** other maps `sections` is 0. A count above 4294967295 is written as 4294967295. */
 typedef struct sm_counts {
     uint32_t tokens;
     uint32_t sources;
@@ -242,14 +251,16 @@ sm_code sm_open_url(sm_map *map, const uint8_t *url, size_t length, sm_error *er
 ** by the other. Returns SM_OK, or SM_WRONG_KIND if `map` holds no map. */
 sm_code sm_share(sm_map *map, sm_map *other, sm_error *error);
 
-/* Writes to `answer` whether the bytes hold a source map, by the keys of their JSON
-** value. Returns SM_OK, also if they hold none: then `answer` is false. No error
-** but SM_OUT_OF_MEMORY. */
+/* Writes to `answer` whether the bytes hold a source map. Looks only at `version`, and
+** at which keys of the JSON value are there and not null; so sm_open() may still refuse
+** the bytes. Returns SM_OK, also if the bytes hold no source map: then `answer` is
+** false. No error but SM_OUT_OF_MEMORY. */
 sm_code sm_is_source_map(const uint8_t *bytes, size_t length, bool *answer, sm_error *error);
 
 /* Writes to `answer` whether both maps are of one kind and equal in all that they
-** hold: also in how sources are written, in the order of all lists, and in how long
-** the list of contents is, although maps that differ in that alone are written alike.
+** hold. Sources are compared as the maps have them, before they are resolved. The
+** order of each list counts. So does the length of the list of contents, although
+** maps that differ only in this length are written alike.
 ** SM_WRONG_KIND if one of the handles holds no map; then `answer` is as it was.
 ** Allocates nothing. Pass two different handles; a map equals itself. */
 sm_code sm_equal(sm_map *map, sm_map *other, bool *answer);
@@ -262,10 +273,13 @@ sm_code sm_hermes_map(sm_map *map, sm_map *regular, sm_error *error);
 /*
 ** WHAT A MAP SAYS
 **
-** The calls of this section that return a code return SM_OK and write their answer,
-** or return another code and write nothing: SM_ABSENT if the map has no such item,
-** SM_WRONG_KIND if the handle holds no map. They allocate nothing, but for
-** sm_token_text(). An index map has a file, a debug id of its own, and sections. It
+** A call of this section that returns a code returns SM_OK and writes its answer, or
+** returns another code and writes nothing: SM_ABSENT if the map has no such item,
+** SM_WRONG_KIND if the handle holds no map. Some calls also return SM_WRONG_KIND for
+** a map of another kind than theirs; their comments say so. No call of this section
+** allocates but sm_token_text().
+**
+** An index map has a file, a debug id of its own, and sections. It
 ** has no root, sources, names, contents or tokens: those are in the maps of its
 ** sections (sm_section()), and in the map that sm_flatten() makes.
 */
@@ -302,9 +316,10 @@ sm_code sm_name(sm_map *map, uint32_t id, sm_text *text);
 ** handle holds no map. A map may have contents past its last source. */
 sm_code sm_contents(sm_map *map, uint32_t id, sm_text *text);
 
-/* Writes the ids of the ignore list, in rising order, from number `first` on, as
-** many as there are and fit. Returns how many it wrote: 0 of an index map, and of a
-** handle without a map. An id may name no source. The rest of `ids` is as it was. */
+/* Writes the ids of the ignore list, in rising order, from index `first` of this list
+** on, as many as there are and fit. Returns how many it wrote: 0 of an index map, and
+** of a handle without a map. An id may name no source. The rest of `ids` is as it
+** was. */
 size_t sm_ignore_list(sm_map *map, uint32_t first, uint32_t *ids, size_t length);
 
 /* Writes the tokens of a map in order, from token `first` on, as many as there
@@ -320,10 +335,11 @@ size_t sm_tokens(sm_map *map, uint32_t first, sm_token *tokens, size_t length);
 ** of an index map, and if the handle holds no map. sm_bytes_text() reads the text. */
 sm_code sm_token_text(sm_map *map, uint32_t index, sm_bytes *text, sm_error *error);
 
-/* Of the index map of a RAM bundle: writes the line at which each module begins,
-** from module `first` on, as many as there are and fit, SM_NONE if no module has
-** the number. `written` is how many. SM_ABSENT if the map has no such list,
-** SM_WRONG_KIND if the handle holds no index map; then nothing is written. */
+/* Of the index map of a RAM bundle: writes a line for each module number from `first`
+** on, as many as there are and fit. It is the generated line at which the module
+** begins, or SM_NONE if no module has the number. Writes to `written` how many lines
+** it wrote. SM_ABSENT if the map has no list of these lines, SM_WRONG_KIND if the
+** handle holds no index map; then nothing is written. */
 sm_code sm_module_offsets(sm_map *map, uint32_t first, uint32_t *offsets, size_t length, size_t *written);
 
 /* Of the index map of a RAM bundle: the path of a module. The text is borrowed from
@@ -335,16 +351,19 @@ sm_code sm_module_path(sm_map *map, uint32_t id, sm_text *text);
 ** LOOK UP
 **
 ** The closest token to a position is the first one at the position, or else the
-** last one before it, whichever line it is on. In a map without sections, a
-** caller who wants a token of the same line compares `token.line`. In an index
-** map the section that begins last at the position or before it answers: of
-** several at the very position the first, of several before it the last. A section
-** without a map answers nothing.
+** last one before it, whichever line it is on. A caller who wants only a token on
+** the line of the position compares `token.line` with this line. In an index map
+** that does not work: there `token.line` counts from the first line of the section.
+**
+** An index map searches its closest section alone. That is the first section that
+** begins at the position, or else the last one that begins before it. If this section
+** has no map, or its map has no closest token, the index map has none either.
 */
 
 /* Writes the closest token. Returns SM_OK; SM_ABSENT if there is none; SM_WRONG_KIND
-** if the handle holds no map. On the last two nothing is written, and `found->found`
-** may be that of an earlier call: look at the code. Allocates nothing. */
+** if the handle holds no map. On SM_ABSENT and SM_WRONG_KIND nothing is written, and
+** `found->found` may be that of an earlier call: look at the code that the call
+** returns. Allocates nothing. */
 sm_code sm_lookup(sm_map *map, uint32_t line, uint32_t column, sm_found *found);
 
 /* Answers each position in turn, up to the end of the shorter array. Returns how
@@ -354,18 +373,19 @@ size_t sm_lookup_many(sm_map *map, const sm_position *positions, size_t count, s
 
 /* Writes the closest token, as sm_lookup() does, and to `until` the generated
 ** position of the token after it, or line and column 4294967295 if no token follows.
-** The same token is closest to each position from the one looked up that is before
-** `until`. If several tokens stand at the position looked up, `until` is that position,
-** and the span is empty. So a caller who looks up positions in order may keep the
-** token. Only the `original_column` of a range token differs from position to position.
+** The span begins at the position looked up, and ends before `until`. The same token
+** is closest to all its positions, so a caller who looks up positions in order may
+** keep the token within the span. Only the `original_column` of a range token differs
+** from position to position. If several tokens stand at the position looked up,
+** `until` is that position, and the span is empty.
 ** SM_ABSENT if there is no token; SM_WRONG_KIND of an index map, and if the handle
 ** holds no map. Then `found` and `until` are as they were. Allocates nothing. */
 sm_code sm_lookup_span(sm_map *map, uint32_t line, uint32_t column, sm_found *found, sm_position *until);
 
-/* Writes the number of the closest token among the tokens of a map, as sm_tokens()
-** counts them: SM_NONE also if it is greater. SM_ABSENT if there is no token;
-** SM_WRONG_KIND of an index map, and if the handle holds no map. Then `index` is as
-** it was. Allocates nothing. */
+/* Writes the index of the closest token among the tokens of a map, as sm_tokens()
+** counts them. An index above 4294967295 is written as 4294967295. SM_ABSENT if there
+** is no token; SM_WRONG_KIND of an index map, and if the handle holds no map. Then
+** `index` is as it was. Allocates nothing. */
 sm_code sm_lookup_index(sm_map *map, uint32_t line, uint32_t column, uint32_t *index);
 
 /* The source of the closest token, resolved against `sourceRoot`, of a map of any
@@ -379,34 +399,38 @@ sm_code sm_lookup_source(sm_map *map, uint32_t line, uint32_t column, sm_text *t
 sm_code sm_lookup_name(sm_map *map, uint32_t line, uint32_t column, sm_text *text);
 
 /* Fills `text` with the text of the closest token, of a map of any kind, as
-** sm_token_text() prints one. The column of a range token on the line looked up
-** counts on to the position, up to 4294967295. Returns SM_OK; SM_ABSENT if there is
-** no token; SM_WRONG_KIND if the handle holds no map. sm_bytes_text() reads the
-** text. */
+** sm_token_text() prints one. The column of a range token is the `original_column`
+** that sm_lookup() writes. Returns SM_OK; SM_ABSENT if there is no token;
+** SM_WRONG_KIND if the handle holds no map. sm_bytes_text() reads the text. */
 sm_code sm_lookup_text(sm_map *map, uint32_t line, uint32_t column, sm_bytes *text, sm_error *error);
 
-/* Fills `text` with the answers to a list of positions, LINE:COLUMN on each
-** line, both counted from 0: for each a line SOURCE:LINE:COLUMN, with
-** ` name=NAME` if there is a name, or `none`, or `bad position`. SOURCE is
-** `<unknown>` if the token has none; LINE and COLUMN are 4294967295 then, of a
-** map that was opened. Returns SM_OK, or SM_WRONG_KIND if `map` holds no map.
-** sm_bytes_text() reads the answers. */
+/* Fills `text` with the answers to a list of generated positions. Each line of
+** `positions` is one, as LINE:COLUMN, both counted from 0. For each line `text` has
+** one line. It is the original position, as SOURCE:LINE:COLUMN, with ` name=NAME` if
+** there is a name; `none` if the position has no closest token; `bad position` if the
+** line is not a position. If the token has no source, SOURCE is `<unknown>`. In a map
+** that was opened, LINE and COLUMN of such a token are 4294967295. Returns SM_OK, or
+** SM_WRONG_KIND if `map` holds no map. sm_bytes_text() reads the answers. */
 sm_code sm_trace(sm_map *map, const uint8_t *positions, size_t length, sm_bytes *text, sm_error *error);
 
-/* The name of the function that contains a generated position. A Hermes map has it
-** itself, for line 0; of other maps it is guessed from the generated text in
-** `view` and the minified name of the function. The text is borrowed from `map`, not
-** from `view`. SM_ABSENT if there is none; SM_WRONG_KIND if `map` holds no map, or a
-** map that needs a view and `view` holds none; SM_UTF8 if the minified name is not
-** UTF-8. A Hermes map looks at neither `minified` nor `view`; if its functions are
-** unsorted, the name is unspecified. An index map guesses along the section that
-** answers, also if that is a Hermes map. */
+/* The name of the function that contains a generated position. The text is borrowed
+** from `map`, not from `view`. SM_ABSENT if there is no name.
+** A Hermes map has names for positions on line 0 alone. For it the call looks at
+** neither `minified` nor `view`. If the functions of the source that the position
+** leads to are not in order, the name is unspecified.
+** For other maps the name is guessed from the tokens, the generated text in `view`, and
+** the minified name of the function. In an index map only the tokens of the map with
+** the closest token are used, also if that is a Hermes map.
+** SM_WRONG_KIND if `map` holds no map, or if it holds a regular map or an index map
+** and `view` holds no view. SM_UTF8 if the name is to be guessed and `minified` is not
+** UTF-8. */
 sm_code sm_function_name(sm_map *map, uint32_t line, uint32_t column, const uint8_t *minified, size_t length,
                          sm_view *view, sm_text *text);
 
-/* The name of the function at an offset of the bytecode, of a Hermes map. The text
-** is borrowed from `map`. SM_ABSENT if there is none; SM_WRONG_KIND if the handle
-** holds no Hermes map. If the functions are unsorted, the name is unspecified. */
+/* The name of the function at an offset of the bytecode, of a Hermes map. The offset is
+** a generated column of line 0. The text is borrowed from `map`. SM_ABSENT if there is
+** no name; SM_WRONG_KIND if the handle holds no Hermes map. If the functions of the
+** source that the offset leads to are not in order, the name is unspecified. */
 sm_code sm_hermes_function_name(sm_map *map, uint32_t offset, sm_text *text);
 
 /*
@@ -419,34 +443,41 @@ sm_code sm_hermes_function_name(sm_map *map, uint32_t offset, sm_text *text);
 */
 
 /* Keeps only the sources and names that tokens use, in the order of their first use,
-** and the contents of these sources. The sources are resolved against `sourceRoot`;
-** the root is removed, and so is the ignore list. Removes the names if `with_names` is
-** false, the contents if `with_contents` is. Cuts from each source the first of the
-** `count` texts in `prefixes` that it begins with; a `/` is added to a prefix that does
-** not end with one. The prefix `~` means the longest folder that all sources which are
-** absolute paths have in common, before they are resolved, and is tried last. Hermes
-** maps keep their scopes; of sources with one text, those of the one used first.
-** SM_UTF8 if a prefix is not UTF-8; SM_WRONG_KIND of an index map, and if the handle
-** holds no map. */
+** and the contents of these sources. The sources are resolved against `sourceRoot`.
+** Then the root is removed, and so is the ignore list. Removes the names if
+** `with_names` is false, the contents if `with_contents` is false. Cuts from each
+** source the first of the `count` texts in `prefixes` that it begins with; a `/` is
+** added to a prefix that does not end with one. The prefix `~` is tried last. It means
+** the longest path of whole parts with which each source that is an absolute path
+** begins. For this the sources are taken as the map has them, before they are resolved.
+** If only one source is an absolute path, this path is the whole source. If the path
+** is empty or `/`, `~` cuts nothing. A Hermes map keeps its scopes. If several sources
+** resolve to one text, it keeps those of the source that a token uses first. SM_UTF8
+** if a prefix is not UTF-8; SM_WRONG_KIND of an index map, and if the handle holds no
+** map. */
 sm_code sm_rewrite(sm_map *map, bool with_names, bool with_contents, const sm_text *prefixes, size_t count,
                    sm_error *error);
 
-/* Flattens an index map to a regular map. If each section and all of its tokens
-** come before the next section, the regular map answers wherever the index map
-** does, and the same. SM_CANNOT_FLATTEN if a section has no map, there are too many
-** sources or names, or a position would pass 4294967295; SM_WRONG_KIND if the handle
-** holds no index map. */
+/* Flattens an index map to a regular map. If a position has a closest token in the
+** index map, the regular map gives it the same original position, source and name. One
+** condition: in the index map, and in each index map inside of it, each section begins
+** before the next one, and all of its tokens are before the start of the next one.
+** SM_CANNOT_FLATTEN if a section has no map, if there would be more than 4294967295
+** sources or names, or if the line or the column of a token would pass 4294967295;
+** SM_WRONG_KIND if the handle holds no index map. */
 sm_code sm_flatten(sm_map *map, sm_error *error);
 
-/* Adjusts a regular map by `adjustment`, the regular map of a later text that was made
-** of the generated text of `map`. Then `map` answers positions of the later text.
-** `adjustment` does not change. SM_INCOMPATIBLE if a token would pass column
-** 4294967295; SM_WRONG_KIND if either handle holds no regular map. */
+/* Adjusts a regular map by the regular map `adjustment`. `map` is the map of the first
+** step of a tool chain. `adjustment` is the map of the second step, whose input is the
+** generated text of the first. Afterwards the generated positions of `map` are in the
+** generated text of the second step. `adjustment` does not change. SM_INCOMPATIBLE if
+** a token would pass column 4294967295; SM_WRONG_KIND if either handle holds no
+** regular map. */
 sm_code sm_compose(sm_map *map, sm_map *adjustment, sm_error *error);
 
-/* Moves each section of an index map so many lines further down.
-** SM_PAST_LIMIT if one would pass line 4294967295; SM_WRONG_KIND if the handle holds
-** no index map. */
+/* Moves each section of an index map down by `lines` lines.
+** SM_PAST_LIMIT if a section would pass line 4294967295; SM_WRONG_KIND if the handle
+** holds no index map. */
 sm_code sm_shift(sm_map *map, uint32_t lines, sm_error *error);
 
 /* Setters. `present` says whether a part is set or removed. If it is false, the
@@ -456,9 +487,9 @@ sm_code sm_shift(sm_map *map, uint32_t lines, sm_error *error);
 ** the text is not UTF-8, SM_WRONG_KIND if the handle holds no map. */
 sm_code sm_set_file(sm_map *map, bool present, const uint8_t *text, size_t length, sm_error *error);
 
-/* Sets or removes the `sourceRoot`. Sources are resolved against the new one. SM_UTF8
-** if the text is not UTF-8; SM_WRONG_KIND of an index map, and if the handle holds
-** no map. */
+/* Sets or removes the `sourceRoot`. Afterwards sources are resolved against the new
+** one, and are as the map has them if it is removed. SM_UTF8 if the text is not UTF-8;
+** SM_WRONG_KIND of an index map, and if the handle holds no map. */
 sm_code sm_set_source_root(sm_map *map, bool present, const uint8_t *text, size_t length, sm_error *error);
 
 /* Sets or removes the debug id, of a map of any kind. `id` is not null, also if
@@ -499,9 +530,9 @@ sm_code sm_write(sm_map *map, sm_bytes *text, sm_error *error);
 ** Returns SM_OK, or SM_WRONG_KIND if `map` holds no map. */
 sm_code sm_write_url(sm_map *map, sm_bytes *text, sm_error *error);
 
-/* The text that a call put into the handle, such as sm_write(), sm_trace() or
-** sm_resolve(). It is borrowed from `bytes`. SM_WRONG_KIND if the handle holds no
-** such text; then `text` is as it was. */
+/* The text that sm_write(), sm_trace(), sm_resolve() or another such call put into the
+** handle. It is borrowed from `bytes`. SM_WRONG_KIND if the handle holds no such text;
+** then `text` is as it was. */
 sm_code sm_bytes_text(sm_bytes *bytes, sm_text *text);
 
 /*
@@ -524,25 +555,30 @@ sm_code sm_section_url(sm_map *map, uint32_t id, sm_text *text);
 ** SM_WRONG_KIND if `map` holds no index map. */
 sm_code sm_section(sm_map *map, uint32_t id, sm_map *section, sm_error *error);
 
-/* Fills `sections` with an empty list of sections, of which an index map is made.
-** No error but SM_OUT_OF_MEMORY. */
+/* Fills `sections` with an empty list of sections. sm_sections_add() adds to this list,
+** and sm_sections_finish() makes an index map of it. No error but SM_OUT_OF_MEMORY. */
 sm_code sm_sections_new(sm_sections *sections, sm_error *error);
 
-/* Changes `sections`: adds a section that begins at this position, with a copy of
-** `map`, with the URL of a map, both or neither. Sections keep the order in which
-** they are added; lookups need rising positions. Without `has_url` the URL is
-** not read, without `has_map` the handle may hold anything; the pointers are still
-** not null. SM_UTF8 of a URL that is not UTF-8, SM_WRONG_KIND if `sections` holds
-** no sections or `map` no map. */
+/* Changes `sections`: adds a section that begins at this generated position. If
+** `has_map` is true, the section has a copy of `map`. If `has_url` is true, it has the
+** URL of a map. It may have both or neither. Sections keep the order in which they are
+** added. If this is not the order of their positions, the answers of lookups in the
+** index map are unspecified. If `has_url` is false, the URL is not read. If
+** `has_map` is false, the handle `map` may hold anything. The pointers are not null
+** even so. SM_UTF8 if `has_url` is true and the URL is not UTF-8; SM_WRONG_KIND if
+** `sections` holds no list of sections, or if `has_map` is true and `map` holds no
+** map. */
 sm_code sm_sections_add(sm_sections *sections, uint32_t line, uint32_t column, bool has_url, const uint8_t *url,
                         size_t length, bool has_map, sm_map *map, sm_error *error);
 
-/* Fills `map` with the index map of these sections, and changes `sections`: it is
-** empty afterwards. The file is optional, and so are the lists of a RAM bundle: the
-** line at which each module begins, SM_NONE if no module has the number, and the
-** path of each module. SM_UTF8 if the file or a path is not UTF-8, SM_WRONG_KIND if
-** `sections` holds no sections. On SM_OUT_OF_MEMORY `sections` may be empty; a handle
-** that holds no sections stays as it is, whatever the code. */
+/* Fills `map` with the index map of these sections, and changes `sections`: this handle
+** is empty afterwards. `file` is the name of the generated file. `offsets` and `paths`
+** are the lists of a RAM bundle: the generated line at which each module begins, or
+** SM_NONE if no module has the number, and the path of each module. All three are
+** optional: if `has_file`, `has_offsets` or `has_paths` is false, the index map has no
+** such part. SM_UTF8 if the file or a path is not UTF-8; SM_WRONG_KIND if `sections`
+** holds no list of sections. On SM_OUT_OF_MEMORY `sections` is as it was, or empty. A
+** handle that held no list of sections is as it was, whatever the call returns. */
 sm_code sm_sections_finish(sm_sections *sections, sm_map *map, bool has_file, const uint8_t *file, size_t length,
                            bool has_offsets, const uint32_t *offsets, size_t offset_count, bool has_paths,
                            const sm_text *paths, size_t path_count, sm_error *error);
@@ -551,9 +587,9 @@ sm_code sm_sections_finish(sm_sections *sections, sm_map *map, bool has_file, co
 ** BUILD
 **
 ** Each call but sm_builder_source() changes `builder`. A call that succeeds returns
-** SM_OK, and each but sm_builder_new() returns SM_WRONG_KIND if the handle holds no
-** builder; sm_builder_add_tokens() returns a count instead. The library copies the
-** texts. Ids count from 0.
+** SM_OK. Each call but sm_builder_new() returns SM_WRONG_KIND if the handle holds no
+** builder. sm_builder_add_tokens() returns a count instead of a code. The library
+** copies the texts. Ids count from 0.
 */
 
 /* Fills `builder` with a builder that has no items yet. `has_file` says whether
@@ -571,13 +607,15 @@ sm_code sm_builder_set_source_root(sm_builder *builder, bool present, const uint
 sm_code sm_builder_set_debug_id(sm_builder *builder, bool present, const sm_debug_id *id, sm_error *error);
 
 /* Adds a source and writes its id. A source that was added before has the id that
-** it had. SM_UTF8 if the text is not UTF-8; SM_INCOMPATIBLE past 4294967295 sources;
-** SM_WRONG_KIND if the handle holds no builder. Then `id` is as it was. */
+** it had. SM_UTF8 if the text is not UTF-8; SM_INCOMPATIBLE if the source is new and
+** there are 4294967295 sources already; SM_WRONG_KIND if the handle holds no builder.
+** On each error `id` is as it was. */
 sm_code sm_builder_add_source(sm_builder *builder, const uint8_t *text, size_t length, uint32_t *id, sm_error *error);
 
 /* Adds a name and writes its id. A name that was added before has the id that it
-** had. SM_UTF8 if the text is not UTF-8; SM_INCOMPATIBLE past 4294967295 names;
-** SM_WRONG_KIND if the handle holds no builder. Then `id` is as it was. */
+** had. SM_UTF8 if the text is not UTF-8; SM_INCOMPATIBLE if the name is new and there
+** are 4294967295 names already; SM_WRONG_KIND if the handle holds no builder. On each
+** error `id` is as it was. */
 sm_code sm_builder_add_name(sm_builder *builder, const uint8_t *text, size_t length, uint32_t *id, sm_error *error);
 
 /* The source of this id, before it is resolved against `sourceRoot`. The text is
@@ -585,17 +623,18 @@ sm_code sm_builder_add_name(sm_builder *builder, const uint8_t *text, size_t len
 ** if the handle holds no builder. */
 sm_code sm_builder_source(sm_builder *builder, uint32_t id, sm_text *text);
 
-/* Sets the text of a source, before it is resolved against `sourceRoot`. The source
-** that was added still has this id when it is added again. SM_UTF8 if the text is
-** not UTF-8; SM_ABSENT if there is no source of that id; SM_WRONG_KIND if the handle
-** holds no builder. */
+/* Sets the text of a source, before it is resolved against `sourceRoot`. The builder
+** remembers the text with which the source was added. If that text is added again,
+** sm_builder_add_source() writes the same id. SM_UTF8 if the text is not UTF-8;
+** SM_ABSENT if there is no source of that id; SM_WRONG_KIND if the handle holds no
+** builder. */
 sm_code sm_builder_set_source(sm_builder *builder, uint32_t id, const uint8_t *source, size_t length, sm_error *error);
 
 /* Cuts from each source the first of the `count` texts in `prefixes` that it begins
 ** with; a `/` is added to a prefix that does not end with one. The prefix `~` has no
-** special meaning. The sources that were added still have their ids when they are
-** added again. SM_UTF8 if a prefix is not UTF-8; SM_WRONG_KIND if the handle holds no
-** builder. */
+** special meaning. The builder remembers the text with which each source was added.
+** If such a text is added again, sm_builder_add_source() writes the same id. SM_UTF8 if
+** a prefix is not UTF-8; SM_WRONG_KIND if the handle holds no builder. */
 sm_code sm_builder_strip_prefixes(sm_builder *builder, const sm_text *prefixes, size_t count, sm_error *error);
 
 /* Sets or removes the contents of a source. SM_UTF8 if `present` is true and the
@@ -609,12 +648,13 @@ sm_code sm_builder_set_contents(sm_builder *builder, uint32_t id, bool present, 
 sm_code sm_builder_ignore_source(sm_builder *builder, uint32_t id, sm_error *error);
 
 /* Adds tokens, in any order. Ids that the builder does not have are kept, and name
-** nothing. A map with a source id that names nothing, unless it is SM_NONE, can be
-** written, but sm_open() refuses it: SM_BAD_SOURCE_REFERENCE. The original position of
-** a token without a source is not written. Returns how many were added, the first
-** ones: all, or fewer if memory ran out, or 0 if the handle holds no builder. If all
-** were added `error` is as it was, else its code is SM_OUT_OF_MEMORY or
-** SM_WRONG_KIND. The call may be made again with the rest. */
+** nothing. If a source id other than SM_NONE names nothing, the map can be written, but
+** sm_open() refuses the written text: SM_BAD_SOURCE_REFERENCE. The original position
+** of a token without a source is not written. Returns how many of the tokens were
+** added, counted from the first: all, or fewer if memory ran out, or 0 if the handle
+** holds no builder. If it holds a builder and all were added, `error` is as it was.
+** Else the code in `error` is SM_OUT_OF_MEMORY or SM_WRONG_KIND. After
+** SM_OUT_OF_MEMORY make the call again with the tokens that are not added yet. */
 size_t sm_builder_add_tokens(sm_builder *builder, const sm_token *tokens, size_t count, sm_error *error);
 
 /* Fills `map` with the regular map that was built, and empties `builder`. On
@@ -625,9 +665,9 @@ sm_code sm_builder_finish(sm_builder *builder, sm_map *map, sm_error *error);
 /*
 ** GENERATED TEXTS
 **
-** A line ends with a line feed, with a carriage return, or with a carriage return
-** and a line feed. A text has at least one line. The last one has no end, and may be
-** empty.
+** In a view a line ends with a line feed, with a carriage return, or with a carriage
+** return and a line feed. A text has at least one line. The last line ends where the
+** text ends, and may be empty. For sm_locate_reference() only a line feed ends a line.
 */
 
 /* Fills `view` with a copy of a text and the table of its lines. Returns SM_OK, or
@@ -648,8 +688,8 @@ sm_code sm_view_line(sm_view *view, uint32_t line, sm_text *text);
 
 /* A slice of a line: `span` UTF-16 units from column `column` on. If it would begin or
 ** end inside a surrogate pair, it begins or ends after the pair. The text is borrowed
-** from `view`. SM_ABSENT if there is no such line, or the slice passes its end;
-** SM_WRONG_KIND if the handle holds no view. */
+** from `view`. SM_ABSENT if there is no such line, or the slice passes the end of the
+** line; SM_WRONG_KIND if the handle holds no view. */
 sm_code sm_view_slice(sm_view *view, uint32_t line, uint32_t column, uint32_t span, sm_text *text);
 
 /* Fills `url` with the first reference to a map in a generated text, without
@@ -659,17 +699,19 @@ sm_code sm_view_slice(sm_view *view, uint32_t line, uint32_t column, uint32_t sp
 ** were. */
 sm_code sm_locate_reference(const uint8_t *text, size_t length, sm_bytes *url, bool *is_legacy, sm_error *error);
 
-/* Fills `result` with the URL that the reference `url` leads to from `base`, the URL
-** of its text. Returns SM_OK; SM_ABSENT if it leads nowhere, as a `data:` URL and
-** a base that is no URL, and perhaps of texts of 2^28 bytes or more; SM_UTF8 if either
-** is not UTF-8. */
+/* Fills `result` with the URL that the reference `url` is resolved to. `base` is the
+** URL of the generated text. Returns SM_OK; SM_ABSENT if `url` is a `data:` URL, if
+** `base` is no URL, or if `url` cannot be resolved against it; SM_UTF8 if either is not
+** UTF-8. It may also return SM_ABSENT if `base` has 2^28 bytes or more, or if the
+** parsed `base` and `url` together have. */
 sm_code sm_resolve(const uint8_t *url, size_t length, const uint8_t *base, size_t base_length, sm_bytes *result,
                    sm_error *error);
 
-/* Fills `result` with the path that the reference `url` leads to from `base`, the
-** path of its text. Returns SM_OK; SM_ABSENT if it leads nowhere, as a `data:` URL,
-** a URL that is not of a file and a base that does not begin with `/`, and perhaps of
-** texts of 2^28 bytes or more; SM_UTF8 if either is not UTF-8. */
+/* Fills `result` with the path that the reference `url` is resolved to. `base` is the
+** path of the generated text. Returns SM_OK; SM_ABSENT if `url` is a `data:` URL, if
+** `base` does not begin with `/`, or if `url` leads to no path of a file; SM_UTF8 if
+** either is not UTF-8. It may also return SM_ABSENT if the `file:` URL of `base` has
+** 2^28 bytes or more, or if this URL, parsed, and `url` together have. */
 sm_code sm_resolve_path(const uint8_t *url, size_t length, const uint8_t *base, size_t base_length, sm_bytes *result,
                         sm_error *error);
 
@@ -723,8 +765,8 @@ sm_code sm_parse_debug_id(const uint8_t *text, size_t length, sm_debug_id *id);
 ** the magic number. */
 sm_code sm_bundle_open(sm_bundle *bundle, const uint8_t *bytes, size_t length, sm_error *error);
 
-/* Writes how many numbers modules have, those without a module too. SM_WRONG_KIND if
-** the handle holds no bundle; then `modules` is as it was. */
+/* Writes how many module numbers the bundle has. A number without a module counts too.
+** SM_WRONG_KIND if the handle holds no bundle; then `modules` is as it was. */
 sm_code sm_bundle_count(sm_bundle *bundle, size_t *modules);
 
 /* The startup code. The bytes are borrowed from `bundle`, and need not be UTF-8.
@@ -734,20 +776,23 @@ sm_code sm_bundle_startup(sm_bundle *bundle, sm_text *bytes, sm_error *error);
 
 /* The bytes of a module. They are borrowed from `bundle`, and need not be UTF-8.
 ** SM_ABSENT if the module of that number is missing, SM_INVALID_BUNDLE_INDEX if the
-** number is past the last, SM_RANGE past the end of the bundle,
-** SM_INVALID_BUNDLE_ENTRY of an invalid entry, SM_WRONG_KIND if the handle holds no
-** bundle. Then `bytes` is as it was. */
+** number is past the last, SM_RANGE if the module or its entry passes the end of the
+** bundle, SM_INVALID_BUNDLE_ENTRY if the entry is invalid, SM_WRONG_KIND if the handle
+** holds no bundle. On each of these `bytes` is as it was. */
 sm_code sm_bundle_module(sm_bundle *bundle, size_t id, sm_text *bytes, sm_error *error);
 
 /* Fills `split` with the modules of a bundle, each with its name, its text and
-** its map, by the index map of the bundle. The split keeps nothing of the two other
-** handles. Items count from 0, and are not numbered as modules are: a missing module
-** has no item, and neither has one whose line in the index map is SM_NONE. An invalid
-** module has an item, for which sm_split_item() and sm_split_map() fail. A module is
-** invalid if its entry is, if its text is not UTF-8, if the list of lines does not
-** reach its number, or if no token is at the start of its line or before it. Returns
-** SM_OK; SM_NOT_A_BUNDLE if the index map has no list of lines; SM_CANNOT_FLATTEN as
-** sm_flatten(); SM_WRONG_KIND if `bundle` holds no bundle, or `index` no index map.
+** its map. `index` is the index map of the bundle. The split keeps nothing of the two
+** other handles. Items count from 0, and are not numbered as modules are. A missing
+** module has no item. A module that sm_bundle_module() can read has none either if its
+** line in the index map is SM_NONE. Each other module has an item. For an invalid
+** module sm_split_item() and sm_split_map() fail. A module is invalid if
+** sm_bundle_module() returns SM_RANGE or SM_INVALID_BUNDLE_ENTRY for it, if its text is
+** not UTF-8, if the list of lines in the index map ends before its number, or if the
+** flattened index map has no token at the start of the module's first line or before
+** it. Returns SM_OK; SM_NOT_A_BUNDLE if the index map has no list of lines;
+** SM_CANNOT_FLATTEN if sm_flatten() would return it for `index`; SM_WRONG_KIND if
+** `bundle` holds no bundle, or `index` no index map.
 ** Twelve bytes may claim 4294967295 modules: look at sm_bundle_count() before you split
 ** a bundle from an untrusted origin. */
 sm_code sm_bundle_split(sm_bundle *bundle, sm_map *index, sm_split *split, sm_error *error);

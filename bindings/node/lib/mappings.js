@@ -48,8 +48,9 @@ function build(mappings, sourceCount, nameCount) {
 }
 
 /**
- * Opens a map. The library gets the mappings, and the sources and names or how many
- * there are; all other fields stay in JavaScript.
+ * Opens a map. The library gets the mappings. If they are text it also gets
+ * `rangeMappings` and the sources and names, else only how many sources and names
+ * there are. All other fields stay in JavaScript.
  */
 function open({ sources, names, mappings, rangeMappings }) {
   if (Array.isArray(mappings)) return build(mappings, sources?.length ?? 0, names?.length ?? 0);
@@ -70,7 +71,8 @@ function linesOf(given) {
 
 /**
  * The mappings of a map: the library's handle, and their decoded and encoded
- * forms. Each form is the one that was given, or is made when it is first used.
+ * forms. The form that was given is kept, unless it is decoded and out of order.
+ * Any other form is made when it is first used.
  */
 class Mappings {
   #given;

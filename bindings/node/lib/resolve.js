@@ -26,8 +26,9 @@ function normalized(path, isAbsolute) {
 }
 
 /**
- * The text of a relative path. If `first`, the folder or without one the reference,
- * begins with `.`, `?` or `#`, so does the text: `./` may be put before it.
+ * The text of a relative path. `first` is the folder, or the reference if there is no
+ * folder. If `first` begins with `.`, `?` or `#`, and the path does not begin with `.`,
+ * then `./` is put before the path.
  */
 function relative(path, rest, first) {
   const whole = normalized(path, false);
@@ -51,7 +52,7 @@ function resolve(reference, folder) {
 /**
  * Returns a function that resolves the sources of a map: against its `sourceRoot`,
  * which is itself resolved against the folder of the map's URL. A null source
- * counts as the empty text. It is written here because the library joins sources
+ * counts as the empty text. JavaScript resolves them because the library joins sources
  * to `sourceRoot` as texts, and does not know the URL of the map.
  */
 function resolver(mapUrl, sourceRoot) {

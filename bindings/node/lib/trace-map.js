@@ -46,7 +46,7 @@ function ignoreListOf(fields) {
 /** Throws a TypeError if `map` is no TraceMap. */
 let checkTraceMap;
 
-/** The mappings of a TraceMap, and their tokens. They throw a TypeError for anything else. */
+/** These return the mappings of a TraceMap, and their tokens. Both throw a TypeError if the argument is no TraceMap. */
 let mappingsOf;
 let tokensOf;
 

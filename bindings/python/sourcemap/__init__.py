@@ -6,8 +6,8 @@
     coolstuff.js:0:4 name=x
 
 Lines and columns count from 0. Columns count UTF-16 units. The work is done by the shared library of
-`bindings/c`, whose functions are proved. `sourcemap.errors` has a class for each of its errors; if memory runs out,
-`MemoryError` is raised.
+`bindings/c`, whose functions are proved. `sourcemap.errors` has a class for each error of the library but out of
+memory, for which `MemoryError` is raised.
 
 Each object may be used by several threads: a lock lets one call at a time use it. Long calls release the
 interpreter's lock.

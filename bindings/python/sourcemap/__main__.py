@@ -56,7 +56,8 @@ def parser() -> argparse.ArgumentParser:
 
 
 def main(words: Optional[List[str]] = None) -> int:
-    """Runs the program and returns its exit status. An error is printed to standard error, and the status is 1."""
+    """Runs the program and returns its exit status. After an error, which is printed to standard error, it is 1. If the
+    reader closes the pipe it is 1 too, and nothing is printed. Wrong arguments raise `SystemExit` with the status 2."""
     arguments = parser().parse_args(words)
     try:
         status = int(arguments.run(arguments))

@@ -18,7 +18,7 @@ _BLOCK = 4096
 class NewToken(NamedTuple):
     """A token for `Builder.add_tokens`, with its source and its name by id.
 
-    Without a source leave out the original position.
+    For a token without a source leave out `line` and `column`: they are not written.
     """
 
     generated_line: int
@@ -66,12 +66,12 @@ class Builder(HandleOwner):
         return id.value
 
     def source(self, source_id: int) -> Optional[str]:
-        """The text of a source, before it is resolved against `source_root`; None if there is no such source."""
+        """The text of a source, not resolved against `source_root`; None if there is no such source."""
         return self._text(library.builder_source, uint32('source_id', source_id))
 
     def set_source(self, source_id: int, text: str) -> None:
-        """Sets the text of a source, before it is resolved against `source_root`. `Absent` if there is no such source.
-        `add_source` of the text that was first added still returns this id.
+        """Sets the text of a source, which the map resolves against `source_root`. `Absent` if there is no such source.
+        `add_source` still returns this id for the text with which the source was added.
 
         >>> import sourcemap
         >>> builder = sourcemap.Builder()
@@ -85,7 +85,8 @@ class Builder(HandleOwner):
 
     def strip_prefixes(self, prefixes: Iterable[str]) -> None:
         """Cuts from each source the first of these prefixes that it begins with. A prefix without `/` at its end gets
-        one; `'~'` has no special meaning here. `add_source` of the text that was first added still returns its id.
+        one; `'~'` has no special meaning here. `add_source` still returns a source's id for the text with which it was
+        added.
 
         >>> import sourcemap
         >>> builder = sourcemap.Builder()
@@ -116,9 +117,9 @@ class Builder(HandleOwner):
         self.add_tokens([token])
 
     def add_tokens(self, tokens: Iterable[NewToken]) -> None:
-        """Adds tokens, with their sources and names by id. An id that the builder does not have names nothing; a map
-        with such a source id can be written, but reading it raises `BadSourceReference`. If the call fails, some of the
-        tokens may have been added.
+        """Adds tokens, with their sources and names by id. An id that the builder does not have names nothing. Such a
+        name id is not written. A map with such a source id can be written, but reading what was written raises
+        `BadSourceReference`. If the call fails, some of the tokens may have been added.
 
         >>> import sourcemap
         >>> builder = sourcemap.Builder()

@@ -17,7 +17,7 @@ AnyBundle = TypeVar('AnyBundle', bound='Bundle')
 
 
 class Bundle(HandleOwner, Sequence[Optional[bytes]]):
-    """An indexed RAM bundle: a sequence of the bytes of its modules, None for each that is missing.
+    """An indexed RAM bundle, as a sequence. An item is the bytes of one module, or None if that module is missing.
 
     >>> import sourcemap
     >>> data = bytes.fromhex('e5d10bfb 01000000 02000000 02000000 04000000 6162 78797a 00')
@@ -27,7 +27,8 @@ class Bundle(HandleOwner, Sequence[Optional[bytes]]):
     """
 
     def __init__(self, data: Data) -> None:
-        """Copies the bytes of a bundle. `Scroll` below 12 bytes, `InvalidRamBundleMagic` if they are no bundle."""
+        """Copies the bytes of a bundle. Raises `Scroll` if there are less than 12 bytes, `InvalidRamBundleMagic` if
+        they do not begin with the magic number."""
         self._begin()
         run(library.bundle_open, self._at, *pointer_to(data))
 
@@ -43,7 +44,7 @@ class Bundle(HandleOwner, Sequence[Optional[bytes]]):
         return self._module_bytes(library.bundle_startup) or b''
 
     def __len__(self) -> int:
-        """How many modules the bundle has, missing ones among them."""
+        """How many modules the bundle has. Missing ones count too."""
         modules = c_size_t()
         self._read(library.bundle_count, byref(modules))
         return modules.value
@@ -55,7 +56,7 @@ class Bundle(HandleOwner, Sequence[Optional[bytes]]):
     def __getitem__(self, index: slice) -> List[Optional[bytes]]: ...
 
     def __getitem__(self, index: Union[int, slice]) -> Union[Optional[bytes], List[Optional[bytes]]]:
-        """The bytes of a module; None where it is missing. `InvalidRamBundleIndex` past the last one."""
+        """The bytes of a module; None if it is missing. A number past the last one raises `InvalidRamBundleIndex`."""
         if isinstance(index, slice):
             return [self._module(each) for each in range(*index.indices(len(self)))]
         number = operator.index(index)
@@ -80,8 +81,8 @@ class Bundle(HandleOwner, Sequence[Optional[bytes]]):
     def split(self, index: Map) -> Split:
         """The modules of the bundle, each with its name, its text and its map; `index` is the index map of the bundle.
 
-        A module that is missing, or has no line in the index map, gives no item. Raises `NotARamBundle` if the index
-        map has no `module_offsets`, and `CannotFlatten` as `Map.flatten` does. A bundle of 12 bytes may claim
+        A missing module has no item, nor has one whose line in `module_offsets` is None. Raises `NotARamBundle` if the
+        index map has no `module_offsets`, and `CannotFlatten` as `Map.flatten` does. A bundle of 12 bytes may claim
         4294967295 modules: check `len(bundle)` before you split an untrusted bundle.
         """
         made = Split._empty()
@@ -102,8 +103,8 @@ class Module(NamedTuple):
 
 
 class Split(HandleOwner, Sequence[Module]):
-    """The modules of a bundle with their maps, as a sequence, which `Bundle.split` makes. To read the item of an
-    invalid module raises `InvalidRamBundleEntry`."""
+    """The modules of a bundle with their maps, as a sequence, which `Bundle.split` makes. If a module is invalid,
+    reading its item raises `InvalidRamBundleEntry`."""
 
     def __len__(self) -> int:
         items = c_size_t()

@@ -9,10 +9,10 @@ What the engines count from, in the text of a trace:
   line.
 - SpiderMonkey: lines and columns from 1 (MDN, "Error.prototype.stack"). Version 102 prints column 1 for an expression
   at the beginning of a line. Versions before 30 print no column.
-- JavaScriptCore: lines and columns from 1. It is not documented, but WebKitGTK 2.50 prints column 15 for the call in
-  `function b(){a()}`, which begins at column 14: it points to the end of what is called.
+- JavaScriptCore: lines and columns from 1. This is not documented, but WebKitGTK 2.50 prints column 15 for the call in
+  `function b(){a()}`. The call begins at column 14; the printed column is where the called name `a` ends.
 
-Other engines may count columns from 0: the option `--columns-from` says so.
+Other engines may count columns from 0: traces of these need the option `--columns-from 0`.
 """
 
 from __future__ import annotations
@@ -24,13 +24,13 @@ from typing import NamedTuple, Optional
 FIRST_LINE = 1
 FIRST_COLUMN = 1
 
-# A longer line is no frame: it is a message, or a piece of minified text that was printed above the trace. It also
-# bounds the time of the patterns below.
+# A line of more characters than this is no frame: it is a message, or a piece of minified text that was printed above
+# the trace. This limit also bounds the time of the patterns below.
 LONGEST_FRAME = 8192
 
 
 class Span(NamedTuple):
-    """A piece of a line of a trace."""
+    """A piece of a line of a trace: the indexes of its first character, and of the first one after it."""
 
     start: int
     end: int
@@ -112,7 +112,7 @@ def _parse_at(text: str, at: re.Match[str]) -> Optional[Frame]:
 
 
 def _evaluated_script(evaluated: re.Match[str]) -> Optional[Span]:
-    """The location of evaluated code, if it names a script."""
+    """The location in evaluated code, if that location names a script; else None."""
     if evaluated['own'] is None or evaluated['own'].startswith('<anonymous>'):
         return None
     return Span(*evaluated.span('own'))
@@ -147,7 +147,8 @@ def _parse_bare(text: str) -> Optional[Frame]:
 
 
 def _located(text: str, span: Span, name: Optional[Span]) -> Optional[Frame]:
-    """The frame with its location at `span`; None if that is no file with a line."""
+    """The frame with its location at `span`. None if the text at `span` is no file with a line, or the file is a script
+    of the engine itself."""
     numbers = _NUMBERS.search(text[span.start : span.end])
     if numbers is None or numbers.start() == 0:
         return None

@@ -38,8 +38,9 @@ def open_map(path: Path) -> Map:
 
 
 def find_map(path: Path, text: bytes, root: Optional[Path] = None) -> Optional[Map]:
-    """The map of the generated text in a file: the one that the text refers to, or else the one beside it, in
-    `FILE.map`. With `root` only maps below that folder are used; a reference may name one by the end of its path."""
+    """The map of the generated text in a file: the one that the text refers to, or else the one in `FILE.map` beside
+    the file. None if there is neither. With `root` a reference leads only to files below that folder. If it leads to
+    none, the ends of its path are looked for below that folder, the longest first."""
     reference = locate_reference(text)
     if reference is not None and reference.url.startswith('data:'):
         return _flat(Map.from_data_url(reference.url))
@@ -121,8 +122,8 @@ class Finder:
         self._found: Dict[str, Optional[Generated]] = {}
 
     def find(self, file: str) -> Optional[Generated]:
-        """The map and the text of a file; None if there is no map. One that can't be read is reported once, on standard
-        error."""
+        """The map and the text of a file. None if there is no map, or if the map or the file can't be read. Such an
+        error is printed once for the file, on standard error."""
         if file not in self._found:
             path = next((path for path in self._candidates(file) if self._is_there(path)), None)
             self._found[file] = self._open(path)

@@ -109,7 +109,7 @@ def run(call: library.Call, *arguments: Any) -> None:
 class HandleOwner:
     """An object that owns a handle. The lock of the object lets one call at a time use the handle."""
 
-    # kept here: at the end of the interpreter the names of the module may be gone before the objects are
+    # kept in the class: when the interpreter ends, it may delete the names of the module before the last objects
     _close = staticmethod(library.close)
 
     # for an object whose __init__ did not run: a handle that stays empty
@@ -129,8 +129,8 @@ class HandleOwner:
         return self
 
     def close(self) -> None:
-        """Frees the memory at once, but for what a `share` still uses. Later calls raise `ValueError`; a second `close`
-        does nothing."""
+        """Frees the memory at once, except what another object shares with this one. Later calls raise `ValueError`; a
+        second `close` does nothing."""
         with self._lock:
             self._close(self._at)
 

@@ -102,13 +102,13 @@ class Map(HandleOwner):
 
     @classmethod
     def load(cls: Type[AnyMap], path: Union[str, 'os.PathLike[str]']) -> AnyMap:
-        """Reads a map of any kind from a file. Raises `OSError` if the file can't be read, else as `loads`."""
+        """Reads a map of any kind from a file. Raises `OSError` if the file can't be read, or an error of `loads`."""
         with open(path, 'rb') as file:
             return cls(file.read())
 
     @classmethod
     def loads(cls: Type[AnyMap], data: Data) -> AnyMap:
-        """Reads a map of any kind from JSON, after a junk header if there is one.
+        """Reads a map of any kind from JSON. A junk header before the JSON is skipped.
 
         >>> import sourcemap
         >>> sourcemap.Map.loads('{"version":3,"sources":["a.js"],"names":[],"mappings":"AAAA"}')
@@ -121,7 +121,8 @@ class Map(HandleOwner):
 
     @classmethod
     def from_data_url(cls: Type[AnyMap], url: str) -> AnyMap:
-        """Reads the map in a `data:` URL. Raises `InvalidDataUrl` if it is no data URL of a map, else as `loads`.
+        """Reads the map in a `data:` URL. Raises `InvalidDataUrl` if the text is no `data:` URL of JSON in base64, and
+        the errors of `loads` if the bytes in the URL are no map.
 
         >>> import sourcemap
         >>> map = sourcemap.Map.from_data_url('data:application/json;base64,eyJtYXBwaW5ncyI6IkEifQ==')
@@ -159,8 +160,8 @@ class Map(HandleOwner):
         return self.share()
 
     def equals(self, other: Map) -> bool:
-        """Whether both maps are of one kind and equal in all that they hold: also in how sources are written, and in
-        the order of all lists. A map equals itself.
+        """Whether both maps are of one kind and equal in all that they hold. Sources are compared as they are written,
+        before they are resolved. The order of each list counts. A map equals itself.
 
         >>> import sourcemap
         >>> map = sourcemap.Map.load('bundle.js.map')
@@ -275,8 +276,8 @@ class Map(HandleOwner):
 
     @property
     def module_offsets(self) -> Optional[Tuple[Optional[int], ...]]:
-        """Of the index map of a RAM bundle: the line at which each module begins, None for a number without a module.
-        None if the index map has no such list; `WrongKind` of other maps."""
+        """Of the index map of a RAM bundle: the line at which each module begins. An item is None if no module has its
+        number. The whole is None if the index map has no such list. Raises `WrongKind` of other maps."""
         lines: List[Optional[int]] = []
         block = (c_uint32 * BLOCK)()
         written = c_size_t(BLOCK)
@@ -371,8 +372,9 @@ class Map(HandleOwner):
 
     def lookup(self, line: int, column: int) -> Optional[Token]:
         """The closest token to a generated position: the first one at the position, or else the last one before it,
-        whichever line that is on. None if there is none. The `column` of a range token on the line looked up counts on
-        to the position. In an index map the section answers that begins last at the position or before it.
+        whichever line that is on. None if there is none. If it is a range token on the line looked up, the distance
+        from it to the position is added to its `column`, up to 4294967295. In an index map only the closest section is
+        asked: the first one that begins at the position, or else the last one before it.
 
         >>> import sourcemap
         >>> map = sourcemap.Map.load('bundle.js.map')
@@ -423,8 +425,8 @@ class Map(HandleOwner):
         [0, 2]
 
         Positions are pairs, or a buffer of uint32 with the line and the column of each in turn, such as an `array('I')`
-        or a memoryview. A buffer is not copied if it is writable, contiguous and aligned. Do not change it during the
-        call.
+        or a memoryview. A buffer that is writable, contiguous and aligned is not copied, unless the map is an index
+        map. Do not change a buffer during the call.
         """
         words = words_of(positions)
         count = words.nbytes // POSITION.size
@@ -440,8 +442,9 @@ class Map(HandleOwner):
         return Answers(shared._opened(), copied, memoryview(found)[:count * FOUND.size])
 
     def trace(self, positions: str) -> str:
-        """The answers to a list of positions, LINE:COLUMN on each line, both counted from 0: for each a line
-        SOURCE:LINE:COLUMN, with ` name=NAME` if there is a name, or `none`, or `bad position`.
+        """The answers to a list of positions, LINE:COLUMN on each line, both counted from 0. The answer to each is a
+        line SOURCE:LINE:COLUMN, with ` name=NAME` if there is a name. It is `none` if the position has no closest
+        token, and `bad position` if the line of the list is no position.
 
         >>> import sourcemap
         >>> map = sourcemap.Map.load('bundle.js.map')
@@ -456,8 +459,9 @@ class Map(HandleOwner):
     def function_name(self, line: int, column: int, minified: str = '', view: Optional[View] = None) -> Optional[str]:
         """The name of the function that contains a generated position; None if it is not known.
 
-        A Hermes map has the names itself, for line 0. With other maps the name is guessed from the generated text in
-        `view` and the minified name of the function.
+        A Hermes map has the names itself, but only for line 0, where `column` is the offset in the bytecode. On other
+        lines it gives None. With other maps the name is guessed from the generated text in `view` and the minified name
+        of the function.
         """
         line, column = uint32('line', line), uint32('column', column)
         text = View('') if view is None else view
@@ -478,12 +482,13 @@ class Map(HandleOwner):
             self._opened()
 
     def rewrite(self, *, names: bool = True, contents: bool = True, strip_prefixes: Iterable[str] = ()) -> None:
-        """Keeps only the sources, names and contents that tokens use, in the order of their first use. Sources are
-        resolved against `source_root`, which is removed, as is the ignore list. With `names=False` the names are
-        removed, with `contents=False` the contents. Raises `WrongKind` of an index map.
+        """Keeps only the sources and names that tokens use, in the order of their first use, and the contents of these
+        sources. Sources are resolved against `source_root`. Then `source_root` and the ignore list are removed.
+        `names=False` removes all names, `contents=False` all contents. Raises `WrongKind` of an index map.
 
-        From each source the first of `strip_prefixes` that it begins with is cut, completed by `/`. The prefix `'~'`
-        means the longest folder that all sources which are absolute paths have in common, and is tried last.
+        Cuts from each source the first of `strip_prefixes` that it begins with. A prefix without `/` at its end gets
+        one. The prefix `'~'` stands for a folder: the longest that all sources which are absolute paths before they
+        are resolved have in common. It is tried last.
 
         >>> import sourcemap
         >>> map = sourcemap.Map.loads('{"version":3,"sources":["/x/a.js","/x/b.js"],"names":[],"mappings":"ACAA"}')
@@ -495,9 +500,10 @@ class Map(HandleOwner):
         self._change(library.rewrite, names, contents, array_of(prefixes), len(prefixes))
 
     def flatten(self) -> None:
-        """Turns an index map into a regular map. If each section and all of its tokens come before the next section,
-        the regular map answers wherever the index map does, and the same. Raises `CannotFlatten` if that is impossible,
-        and `WrongKind` of other maps. Use `share` before if you need both:
+        """Turns an index map into a regular map. Wherever the index map gives an answer, the regular map gives the
+        same, under one premise: in the index map, and in each index map inside of it, each section and all its tokens
+        start before the next section. Raises `CannotFlatten` if it cannot make the regular map; the text of the error
+        says why. Raises `WrongKind` of other maps. Call `share` first if you need both maps:
 
         >>> import sourcemap
         >>> index = sourcemap.Map.loads('{"version":3,"sections":[{"offset":{"line":2,"column":0},'
@@ -522,7 +528,7 @@ class Map(HandleOwner):
         self._change(library.shift, uint32('lines', lines))
 
     def set_source(self, id: int, text: str) -> None:
-        """Sets the text of the source of this id, before it is resolved against `source_root`. `Absent` if there is no
+        """Sets the text of the source of this id, which the map resolves against `source_root`. `Absent` if there is no
         such source."""
         self._change(library.set_source, uint32('id', id), *pointer_to(text))
 

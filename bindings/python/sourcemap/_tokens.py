@@ -28,15 +28,17 @@ class Token(NamedTuple):
     """What a generated position maps to. Lines and columns count from 0, columns in UTF-16 units.
 
     `source`, `line` and `column` are the original position; all are None of a token without a source. The source is
-    resolved against `source_root`. `name` is the name there in the source, or None. A token with `is_range` also maps
-    the columns up to the next token, one by one.
+    resolved against `source_root`. `name` is the name that the token gives, or None. A token with `is_range` also maps
+    the columns after it on its line, up to the next token: a column that is N further on than the token maps to the
+    original column of the token plus N, at most to 4294967295.
 
     `generated_line` and `generated_column` are the generated position of the token itself, which may be before the
-    position looked up. In an index map they count from the beginning of the section that answers.
+    position looked up. In an index map they count from where the section that answers begins, the column only on the
+    first line of the section.
 
     `source_id` and `name_id` are indexes into `Map.sources` and `Map.names`, or None; of an index map they are None,
-    since it has no sources of its own. An id may name nothing: a `name_id` after `Map.remove_names`, or any id of a map
-    that was built.
+    since it has no sources of its own. An id may name nothing: after `Map.remove_names` each `name_id` does so, and in
+    a map that a `Builder` made any id may.
 
     >>> import sourcemap
     >>> with sourcemap.Map.load('bundle.js.map') as map:
@@ -114,7 +116,7 @@ class Answers(Sequence[Optional[Token]]):
     """
 
     def __init__(self, map: Map, positions: Optional[bytes], found: memoryview) -> None:
-        """Made by `Map.lookup_many`. Of an index map `positions` serve to read the texts of tokens; else it is None."""
+        """Made by `Map.lookup_many`. `positions` is None except for an index map: its texts are read by position."""
         self._map = map
         self._positions = positions
         self._found = found.toreadonly()
@@ -127,7 +129,7 @@ class Answers(Sequence[Optional[Token]]):
 
     @property
     def found(self) -> memoryview:
-        """For each position whether there is a token at it or before it, as bool."""
+        """For each position whether it has a closest token, as bool."""
         return self._flags(library.Found.found.offset)
 
     @property
@@ -137,7 +139,7 @@ class Answers(Sequence[Optional[Token]]):
 
     @property
     def generated_lines(self) -> memoryview:
-        """The generated line of each token; in an index map it counts from the section that answers."""
+        """The generated line of each token; in an index map it counts from where the section begins."""
         return self._numbers(library.Token.line.offset)
 
     @property

@@ -55,8 +55,9 @@ class View(HandleOwner, Sequence[str]):
         return self._text(library.view_line, uint32('line', number)) or ''
 
     def slice(self, line: int, column: int, span: int) -> Optional[str]:
-        """The part of a line from a column on, `span` UTF-16 units long; None if there is no such line or it ends
-        before. A column within a surrogate pair counts as the one after the pair."""
+        """The part of a line from `column` up to the column `span` UTF-16 units later. If it would begin or end inside
+        a surrogate pair, it begins or ends after the pair. None if there is no such line, or the part passes the end of
+        the line."""
         return self._text(library.view_slice, uint32('line', line), uint32('column', column), uint32('span', span))
 
     def __repr__(self) -> str:
@@ -72,8 +73,8 @@ class Reference(NamedTuple):
 
 
 def locate_reference(text: Data) -> Optional[Reference]:
-    """The first reference in a generated text to its map; None if there is none. `Io` if a line up to there is not
-    UTF-8.
+    """The first reference in a generated text to its map; None if there is none. `Io` if a line is not UTF-8, and no
+    line before it has a reference.
 
     >>> import sourcemap
     >>> sourcemap.locate_reference('run();\\n//# sourceMappingURL=run.js.map\\n')
@@ -89,8 +90,9 @@ def locate_reference(text: Data) -> Optional[Reference]:
 
 
 def resolve(url: str, base: str) -> Optional[str]:
-    """The URL that a reference leads to from the URL of its text. None if it leads nowhere, such as a `data:` URL, or
-    if `base` is no URL.
+    """The URL that the reference `url` leads to from `base`, the URL of its text. None if it leads to no URL, such as a
+    `data:` URL, or if `base` is no URL. May also be None if `url` and `base` together have 2^28 bytes or more; escapes
+    that parsing adds to `base` count too.
 
     >>> import sourcemap
     >>> sourcemap.resolve('../m/a.js.map', 'http://localhost/x/y/a.js')
@@ -100,8 +102,9 @@ def resolve(url: str, base: str) -> Optional[str]:
 
 
 def resolve_path(url: str, path: str) -> Optional[str]:
-    """The path that a reference leads to from the path of its text. None if it leads to no path, such as a `data:` URL
-    or a URL that is not of a file, or if `path` does not begin with `/`.
+    """The path that the reference `url` leads to from `path`, the path of its text. None if it leads to no path, such
+    as a `data:` URL or a URL that is not of a file, or if `path` does not begin with `/`. May also be None if
+    `url` and the `file:` URL of `path`, with its escapes, together have 2^28 bytes or more.
 
     >>> import sourcemap
     >>> sourcemap.resolve_path('../m/a.js.map', '/x/y/a.js')
@@ -134,7 +137,7 @@ def _made_of(call: library.Call, one: str, other: str) -> str:
 
 
 def is_source_map(data: Data) -> bool:
-    """Whether these bytes hold a source map, by the keys of their JSON value.
+    """Whether these bytes hold JSON with the keys of a source map. `Map.loads` may still refuse them.
 
     >>> import sourcemap
     >>> sourcemap.is_source_map('{"version":3,"sources":[],"mappings":""}'), sourcemap.is_source_map('[]')

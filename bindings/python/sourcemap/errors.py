@@ -35,7 +35,7 @@ class SourceMapError(Exception):
 
 
 class Io(SourceMapError, ValueError):
-    """A junk header has a carriage return without a newline, or a line before a reference is not UTF-8."""
+    """A junk header has a carriage return without a newline, or `locate_reference` met a line that is not UTF-8."""
 
     code = 1
 
@@ -47,7 +47,7 @@ class Utf8(SourceMapError, ValueError):
 
 
 class Scroll(SourceMapError, ValueError):
-    """A range passes the end of a bundle: `size` bytes from `start` on, of `length` bytes."""
+    """A range passes the end of a bundle. It has `size` bytes from `start` on; the bundle has `length` bytes."""
 
     code = 3
     start: int = 0
@@ -98,7 +98,7 @@ class BadNameReference(SourceMapError, ValueError):
 
 
 class IncompatibleSourceMap(SourceMapError, ValueError):
-    """The map is of another kind, or past a limit."""
+    """A count, a line or a column would pass its limit."""
 
     code = 11
 

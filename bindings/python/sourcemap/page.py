@@ -23,7 +23,7 @@ LAST_LINE = 10_000_000
 
 
 def page_text(name: str, generated: str, map: Map) -> str:
-    """The HTML of the page of a generated text and its map, which is no index map. `name` is the title."""
+    """The HTML of the page of a generated text and its map, which must not be an index map. `name` is the title."""
     before, _, rest = TEMPLATE.read_text('utf-8').replace('{{TITLE}}', html.escape(name)).partition('{{DATA}}')
     # In a script element `<` may begin its end tag. In JSON it occurs only in strings.
     data = json.dumps(_page_data(generated, map), ensure_ascii=False, separators=(',', ':')).replace('<', '\\u003c')

@@ -1,7 +1,8 @@
 """`python -m sourcemap stack`: a JavaScript stack trace with original positions.
 
-A frame is printed with the original name of its function, if the library finds that from the generated text. The name
-of the token at the position is not used: it names the expression there, mostly the function that is called.
+A frame is printed with the original name of its function, if `Map.function_name` finds this name. Else the name
+in the trace stays. The name of the token at the position is not used: it names the expression at the position, mostly
+the function that is called.
 """
 
 from __future__ import annotations
@@ -24,7 +25,7 @@ LONGEST_LINE = 100
 
 
 class Original(NamedTuple):
-    """The original position of a frame. Without `column` only the line is known."""
+    """The original position of a frame, counted from 0. If `column` is None only the line is known."""
 
     source: str
     source_id: int
@@ -38,8 +39,8 @@ class Original(NamedTuple):
 
 
 class Translator:
-    """Translates the lines of a trace. `columns_from` is the number of the first column of a line in it, `context`
-    how many lines of the source to print above a frame's line and below it."""
+    """Translates the lines of a trace. `columns_from` is the number that the trace uses for the first column of a line.
+    `context` is how many lines of the source to print above a frame's line, and how many below it."""
 
     def __init__(self, finder: Finder, columns_from: int = FIRST_COLUMN, context: int = 1) -> None:
         self._finder = finder
@@ -193,8 +194,10 @@ def add_arguments(parser: argparse.ArgumentParser) -> None:
 
 
 def run(arguments: argparse.Namespace) -> int:
-    """Translates standard input to standard output, line by line. Returns the exit status; errors of files are
-    raised. Input without a frame is no error: a program that did not fail may write into this filter."""
+    """Translates standard input to standard output, line by line. Returns the exit status. If the file of `--map` can't
+    be read, this raises an `OSError`; if it holds no map, the error is printed and the status is 1. An error of
+    another map is printed, and does not change the status. Input without a frame is no error: a program that did not
+    fail may write into this filter."""
     try:
         map = None if arguments.map is None else open_map(arguments.map)
     except SourceMapError as error:

@@ -14,7 +14,7 @@ use crate::utils::must;
 /// How many tokens are handed to the library by one call.
 const BLOCK: usize = 1024;
 
-/// A map that is being built. Tokens come in any order.
+/// A map that is being built. Tokens may be added in any order.
 ///
 /// ```
 /// let mut builder = sourcemap::SourceMapBuilder::new(Some("out.js"));
@@ -82,8 +82,8 @@ impl SourceMapBuilder {
         builder
     }
 
-    /// Adds a source with this id, which is the next one, also if another source has
-    /// its text.
+    /// Adds a new source, even if a source with the same text was added before. `id`
+    /// is the next free id, and the new source gets it.
     fn add_distinct_source(&mut self, id: u32, source: &str) {
         let mut added = source.to_owned();
         while self.add_source(&added) != id {
@@ -172,11 +172,12 @@ impl SourceMapBuilder {
         self.get_source_contents(src_id).is_some()
     }
 
-    /// Reads contents that sources lack from local files. A file is found by the text
-    /// of the source as it was added, resolved against `base_path`, which is resolved
-    /// against the current folder. Files that can't be read are left out. Returns how
-    /// many were read. Fails with [`Error::Io`](crate::Error::Io) if the current folder
-    /// is unknown.
+    /// For each source without contents, reads its contents from a local file. The
+    /// path of the file is the text of the source, as it was added, resolved against
+    /// the folder `base_path`. A relative `base_path` counts from the current
+    /// folder, and none is the current folder. Files that can't be read, or are not
+    /// UTF-8, are left out. Returns how many were read. Fails with
+    /// [`Error::Io`](crate::Error::Io) if the current folder is unknown.
     pub fn load_local_source_contents(&mut self, base_path: Option<&Path>) -> Result<usize> {
         let folder = local::folder(base_path)?;
         let mut loaded = 0;
@@ -238,7 +239,9 @@ impl SourceMapBuilder {
         token
     }
 
-    /// Adds a token of another map, with or without its name.
+    /// Adds a token of another map, with or without its name. Its source is added as
+    /// the other map resolves it against its source root. Its original column is
+    /// that of [`Token::get_src_col`].
     pub fn add_token(&mut self, token: &Token<'_>, with_name: bool) -> RawToken {
         let name = token.get_name().filter(|_| with_name);
         self.add(
@@ -252,8 +255,10 @@ impl SourceMapBuilder {
         )
     }
 
-    /// Removes from each source the first of these prefixes that it begins with.
-    /// A `/` is added to a prefix that does not end with one.
+    /// Removes prefixes from sources. If a source begins with several of these
+    /// prefixes, only the first of them in the list is removed. A `/` is added to a
+    /// prefix that does not end with one. The prefix `~` has no special meaning
+    /// here.
     pub fn strip_prefixes<S: AsRef<str>>(&mut self, prefixes: &[S]) {
         must(self.handle.strip_prefixes(prefixes));
     }

@@ -16,7 +16,7 @@ pub struct DebugId {
     bytes: [u8; 16],
 }
 
-/// A text is no debug id.
+/// The error of parsing a text that is no debug id.
 #[derive(Clone, Copy, Debug, PartialEq, Eq)]
 pub struct ParseDebugIdError;
 

@@ -27,15 +27,19 @@ impl SourceMapRef {
     }
 
     /// Returns the URL that the reference leads to from the URL of its text. Returns
-    /// none for a `data:` URL, if `minified_url` is no URL, and perhaps for texts of
-    /// 2^28 bytes or more.
+    /// none if the reference is a `data:` URL, or if `minified_url` or the reference
+    /// is rejected as a URL. May also return none if `minified_url` and the
+    /// reference together have 2^28 bytes or more. Escapes that parsing adds to
+    /// `minified_url` count too.
     pub fn resolve(&self, minified_url: &str) -> Option<String> {
         must(handle::resolve(self.get_url(), minified_url))
     }
 
-    /// Returns the path that the reference leads to from the path of its text. Returns
-    /// none for a URL that is not of a file, if the path is not UTF-8 or does not
-    /// begin with `/`, and perhaps for texts of 2^28 bytes or more.
+    /// Returns the path that the reference leads to from the path of its text.
+    /// Returns none if the reference is a `data:` URL or leads to no path of a file.
+    /// Returns none if `minified_path` is not UTF-8 or does not begin with `/`. May
+    /// also return none if the `file` URL of `minified_path`, with its escapes, and
+    /// the reference together have 2^28 bytes or more.
     pub fn resolve_path(&self, minified_path: &Path) -> Option<PathBuf> {
         resolve_path(self.get_url(), minified_path)
     }
@@ -51,7 +55,8 @@ impl SourceMapRef {
     }
 }
 
-/// The path that a reference leads to from a path. None if that is not UTF-8.
+/// The path that a reference leads to from the path `base`. None if `base` is not
+/// UTF-8, or if the reference leads to no path.
 pub(crate) fn resolve_path(reference: &str, base: &Path) -> Option<PathBuf> {
     must(handle::resolve_path(reference, base.to_str()?)).map(PathBuf::from)
 }

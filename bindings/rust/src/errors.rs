@@ -21,7 +21,8 @@ pub enum Error {
     Scroll(RangeError),
     /// Bytes that should be text are not UTF-8.
     Utf8(str::Utf8Error),
-    /// The text is not JSON, or not the JSON of a source map.
+    /// The text is not JSON, or the JSON is no object, or a field has the wrong type
+    /// for a source map.
     BadJson(JsonError),
     /// A segment ends within a number.
     VlqLeftover,
@@ -29,13 +30,14 @@ pub enum Error {
     VlqNoValues,
     /// A number of a segment is too large.
     VlqOverflow,
-    /// A segment has so many numbers, not 1, 4 or 5.
+    /// A segment has this many numbers. Only 1, 4 and 5 are valid.
     BadSegmentSize(u32),
     /// A segment names a source of this id, which does not exist.
     BadSourceReference(u32),
     /// A segment names a name of this id, which does not exist.
     BadNameReference(u32),
-    /// The map is of another kind than the call takes, or past a limit.
+    /// The map is of another kind than the call takes, or exceeds a limit: a count
+    /// of items, a line or a column would exceed 4294967295.
     IncompatibleSourceMap,
     /// A text is no data URL of a source map.
     InvalidDataUrl,
@@ -43,17 +45,20 @@ pub enum Error {
     CannotFlatten(String),
     /// A RAM bundle does not begin with its magic number.
     InvalidRamBundleMagic,
-    /// A RAM bundle has no module of that number, or a file in its folder of modules
-    /// is not named `NUMBER.js`.
+    /// The number of the module is past the last number of an indexed RAM bundle, or
+    /// a file in the folder of modules is not named `NUMBER.js`.
     InvalidRamBundleIndex,
-    /// A RAM bundle's entry of a module is malformed, or a bundle of files is too
-    /// large to be split.
+    /// The entry of a module in a RAM bundle is malformed, a module is invalid as
+    /// [`split_ram_bundle`](crate::ram_bundle::split_ram_bundle) says, or a bundle
+    /// of files is too large to be split.
     InvalidRamBundleEntry,
-    /// There is no RAM bundle.
+    /// The path is not that of the startup file of a bundle of files, or the index
+    /// map of a RAM bundle has no `x_facebook_offsets`.
     NotARamBundle,
-    /// No call returns it.
+    /// No call returns this error.
     InvalidRangeMappingIndex(Base64Error),
-    /// A byte of the mappings is no digit. The character is the one with its number.
+    /// A byte of a segment or of range mappings is no base64 digit. The value of
+    /// this byte is the number of the character.
     InvalidBase64(char),
     /// Memory ran out. A map that the call borrows is unchanged, and the call may be
     /// made again. A map that it takes by value is dropped.
@@ -63,9 +68,10 @@ pub enum Error {
 /// What is wrong with a JSON text.
 #[derive(Clone, Copy, Debug, PartialEq, Eq)]
 pub enum JsonError {
-    /// The text is not JSON.
+    /// The text is not JSON or not UTF-8, its JSON has more than 127 levels, or a
+    /// number in it is too large for an `f64`.
     Parse,
-    /// The text is JSON, but a field has the wrong type.
+    /// The text is JSON, but no object, or a field has the wrong type.
     Shape,
 }
 
@@ -76,7 +82,7 @@ pub struct RangeError {
     pub start: u64,
     /// How many bytes it should have.
     pub size: u64,
-    /// How many bytes there are.
+    /// How many bytes the bundle has.
     pub len: u64,
 }
 
@@ -202,12 +208,12 @@ impl error::Error for Error {
 }
 
 impl JsonError {
-    /// Returns whether the text is not JSON.
+    /// Returns whether this is [`JsonError::Parse`].
     pub fn is_syntax(&self) -> bool {
         *self == JsonError::Parse
     }
 
-    /// Returns whether the text is JSON, but a field has the wrong type.
+    /// Returns whether this is [`JsonError::Shape`].
     pub fn is_data(&self) -> bool {
         *self == JsonError::Shape
     }

@@ -12,8 +12,9 @@ use crate::utils::{must, write_all};
 
 /// A map of React Native's Hermes engine, with the scopes of its sources.
 ///
-/// The [`SourceMap`] that it dereferences to has no scopes. To clone, compare or write
-/// that alone copies it first.
+/// It dereferences to its [`SourceMap`], which has no scopes. The first call that
+/// clones, compares or writes this [`SourceMap`] alone copies the map without
+/// scopes. A change of the map drops that copy.
 pub struct SourceMapHermes {
     sm: SourceMap,
 }
@@ -49,14 +50,19 @@ impl SourceMapHermes {
         self.handle().written(|text| write_all(w, text))?
     }
 
-    /// Returns the name of the function at an offset of the bytecode. If the scopes of
-    /// its source are unsorted, the name is unspecified.
+    /// Returns the name of the function at an offset of the bytecode. The offset is
+    /// a column of generated line 0. The closest token to it leads to an original
+    /// position, and the function there has the name. Returns none if there is no
+    /// such token, function or name. If the functions of the token's source are not
+    /// in order, the result is unspecified.
     pub fn get_original_function_name(&self, bytecode_offset: u32) -> Option<&str> {
         self.handle().hermes_function_name(bytecode_offset)
     }
 
-    /// Returns the name of the function of a token on generated line 0, where Hermes
-    /// maps have their tokens. A token on another line has none.
+    /// Looks up the token's generated position in this map, and returns the name of
+    /// the function there. For a range token that a lookup on its own line returned,
+    /// it looks up the position of that lookup. Hermes maps have their tokens on
+    /// generated line 0. For a token on another line the call returns none.
     pub fn get_scope_for_token(&self, token: Token<'_>) -> Option<&str> {
         match token.looked_up() {
             (0, offset) => self.get_original_function_name(offset),

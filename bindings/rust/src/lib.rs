@@ -16,15 +16,18 @@
 //! # Threads
 //!
 //! Maps, builders, views and bundles may move to another thread (`Send`). None of
-//! them may be used by two threads at once (not `Sync`): each thread takes a
-//! clone of its own. A clone of a [`SourceMap`] or a [`SourceMapHermes`] shares
-//! the map, and copies nothing. A clone of a [`SourceView`] or a RAM bundle copies
-//! its text.
+//! them may be used by two threads at once (not `Sync`). Give each thread its own
+//! clone of the map, view or bundle. Builders have no clone. A clone of a
+//! [`SourceMap`] or a [`SourceMapHermes`] shares the map, and copies nothing. The
+//! exception is the [`SourceMap`] in a [`SourceMapHermes`]: cloning it may copy the
+//! map, without scopes. A clone of a [`SourceView`] copies its text, and a clone of
+//! a RAM bundle copies its bytes.
 //!
 //! # Panics
 //!
 //! If the library runs out of memory, calls that do not return a [`Result`] panic.
-//! [`is_sourcemap`] and [`is_sourcemap_slice`] return false.
+//! Only [`is_sourcemap`] and [`is_sourcemap_slice`] return false then, and do not
+//! panic.
 
 #![deny(unsafe_code)]
 #![warn(missing_docs)]

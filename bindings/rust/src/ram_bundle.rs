@@ -92,9 +92,10 @@ impl<'a> RamBundle<'a> {
         RamBundle::parse_indexed_from_vec(fs::read(path)?)
     }
 
-    /// Reads a bundle of files. The path is that of the startup file, beside
-    /// which the folder `js-modules` has a file `NUMBER.js` for each module and
-    /// the file `UNBUNDLE`.
+    /// Reads a bundle of files. The path is that of the startup file. Beside this
+    /// file is the folder `js-modules`. The folder has the file `UNBUNDLE`, and a
+    /// file `NUMBER.js` for each module. Fails with [`Error::NotARamBundle`] if
+    /// [`is_unbundle_path`] returns false for the path.
     pub fn parse_unbundle_from_path(bundle_path: &Path) -> Result<Self> {
         let repr = Repr::Unbundle(Unbundle::read(bundle_path)?);
         Ok(RamBundle { repr })
@@ -114,8 +115,9 @@ impl<'a> RamBundle<'a> {
         }
     }
 
-    /// Returns a module, or none if the number has no module. In an indexed bundle a
-    /// number past the last one is [`Error::InvalidRamBundleIndex`].
+    /// Returns the module with this number, or none if there is no such module. In
+    /// an indexed bundle a number that is not less than [`RamBundle::module_count`]
+    /// is [`Error::InvalidRamBundleIndex`]; in a bundle of files it is none.
     pub fn get_module(&self, id: usize) -> Result<Option<RamBundleModule<'_>>> {
         let data = match &self.repr {
             Repr::Indexed(indexed) => indexed.handle.module(id)?,
@@ -124,7 +126,9 @@ impl<'a> RamBundle<'a> {
         Ok(data.map(|data| RamBundleModule { id, data }))
     }
 
-    /// Returns how many numbers modules have, those without a module too.
+    /// Returns how many numbers of modules the bundle has. Numbers count from 0, and
+    /// some may have no module. In a bundle of files this is the largest number plus
+    /// 1, or 1 if there are no modules.
     pub fn module_count(&self) -> usize {
         match &self.repr {
             Repr::Indexed(indexed) => indexed.handle.module_count(),
@@ -245,7 +249,7 @@ fn zeros(size: usize) -> Result<Vec<u8>> {
     Ok(vec![0; size])
 }
 
-/// A number of an indexed bundle.
+/// A number in the four bytes that an indexed bundle has for it.
 fn number_bytes(number: usize) -> Result<[u8; 4]> {
     let number = u32::try_from(number).map_err(|_| Error::InvalidRamBundleEntry)?;
     Ok(number.to_le_bytes())
@@ -329,12 +333,16 @@ fn split_item(split: &SplitHandle, item: usize) -> Result<(String, SourceView, S
 /// Splits a bundle into its modules, each with its file name, its text and its
 /// map, by the index map of the bundle.
 ///
-/// The iterator skips modules that are missing, and those for which the list
-/// [`SourceMapIndex::x_facebook_offsets`] has no line. It returns
-/// [`Error::InvalidRamBundleEntry`] for each invalid module: its entry is malformed, its
-/// text is not UTF-8, the list does not reach its number, or no token is at the start of
-/// its line or before it. The split itself fails with [`Error::NotARamBundle`] if the
-/// index map has no such list, and where [`SourceMapIndex::flatten`] fails.
+/// A module begins on the line that the list [`SourceMapIndex::x_facebook_offsets`]
+/// has for its number. The iterator skips modules that are missing, and modules for
+/// which the list has none. It returns [`Error::InvalidRamBundleEntry`] for each
+/// invalid module. A module is invalid if its entry in the bundle is malformed, if
+/// its text is not UTF-8, or if the list is too short to have its number. It is also
+/// invalid if the flat map has no token at or before the start of the module's first
+/// line. The split itself fails if [`SourceMapIndex::flatten`] fails, and with
+/// [`Error::NotARamBundle`] if the index map has no such list. For a bundle of files
+/// it fails with [`Error::InvalidRamBundleEntry`] if a number or a size in the
+/// indexed form of the bundle exceeds 4294967295.
 pub fn split_ram_bundle<'a>(
     ram_bundle: &'a RamBundle<'_>,
     smi: &SourceMapIndex,

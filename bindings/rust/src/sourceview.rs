@@ -48,8 +48,10 @@ impl SourceView {
         self.handle.line(idx)
     }
 
-    /// Returns the part of a line that begins at a column and has `span` UTF-16 units.
-    /// A character belongs to the part if its first unit does.
+    /// Returns the part of a line that begins at a column and has `span` UTF-16
+    /// units. If the part would begin or end inside a character of two units, it
+    /// begins or ends after this character. Returns none if there is no such line,
+    /// or if the line is too short.
     pub fn get_line_slice(&self, line: u32, col: u32, span: u32) -> Option<&str> {
         self.handle.slice(line, col, span)
     }
@@ -67,9 +69,10 @@ impl SourceView {
         self.handle.source()
     }
 
-    /// Guesses the original name of the function that contains a token, by its minified
-    /// name, as [its map](crate::SourceMap::get_original_function_name) does. This view
-    /// is the generated text of that map.
+    /// Guesses the original name of the function that contains a token, as [the
+    /// token's map](crate::SourceMap::get_original_function_name) does.
+    /// `minified_name` is the name of the function in the generated text. Call this
+    /// on a view of the generated text of that map.
     pub fn get_original_function_name<'map>(
         &self,
         token: Token<'map>,

@@ -9,7 +9,7 @@ use crate::errors::Result;
 use crate::ffi;
 use crate::types::RawToken;
 
-/// What a map is.
+/// The kind of a map.
 #[derive(Clone, Copy, Debug, PartialEq, Eq)]
 pub(crate) enum Kind {
     Regular,
@@ -36,7 +36,7 @@ pub(crate) struct Span {
 }
 
 impl Span {
-    /// No position has this answer.
+    /// A span without positions.
     pub fn empty() -> Span {
         Span {
             from: Cell::default(),
@@ -62,7 +62,7 @@ impl Span {
         self.found.get().token
     }
 
-    /// Whether the answer is that to this position.
+    /// Whether the answer of the span also answers this position.
     #[inline]
     pub fn has(&self, position: (u32, u32)) -> bool {
         // One comparison, since which of two positions is the later one can't be
@@ -71,7 +71,8 @@ impl Span {
         Span::number(position).wrapping_sub(from) < self.until().wrapping_sub(from)
     }
 
-    /// The span of an answer that was written for this position.
+    /// Sets where the span begins, after the library wrote the answer for this
+    /// position. The span of a range token is empty.
     #[inline]
     fn begin_at(&self, position: (u32, u32)) {
         // The column of a range token is that of one position alone.

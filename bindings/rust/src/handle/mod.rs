@@ -2,8 +2,9 @@
 //!
 //! This module keeps to what `sourcemap.h` asks of a caller. A handle is used by one
 //! call at a time, since it is not `Sync` and the library does not call Rust code. A
-//! text that points into a handle is borrowed from it, and what changes a handle
-//! takes it mutably. A pointer is never null, not even that of an empty slice.
+//! text that points into a handle is borrowed from it. A function that changes a
+//! handle borrows the handle mutably. A pointer is never null, not even that of an
+//! empty slice.
 
 mod build;
 mod bundle;
@@ -172,7 +173,8 @@ fn check(call: impl FnOnce(*mut ffi::Error) -> ffi::Code) -> Result<()> {
     }
 }
 
-/// Makes a call, and returns its error, or whether there was what it asks for.
+/// Makes a call. Returns true if it succeeds, false if it returns `SM_ABSENT`, else
+/// its error.
 fn check_if_any(call: impl FnOnce(*mut ffi::Error) -> ffi::Code) -> Result<bool> {
     let mut error = ffi::Error::NONE;
     match call(&mut error) {

@@ -52,8 +52,8 @@ impl DecodedMap {
         }
     }
 
-    /// Returns the closest token to a generated position. Sections of an index
-    /// map that have only a URL answer nothing.
+    /// Returns the closest token to a generated position. In an index map, a section
+    /// without a map answers nothing.
     #[inline]
     pub fn lookup_token(&self, line: u32, col: u32) -> Option<Token<'_>> {
         let sm = match self {
@@ -64,9 +64,10 @@ impl DecodedMap {
         sm.lookup_token(line, col)
     }
 
-    /// Returns the original name of the function at a generated position. A
-    /// Hermes map has it itself, for line 0; other maps need the minified name
-    /// and the generated text.
+    /// Returns the original name of the function at a generated position. A Hermes
+    /// map has such names itself, for positions on line 0, and returns none for
+    /// other lines. Other maps guess the name from the minified name and the
+    /// generated text, and return none if one of these is missing.
     pub fn get_original_function_name(
         &self,
         line: u32,

@@ -12,8 +12,8 @@ use crate::sourceview::SourceView;
 use crate::types::{DecodedMap, RewriteOptions, SourceMap, Token};
 use crate::utils::{must, write_all};
 
-/// A section of an index map: where it begins, and its map, the URL of a map, both
-/// or neither.
+/// A section of an index map. It has a start, and may have a map, the URL of a map,
+/// both or neither.
 #[derive(Debug, Clone, PartialEq)]
 pub struct SourceMapSection {
     offset: (u32, u32),
@@ -27,8 +27,8 @@ pub struct SourceMapSectionIter<'a> {
     next: u32,
 }
 
-/// An index map: a list of sections, each with a map, the URL of a map, both or
-/// neither.
+/// An index map: a list of sections. Each section has a map, the URL of a map, both
+/// or neither.
 pub struct SourceMapIndex {
     // Either the handle exists, and the lists are read from it on first use; or all
     // fields below are set, and the handle is made of them on first use.
@@ -52,8 +52,9 @@ impl SourceMapIndex {
         }
     }
 
-    /// Makes an index map of its parts. Lookups need sections in the order of their
-    /// offsets.
+    /// Makes an index map of its parts. Give the sections in the order of their
+    /// offsets, since lookups need this order. In another order a lookup may return
+    /// the wrong token, or none.
     ///
     /// ```
     /// use sourcemap::{SourceMapIndex, SourceMapSection};
@@ -108,7 +109,8 @@ impl SourceMapIndex {
         Ok(map)
     }
 
-    /// Reads all parts from the handle and drops it. It is made anew on its next use.
+    /// Reads all parts from the handle, then drops the handle. The next call of
+    /// [`SourceMapIndex::handle`] makes a new one.
     fn let_go(&mut self) {
         self.section_list();
         self.x_facebook_offsets();
@@ -166,13 +168,15 @@ impl SourceMapIndex {
         self.handle().counts().sections
     }
 
-    /// Returns the section of this index.
+    /// Returns the section with this number, counted from 0, or none if there is no
+    /// such section.
     pub fn get_section(&self, idx: u32) -> Option<&SourceMapSection> {
         self.section_list().get(idx as usize)
     }
 
-    /// Returns the section of this index, to be changed. The index map is then
-    /// made anew when it is next asked.
+    /// Returns the section with this number, to be changed. The next call that the
+    /// library answers then builds the index map anew. Lookups of tokens, and calls
+    /// that return sections, do not build it.
     pub fn get_section_mut(&mut self, idx: u32) -> Option<&mut SourceMapSection> {
         self.get_section(idx)?;
         self.let_go();
@@ -197,10 +201,13 @@ impl SourceMapIndex {
             .function_name((line, col), minified_name, sv.handle())
     }
 
-    /// Returns the closest token to a generated position. The section that begins
-    /// last at the position or before it answers: of several at the position itself
-    /// the first, of several before it the last. The token is that of the section's
-    /// map, and its generated position counts from where the section begins.
+    /// Returns the closest token to a generated position. Only one section is
+    /// searched: the first section that begins at the position, else the last
+    /// section that begins before it. If this section has no map, there is no token.
+    /// The token is one of the section's map; if index maps are nested, one of the
+    /// innermost section's map. Its generated line counts from the first line of that
+    /// section. On that line its generated column counts from the column where the
+    /// section begins.
     pub fn lookup_token(&self, line: u32, col: u32) -> Option<Token<'_>> {
         let section = self.closest_section((line, col))?;
         let (first_line, first_col) = section.offset;
@@ -226,10 +233,12 @@ impl SourceMapIndex {
         }
     }
 
-    /// Returns this map as one regular map. If each section and all of its tokens come
-    /// before the next section, the regular map answers wherever this one does, and
-    /// the same. Fails with [`Error::CannotFlatten`] if a section has no map, there
-    /// are too many sources or names, or a position would pass 4294967295.
+    /// Returns this map as one regular map. Wherever the index map has an answer,
+    /// the regular map has the same. One premise: in the index map, and in each
+    /// index map inside of it, each section and all its tokens start before the next
+    /// section. Fails with [`Error::CannotFlatten`] if a section has no map, if
+    /// there are more than 4294967295 sources or names, or if a line or column of a
+    /// token would exceed 4294967295.
     pub fn flatten(&self) -> Result<SourceMap> {
         let mut flat = self.handle().share()?;
         flat.flatten()?;
@@ -247,8 +256,9 @@ impl SourceMapIndex {
         self.x_facebook_offsets().is_some() && self.x_metro_module_paths().is_some()
     }
 
-    /// Returns the line at which each module of a RAM bundle begins, and none for a
-    /// number without a module.
+    /// Returns the list of the lines at which the modules of a RAM bundle begin, by
+    /// the numbers of the modules. An item is none if no module has its number.
+    /// Returns none if the map has no such list.
     pub fn x_facebook_offsets(&self) -> Option<&[Option<u32>]> {
         let offsets = self
             .module_offsets
@@ -256,7 +266,8 @@ impl SourceMapIndex {
         offsets.as_deref()
     }
 
-    /// Returns the paths of the modules of a RAM bundle.
+    /// Returns the paths of the modules of a RAM bundle, or none if the map has no
+    /// such list. In a decoded map an empty list counts as none.
     pub fn x_metro_module_paths(&self) -> Option<&[String]> {
         let paths = self
             .module_paths
@@ -264,8 +275,8 @@ impl SourceMapIndex {
         paths.as_deref()
     }
 
-    /// Moves each section so many lines further down. Returns false, and changes
-    /// nothing, if one would pass line 4294967295.
+    /// Moves each section down by `amount` lines. Returns false, and changes
+    /// nothing, if a section would pass line 4294967295.
     pub fn adjust_sections_offset_rows(&mut self, amount: u32) -> bool {
         let is_possible = must(self.handle_mut().shift(amount));
         if is_possible {

@@ -18,10 +18,12 @@ use crate::types::{
 };
 use crate::utils::{must, write_all};
 
-/// A regular map: no index.
+/// A regular map, which has no sections.
 ///
 /// It may move to another thread. Two threads that use one map need a
-/// [`clone`](Clone::clone) each, which shares the map and copies nothing.
+/// [`clone`](Clone::clone) each. A clone shares the map and copies nothing. The
+/// exception is the map in a Hermes map: cloning it may copy the map, without
+/// scopes.
 pub struct SourceMap {
     handle: MapHandle,
     ignored: OnceCell<Box<[u32]>>,
@@ -102,10 +104,10 @@ impl SourceMap {
         self.regular_handle().data_url()
     }
 
-    /// Makes a map of its parts. Tokens come in any order. Sources that
-    /// `sources_content` does not reach have no contents, and contents past the last
-    /// source are dropped. Equal names are kept once, with one id; equal sources are
-    /// kept apart.
+    /// Makes a map of its parts. The tokens that you pass may be in any order.
+    /// Sources that `sources_content` does not reach have no contents, and contents
+    /// past the last source are dropped. Equal names are kept once, with one id;
+    /// equal sources are kept apart.
     pub fn new(
         file: Option<Arc<str>>,
         tokens: Vec<RawToken>,
@@ -162,7 +164,8 @@ impl SourceMap {
             .iter()
     }
 
-    /// Returns the token of this index.
+    /// Returns the token with this number, counted from 0, or none if there is no
+    /// such token.
     pub fn get_token(&self, idx: usize) -> Option<Token<'_>> {
         let raw = self.raw_token(u32::try_from(idx).ok()?)?;
         Some(Token::listed(self, raw))
@@ -198,10 +201,14 @@ impl SourceMap {
         Some(Token::answered(self, self.kept.token(), position))
     }
 
-    /// Returns the original name of the function at a generated position, by its
-    /// minified name and the generated text. It is a guess: going back from the
-    /// position, it looks for a token at the minified name that follows a token at the
-    /// word `function`.
+    /// Guesses the original name of the function at a generated position.
+    /// `minified_name` is the name of this function in the generated text, and `sv`
+    /// is a view of that text. The search begins at the closest token and goes back
+    /// over at most 128 tokens. It stops at the first token for which the generated
+    /// text has `minified_name` at the token's position, and `function` at the
+    /// position of the token before it. Returns the name of the token at
+    /// `minified_name`, or none if there is no such token, if it has no name, or if
+    /// `minified_name` is no identifier.
     pub fn get_original_function_name(
         &self,
         line: u32,
@@ -223,7 +230,8 @@ impl SourceMap {
         self.handle.source(idx)
     }
 
-    /// Sets the text of a source, before it is resolved against the source root.
+    /// Sets the text of a source. This is the text that is then resolved against the
+    /// source root.
     ///
     /// # Panics
     ///
@@ -290,7 +298,8 @@ impl SourceMap {
         self.handle.name(idx)
     }
 
-    /// Removes the names. Tokens keep their ids, which then name nothing.
+    /// Removes the names. Tokens keep their name ids, and these ids then name
+    /// nothing.
     pub fn remove_names(&mut self) {
         must(self.handle_mut().remove_names());
     }
@@ -322,19 +331,21 @@ impl SourceMap {
         Ok(SourceMap::of_handle(self.handle))
     }
 
-    /// Adjusts the map by the map of a later text that was made of the generated text
-    /// of this one. Then this map answers positions of the later text.
+    /// Adjusts this map to a later step of a tool chain. The input of that step is
+    /// the generated text of this map, and `adjustment` is the map of its output.
+    /// Afterwards this map answers positions of that output.
     ///
     /// # Panics
     ///
-    /// Where [`SourceMap::try_adjust_mappings`] fails.
+    /// If [`SourceMap::try_adjust_mappings`] fails.
     pub fn adjust_mappings(&mut self, adjustment: &SourceMap) {
         must(self.try_adjust_mappings(adjustment));
     }
 
-    /// As [`SourceMap::adjust_mappings`]. Fails with
-    /// [`Error::IncompatibleSourceMap`] if a token would pass the last column, or
-    /// this is the map in a Hermes map; the map is then as it was.
+    /// Adjusts this map, as [`SourceMap::adjust_mappings`] does. Fails with
+    /// [`Error::IncompatibleSourceMap`] if a generated column would exceed
+    /// 4294967295, or if this is the map in a Hermes map. A call that fails leaves
+    /// this map as it was.
     pub fn try_adjust_mappings(&mut self, adjustment: &SourceMap) -> Result<()> {
         self.handle_mut().compose(adjustment.regular_handle())
     }
@@ -367,7 +378,8 @@ impl SourceMap {
             .find_map(|(index, other)| (other == token).then_some(index))
     }
 
-    /// The closest token to a position as it is in the list.
+    /// The closest token to a position, with its numbers as they are in the list of
+    /// tokens.
     pub(crate) fn closest(&self, (line, column): (u32, u32)) -> Option<RawToken> {
         self.raw_token(self.handle.lookup_index(line, column)?)
     }
@@ -379,8 +391,9 @@ impl Clone for SourceMap {
     }
 }
 
-/// Maps are equal if they hold the same: also in how sources are written, and in
-/// the order of all lists.
+/// Maps are equal if all that they hold is equal. Sources count as they are written,
+/// before they are resolved. The order of all lists counts, and so does the length
+/// of the list of contents.
 impl PartialEq for SourceMap {
     fn eq(&self, other: &SourceMap) -> bool {
         self.regular_handle() == other.regular_handle()

@@ -13,13 +13,15 @@ pub struct RewriteOptions<'a> {
     /// Whether contents that the map lacks, or does not keep, are read from local
     /// files.
     pub load_local_source_contents: bool,
-    /// The folder against which local files are resolved, itself resolved
-    /// against the current folder.
+    /// The folder against which sources are resolved to find their local files. A
+    /// relative path counts from the current folder. None is the current folder.
     pub base_path: Option<&'a Path>,
-    /// From each source the first of these that it begins with is removed. A `/` is
-    /// added to a prefix that does not end with one. The prefix `~` means the longest
-    /// folder that all sources which are absolute paths have in common, before they
-    /// are resolved against the source root, and is tried last.
+    /// Prefixes to remove from sources. If a source begins with several of them,
+    /// only the first of these in the list is removed. A `/` is added to a prefix
+    /// that does not end with one. The prefix `~` is tried last. It means the
+    /// longest folder that all sources with absolute paths have in common. For this
+    /// folder, sources count as they are written, not as resolved against the source
+    /// root.
     pub strip_prefixes: &'a [&'a str],
 }
 

@@ -14,18 +14,20 @@ pub struct RawToken {
     pub dst_line: u32,
     /// The column of the generated text, from 0.
     pub dst_col: u32,
-    /// The line of the source, from 0. In a map that was read it is `!0` without a
+    /// The original line, from 0. In a decoded map it is `!0` if the token has no
     /// source.
     pub src_line: u32,
-    /// The column of the source, from 0. In a map that was read it is `!0` without a
+    /// The original column, from 0. In a decoded map it is `!0` if the token has no
     /// source.
     pub src_col: u32,
     /// The id of the source, or `!0` without one.
     pub src_id: u32,
     /// The id of the name, or `!0` without one.
     pub name_id: u32,
-    /// Whether the token maps a range: the columns after it on its line, up to the
-    /// next token, map to columns as far after its original column.
+    /// Whether the token is a range token. It then also maps the columns after it,
+    /// on its own generated line and before the next token. A column that lies N
+    /// columns after the token maps to N columns after its original column, but at
+    /// most to 4294967295.
     pub is_range: bool,
 }
 
@@ -47,8 +49,9 @@ impl RawToken {
 
 /// A token of a map, which it borrows.
 ///
-/// Tokens are ordered, and equal, by what they say: the generated position, the
-/// source, its line and column, the name, and whether they map a range.
+/// The order and the equality of tokens compare what the getters return, in this
+/// order: the generated position, the text of the source, the original position, the
+/// text of the name, and whether it is a range token.
 #[derive(Copy, Clone)]
 pub struct Token<'a> {
     sm: &'a SourceMap,
@@ -122,20 +125,22 @@ impl<'a> Token<'a> {
         self.answer.dst()
     }
 
-    /// Returns the line of the source. In a map that was read it is `!0` without a
+    /// Returns the original line. In a decoded map it is `!0` if the token has no
     /// source.
     pub fn get_src_line(&self) -> u32 {
         self.answer.src_line
     }
 
-    /// Returns the column of the source. In a map that was read it is `!0` without a
-    /// source. If a lookup returned a range token, and the position is on its line, as
-    /// many columns are added as lie between the token and the position.
+    /// Returns the original column. In a decoded map it is `!0` if the token has no
+    /// source. If a lookup returned a range token for a position on the token's
+    /// line, the distance in columns from the token to that position is added. The
+    /// sum stops at 4294967295.
     pub fn get_src_col(&self) -> u32 {
         self.answer.src_col
     }
 
-    /// Returns the line and the column of the source.
+    /// Returns the original line and column, as [`Token::get_src_line`] and
+    /// [`Token::get_src_col`] do.
     pub fn get_src(&self) -> (u32, u32) {
         (self.get_src_line(), self.get_src_col())
     }
@@ -152,7 +157,8 @@ impl<'a> Token<'a> {
             .flatten()
     }
 
-    /// Returns whether the token has a source.
+    /// Returns whether the token has a source id other than `!0`. In a map that was
+    /// built, such an id may name no source.
     pub fn has_source(&self) -> bool {
         self.answer.src_id != !0
     }
@@ -174,7 +180,8 @@ impl<'a> Token<'a> {
         self.answer.name_id
     }
 
-    /// Returns the source or the empty text, its line and column, and the name.
+    /// Returns the source, the original line, the original column and the name. The
+    /// source is the empty text if [`Token::get_source`] returns none.
     pub fn to_tuple(&self) -> (&'a str, u32, u32, Option<&'a str>) {
         (
             self.get_source().unwrap_or_default(),
