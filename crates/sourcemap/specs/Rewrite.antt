@@ -1,4 +1,5 @@
--- The map that a map is rewritten to, and what its positions mean.
+-- Rewriting of a regular map: the options, the rewritten map or the error, and the contents that are read from files.
+-- The meaning of each generated position in the rewritten map, compared with its meaning in the old map.
 pub use Rattle.sourcemap_map_rewrite.specs.Options.{Removal, removal_of, options_folder, IsDefault, no_removal}
 pub use Rattle.sourcemap_map_rewrite.specs.Loaded.{AreLoaded, LacksFolder}
 pub use Rattle.sourcemap_source_files.specs.Loading.{folder_of, file_of, Fills, IsNoFolder}

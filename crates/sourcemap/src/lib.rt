@@ -1,6 +1,6 @@
 //! A facade for source maps: reading, lookups, changes and writing. It has the items that most
-//! users call, under the names of the Rust crate `sourcemap`. The items are re-exports from crates
-//! with one subject each, which docs/MAP.md lists.
+//! users call, under the names of the Rust crate `sourcemap`. Other crates define these items, and
+//! this crate re-exports them. Each defining crate has one subject. docs/MAP.md lists the crates.
 #![tactic(auto)]
 
 pub mod decoder;

@@ -9,7 +9,8 @@ use Rattle.sourcemap_source_files.specs.Loading.{Fills}
 use Rattle.sourcemap_map_regular.specs.Map.{MapValue, Meaning}
 
 -- the parts of a builder. `interned` are the sources as they were added; adding a source looks up its id in this list.
--- `sources` are the sources of the map, where some may be replaced
+-- `sources` are the sources of the map. After a source is replaced, `sources` has the new text, and `interned` still
+-- has the text with which the source was added
 pub record BuilderValue : Type 0 where
   pub file : Option (List ℕ)
   pub root : Option (List ℕ)
@@ -41,7 +42,8 @@ with_changes changes [] = []
 with_changes [] (text ∷ texts) = text ∷ texts
 with_changes (change ∷ changes) (text ∷ texts) = unwrap_or change text ∷ with_changes changes texts
 
--- the builder after a source is added: a new source is appended to `interned` and to `sources`
+-- the builder after a source is added. If `interned` has the source already, the builder is unchanged. Otherwise the
+-- source is appended to `interned` and to `sources`
 abbrev pub with_source : BuilderValue → List ℕ → BuilderValue
 with_source b text = record b {
   interned = with_text b.interned text;
@@ -92,7 +94,7 @@ token_with_ids token (Ok source) (Ok name) = Ok (record token { src_id = source;
 abbrev pub name_if : Bool → Meaning → Option (List ℕ)
 name_if with_name says = cond with_name says.name None
 
--- an id is an index of the list if there is a text or the id is not `no_id`
+-- If `text` is `Some`, `id` is an index of `texts`. If `text` is `None`, `id` is `no_id` or an index of `texts`.
 abbrev pub IsOptionalId : List (List ℕ) → Option (List ℕ) → ℕ → Type 0
 IsOptionalId texts text id = (IsSome text ⊎ (id ≢ no_id)) → id < length texts
 

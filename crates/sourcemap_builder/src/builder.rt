@@ -284,8 +284,8 @@ impl SourceMapBuilder {
         loaded
     }
 
-    /// Adds a token with these ids, and returns the token. The ids need not exist, and `None`
-    /// becomes [`NO_ID`]. The only error is `OutOfMemory`.
+    /// Adds a token with these ids, and returns the token. An id is accepted even if no source or
+    /// name has this id. `None` becomes [`NO_ID`]. The only error is `OutOfMemory`.
     pub fn add_raw(
         &mut self,
         dst_line: u32,
@@ -486,8 +486,9 @@ fn text_at(texts: &[Option<String>], index: usize) -> Option<&str>
     }
 }
 
-// Returns the list `changed` of a builder with the prefixes removed from its sources. `current` is
-// the list before the removal, and `texts` are the sources as they were added.
+// Strips the first matching prefix from each source of a builder, as `strip_text` does. Returns the
+// new list `changed`, with one item for each source. `current` is the old list `changed`, and
+// `texts` are the sources as they were added. The only error is `OutOfMemory`.
 fn cut_texts<S: AsStr>(
     alloc: Global,
     texts: &Interner,

@@ -56,8 +56,8 @@ moved_by line sources names t = record t {
 abbrev pub tokens_in : ℕ → ℕ × ℕ → List RawToken → List RawToken
 tokens_in line end tokens = filter (λ t. is_in line end (destination t)) tokens
 
--- The source ids of the tokens in `tokens_in line end flat.tokens`, without ids that no source of `flat` has. Each id
--- occurs once, in the order of first use. `names_in` does the same for name ids.
+-- The source ids of the tokens in `tokens_in line end flat.tokens`. The list has only ids below `length flat.sources`,
+-- each once, in the order of first use. `names_in` does the same for name ids below `length flat.names`.
 abbrev pub sources_in : MapValue → ℕ → ℕ × ℕ → List ℕ
 sources_in flat line end = used_ids (length flat.sources) (map (λ t. t.src_id) (tokens_in line end flat.tokens))
 

@@ -15,8 +15,8 @@ use std::marker::Model;
 /// next number, from 0 on.
 #[derive(Drop)]
 pub(crate) struct IdNumbers {
-    // The item at index `id` is the number of `id`, but only if `order` has `id` at the index that
-    // equals this number. Otherwise `id` has no number. So `clear` only empties `order`.
+    // Let `n` be `numbers[id]`. If `order` has `id` at index `n`, then `n` is the number of `id`.
+    // Otherwise `id` has no number, and `n` means nothing. So `clear` only empties `order`.
     numbers: Vec<u32>,
     // the ids that have a number, in the order of their numbers
     order: Vec<u32>,

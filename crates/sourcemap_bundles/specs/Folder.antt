@@ -46,7 +46,8 @@ folder_of startup found = fold with_file (no_modules startup) found
 abbrev pub AreNumbered : List (List ℕ) → List (ℕ × List ℕ) → Type 0
 AreNumbered names found = AllZip (λ name file. IsNumbered name file.0) names found
 
--- a file bundle that was read from files with these names, and with any contents
+-- a file bundle with this startup code, after one file for each of these names was added, in the order of the list.
+-- Each file has the number that its name denotes, as in `IsNumbered`. The files may have any contents
 abbrev pub IsReadBy : List (List ℕ) → List ℕ → FilesValue → Type 0
 IsReadBy names startup folder = (found : List (ℕ × List ℕ)) × AreNumbered names found × (folder ≡ folder_of startup found)
 

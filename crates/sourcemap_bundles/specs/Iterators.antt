@@ -1,4 +1,4 @@
--- The modules that an iterator still returns.
+-- The items that an iterator over modules has not returned yet. Each item is a module or an error.
 use Rattle.std.specs.Prelude.{◌-◌, List, Result}
 use Rattle.sourcemap_errors.specs.declared.errors.Error.{Error}
 use Rattle.sourcemap_bundles.specs.Modules.{ModuleValue, modules_from}

@@ -22,7 +22,8 @@ pub record FilesValue : Type 0 where
   pub count : ℕ
   pub modules : List (ℕ × List ℕ)
 
--- a bundle: either an indexed bundle, as its header and all its bytes including the header, or a file bundle
+-- a bundle: an indexed bundle or a file bundle. An indexed bundle has its header, and the list of all its bytes. The
+-- list includes the 12 bytes of the header
 pub data BundleValue : Type 0 where
   indexed : RamBundleHeader → List ℕ → BundleValue
   files : FilesValue → BundleValue
@@ -75,19 +76,21 @@ abbrev pub bundle_module : BundleValue → ℕ → Result (Option ModuleValue) E
 bundle_module (indexed header bytes) id = indexed_module header bytes id
 bundle_module (files folder) id = Ok (file_module folder id)
 
--- a module or an error is put before the items; without a module they stay as they are
+-- `items`, after a module or an error was added as the first item. `Ok None` adds no item
 abbrev pub with_item : Result (Option ModuleValue) Error → List (Result ModuleValue Error) → List (Result ModuleValue Error)
 with_item (Ok None) items = items
 with_item (Ok (Some found)) items = Ok found ∷ items
 with_item (Err e) items = Err e ∷ items
 
--- the modules with numbers from `id` on, below `id` plus the given count; a module that cannot be read is replaced by
--- its error
+-- the modules with numbers in the range that starts at `id`, by rising number. The second argument is the length of
+-- the range. A number without a module is skipped. If `bundle_module` returns an error for a number, the item is the
+-- error
 abbrev pub modules_from : BundleValue → ℕ → ℕ → List (Result ModuleValue Error)
 modules_from bundle zero id = []
 modules_from bundle (suc left) id = with_item (bundle_module bundle id) (modules_from bundle left (id + 1))
 
--- the modules of all numbers below the count, or their errors
+-- the modules with numbers below `bundle_count`, by rising number. A number without a module is skipped. If
+-- `bundle_module` returns an error for a number, the item is the error
 abbrev pub modules_of : BundleValue → List (Result ModuleValue Error)
 modules_of bundle = modules_from bundle (bundle_count bundle) 0
 

@@ -1,4 +1,5 @@
--- The values of bundles and modules as they are stored.
+-- Converts bundles and modules, as the types in `src` store them, to the values that `Modules.antt` defines. `type_of`
+-- returns the kind of a bundle.
 use Rattle.std.specs.Prelude.{ℕ, List, map, Result, Ok, Err}
 use Rattle.std.specs.Cow.{cow_slice_items}
 use Rattle.std.specs.declared.alloc.Global.{Global}

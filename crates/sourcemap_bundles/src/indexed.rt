@@ -19,8 +19,9 @@ pub(crate) struct IndexedRamBundle<'a> {
 }
 
 impl<'a> IndexedRamBundle<'a> {
-    /// Returns the bundle that these bytes are. Only the header is read. The error is `Scroll` if
-    /// the bytes end within the header, or `InvalidRamBundleMagic` for another magic number.
+    /// Returns the bundle that these bytes are. Only the header is read. The error is `Scroll` for
+    /// fewer than 12 bytes. For 12 bytes or more, the error is `InvalidRamBundleMagic` if the magic
+    /// number in the header is not `RAM_BUNDLE_MAGIC`.
     pub(crate) fn parse(bytes: CowSlice<'a, u8>) -> Result<Self>
         ensures { Returns indexed_value result (indexed_bundle (cow_slice_items bytes.entry)) }
     {
@@ -48,8 +49,8 @@ impl<'a> IndexedRamBundle<'a> {
         byte_range(self.bytes.as_slice(), self.code_start(), size as u64)
     }
 
-    /// Returns the module with this number, or `None` if its entry is empty.
-    /// `RamBundle::get_module` lists the errors.
+    /// Returns the module with this number. Returns `None` if the entry for this number has offset
+    /// 0 and length 0. `RamBundle::get_module` lists the errors.
     pub(crate) fn get_module(&self, id: usize) -> Result<Option<RamBundleModule<'_>>>
         ensures { Returns (option_map module_value) result (indexed_module self.now.header (cow_slice_items self.now.bytes) id) }
     {

@@ -33,7 +33,7 @@ enum RamBundleImpl<'a> {
     Unbundle(UnbundleRamBundle),
 }
 
-/// A bundle of modules with numbers, and startup code.
+/// A bundle contains startup code and modules. Each module has its own number.
 #[derive(Debug)]
 pub struct RamBundle<'a> {
     repr: RamBundleImpl<'a>,

@@ -154,7 +154,8 @@ fn begins_with_magic<F: Files>(rt: &F, path: &str) -> Result<bool>
     }
 }
 
-/// Returns false for an error of a file access, or `OutOfMemory` if memory ran out.
+/// Returns the error `OutOfMemory` if the kind of `cause` is `OutOfMemory`. Returns false for any
+/// other kind.
 fn false_unless_memory(cause: io::Error) -> Result<bool>
     ensures { IsOkUnless result OutOfMemory }
 {
@@ -164,8 +165,9 @@ fn false_unless_memory(cause: io::Error) -> Result<bool>
     Ok(false)
 }
 
-/// Returns the names of the plain files of a folder, in the order of their bytes. `UNBUNDLE` is
-/// left out, and a link is not a plain file.
+/// Returns the names of the plain files in a folder, sorted by the bytes of the names. `UNBUNDLE`
+/// is left out, and a link is not a plain file. The error is `OutOfMemory` if memory ran out, or
+/// `Io` if the folder cannot be read for another reason.
 fn file_names<F: Files>(rt: &F, alloc: Global, folder: Path<'_>) -> Result<Vec<String>>
     ensures sorted { IfOk result (λ names. IsSorted string_cmp names.items) }
     ensures refused { IfErr result IsFileError }

@@ -37,7 +37,8 @@ pub enum Code {
     PastLimit = 34,
 }
 
-/// An error of the library, or one that only calls from C can cause.
+/// The error of a call from C. `Library` holds an error of the library. The other errors exist only
+/// in the C interface.
 #[derive(Drop)]
 pub enum Failure {
     Library(Error),
@@ -209,7 +210,8 @@ fn failure_numbers(failure: &Failure) -> Numbers
 // The maximum length of a written text in bytes. A zero byte follows the text.
 const MOST_BYTES: usize = 255;
 
-// Copies the text, cut after 255 bytes, and a zero byte after it.
+// Copies the text to `to`, but at most its first 255 bytes. Writes a zero byte after the copied
+// bytes. The other bytes of `to` are unchanged.
 fn write_text(to: &mut [u8], text: &[u8])
     requires { length to.old ≡ 256 }
     ensures { to.new ≡ over text.now to.old }

@@ -117,8 +117,8 @@ ReturnsWithFile file (Compose path) t answer = Then (FileDecodes file) (λ other
 ReturnsWithFile file (Trace _) t answer = answer ≡ traced t file
 ReturnsWithFile file command t answer = Returns command t None answer
 
--- the output of a command for the map that the bytes decode to; errors of decoding come before those of the
--- file
+-- the output of a command for the map that the bytes decode to, or the error of the command or of the file. If the
+-- bytes do not decode, the answer is the error of decoding the bytes, for any `file`
 abbrev pub ReturnsOnBytes : Command → (bytes : List ℕ) → (file : Result (List ℕ) Error) → Result (List ℕ) Error → Type 0
 ReturnsOnBytes command bytes file answer = Then (BytesDecode bytes) (λ t a. ReturnsWithFile file command t a) answer
 
@@ -169,7 +169,7 @@ IsReplyOf (Ok text) reply = IsReply (answered (Ok (string_bytes text))) reply
 IsReplyOf (Err e) reply = (e ≢ OutOfMemory) × IsReply (answered (Err e)) reply
 
 -- Definitions for runs that read from a reader and write to a writer. A read may fail, and memory may run out. std does
--- not specify which bytes a file has.
+-- not specify which bytes a read of a file returns, so `MayBeRead` allows any bytes.
 
 -- the result of reading a file, with the bytes as a list instead of a buffer
 abbrev pub file_read : Result (Vec ℕ Global) Error → Result (List ℕ) Error
@@ -181,17 +181,20 @@ abbrev pub MayBeRead : Result (List ℕ) Error → Type 0
 MayBeRead (Ok bytes) = Unit {0}
 MayBeRead (Err e) = UnlessReadFails e ⊥
 
--- `P` holds for the result of reading a file. This is the preloaded result; if nothing is preloaded, it is some result
--- that reading may return
+-- the first argument is the preloaded result of reading a file, or `None` if nothing is preloaded. If there is a
+-- preloaded result, `P` holds for this result. Otherwise `P` holds for at least one result that `MayBeRead` allows
 abbrev pub WithFile : Option (Result (List ℕ) Error) → (Result (List ℕ) Error → Type 0) → Type 0
 WithFile (Some file) P = P file
 WithFile None P = (file : Result (List ℕ) Error) × MayBeRead file × P file
 
--- an error without a reply: `OutOfMemory`; if the words ask for a command, also the error of a failed read
+-- an error that a run may have instead of a reply. `OutOfMemory` is always allowed. If the words ask for a command, the
+-- read of the input may also fail: this error is `Io`, of any kind except `OutOfMemory`
 abbrev pub IsCutShort : List (List ℕ) → Error → Type 0
 IsCutShort words e = UnlessMemory e ((command : Command) × AskFor words command × UnlessReadFails e ⊥)
 
--- how a run of the program may end, by its arguments, the bytes of standard input, and the result of reading its file
+-- a run of the program with these words may have this ending: `Ends` allows the ending, or the ending is an error that
+-- `IsCutShort` allows. `bytes` holds the bytes of standard input. `file` is the result of reading the file that the
+-- words name, if they name one
 abbrev pub MayEnd : List (List ℕ) → (bytes : List ℕ) → (file : Result (List ℕ) Error) → Ending → Type 0
 MayEnd words bytes file (answered (Err e)) = Ends words bytes file (answered (Err e)) ⊎ IsCutShort words e
 MayEnd words bytes file ending = Ends words bytes file ending

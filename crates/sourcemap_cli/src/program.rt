@@ -240,8 +240,9 @@ pub fn run<F: Files, R: Read, W: Write>(
     print_reply(alloc, reply, output)
 }
 
-/// Law: the same words, bytes and file have one reply. Only the texts of std's errors are not
-/// determined: those of an invalid header and of a failed read of the file.
+/// Law: the same words, bytes and file have one reply. The only exception is the text of a reply
+/// that reports an error of std, because std does not specify this text. An error of std means that
+/// a junk header is invalid or that a read of the file failed.
 pub fn replies_are_determined()
     ensures { (words : List (List ℕ)) (bytes : List ℕ) (read : Result (List ℕ) Error) (a b : Ending)
         → Ends words bytes read a → Ends words bytes read b

@@ -22,8 +22,8 @@ later_start a o = cond (is_before a.start o.start) o.start a.start
 abbrev pub moved : Stretch → ℕ × ℕ → ℕ × ℕ
 moved a p = (a.token.dst_line, p.1 - a.token.src_col + a.token.dst_col)
 
--- the original column of a token. For a range token with a source, `columns` are added, up to 4294967295; otherwise it
--- is unchanged
+-- the original column of a token. If the token is a range token with a source, `columns` is added to the column. If the
+-- sum exceeds 4294967295, the result is 4294967295
 abbrev pub shifted_column : RawToken → ℕ → ℕ
 shifted_column token columns =
     if token.is_range && not (token.src_id == no_id) then min (token.src_col + columns) 4294967295 else token.src_col
@@ -60,11 +60,12 @@ composition original adjustment = sorted_unless_overflowing (composed_all (stret
   sorted_unless_overflowing : List RawToken → Result (List RawToken) Error
   sorted_unless_overflowing tokens = cond (list_any overflows_column tokens) (Err IncompatibleSourceMap) (Ok (in_order tokens))
 
--- the column of the later start is at least the column of each of the two starts. This holds if the stretches overlap
+-- the column of `later_start a o` is at least the original column of the token of `a`, and at least the column of the
+-- start of `o`. This holds if `a` is a stretch of the adjustment, `o` is a stretch of the original, and they overlap
 pub record StartsOnBothLines (a o : Stretch) : Type 0 where
   pub in_adjustment : a.token.src_col ≤ (later_start a o).1
   pub in_original : o.start.1 ≤ (later_start a o).1
 
--- the test passes and the error is `IncompatibleSourceMap`, or memory ran out
+-- the error is `OutOfMemory`; or the error is `IncompatibleSourceMap` and `passes` is true
 abbrev pub FailsIf : Bool → Error → Type 0
 FailsIf passes e = UnlessMemory e ((passes ≡ true) × (e ≡ IncompatibleSourceMap))

@@ -1,4 +1,6 @@
--- The original position of a generated position, and the conditions under which a moved position keeps it.
+-- The original position that a list of tokens gives to a generated position. Also `IsMovedAlone`, a premise of the law
+-- `moved_positions_answer_as_before`. The law says that the original position stays the same when the adjustment moves
+-- a generated position.
 use Rattle.std.specs.Prelude.{◌≡◌, ℕ, ◌+◌, ◌-◌, min, Bool, ◌&&◌, ◌==◌, true, false, if◌then◌else◌, List, Option, Some, option_map, slice_get}
 use Rattle.std.specs.List.{Contains}
 use Rattle.sourcemap_tokens.specs.Search.{closest_item}
@@ -50,8 +52,8 @@ abbrev pub ClosestIsOnLine : List RawToken → ℕ × ℕ → Type 0
 ClosestIsOnLine tokens q =
     (t : RawToken) × (closest_item destination position_cmp tokens q ≡ Some t) × (t.dst_line ≡ q.0)
 
--- of all overlapping pairs, only those with `a` give a token whose generated position lies between the moved start of
--- `a` and `p`, inclusive
+-- let `b` of `adjustments` and `o` of `originals` overlap. If the generated position of their composed token is at or
+-- after `moved a a.start`, and at or before `p`, then `b` is `a`
 abbrev pub IsAloneUpTo : ℕ × ℕ → Stretch → (adjustments originals : List Stretch) → Type 0
 IsAloneUpTo p a adjustments originals =
     (b o : Stretch) → Contains adjustments b → Contains originals o → overlap b o ≡ true
@@ -60,8 +62,8 @@ IsAloneUpTo p a adjustments originals =
     → b ≡ a
 
 -- the position `q` lies in the stretch `a` of the adjustment. In the original, the token closest to `q` is on the line
--- of `q`, and no two tokens have the same generated position. No other stretch of the adjustment gives a token whose
--- generated position lies between the moved start of `a` and the moved `q`, inclusive
+-- of `q`, and no two tokens have the same generated position. Consider the composed tokens whose generated position is
+-- at or after `moved a a.start`, and at or before `moved a q`. All of them come from `a`
 pub record IsMovedAlone (original adjustment : List RawToken) (a : Stretch) (q : ℕ × ℕ) : Type 0 where
   pub stretch : Contains (stretches_by Adjustment adjustment) a
   pub inside : LiesIn q a

@@ -17,9 +17,10 @@ use std::alloc::Global;
 /// original is the source text of the adjustment. Both lists may be in any order.
 ///
 /// Each token covers a part of that text. For a token of `original`, the part begins at its
-/// generated position; for a token of `adjustment`, at its original position. The part ends where
-/// that of the next token of the same list begins, or at the end of the line. Two tokens overlap if
-/// the part of each begins before the part of the other ends.
+/// generated position; for a token of `adjustment`, at its original position. With each list sorted
+/// by these positions, a part ends where the part of the next token begins, or at column 4294967295
+/// of its line, whichever comes first. Two tokens overlap if the part of each begins before the
+/// part of the other ends.
 ///
 /// Each overlapping pair gives one new token. Its generated position is the position to which the
 /// adjustment moves the start of the overlap. Its original position, source, name and range flag
@@ -123,9 +124,11 @@ fn later_start(a: Stretch, o: Stretch) -> (u32, u32)
     }
 }
 
-// Returns the token of `o`, moved: its generated position is the one to which `a` moves the start
-// of the overlap, and a range token with a source has its original column shifted. Returns
-// `IncompatibleSourceMap` if the generated column exceeds 4294967295.
+// Returns the token of `o` with a new generated position: the position to which `a` moves the start
+// of the overlap. If the token is a range token with a source, the columns from the start of `o` to
+// the start of the overlap are added to its original column. If this sum exceeds 4294967295, the
+// original column is 4294967295. Returns `IncompatibleSourceMap` if the generated column exceeds
+// 4294967295.
 fn compose_pair(a: Stretch, o: Stretch) -> Result<RawToken>
     requires { StartsOnBothLines a o }
     ensures { result ≡ cond (overflows_column (composed a o)) (Err IncompatibleSourceMap)
@@ -147,8 +150,8 @@ fn compose_pair(a: Stretch, o: Stretch) -> Result<RawToken>
     }
 }
 
-// The original column of a token. For a range token with a source, `columns` are added, up to
-// 4294967295; otherwise it is unchanged.
+// The original column of a token. If the token is a range token with a source, `columns` is added
+// to the column. If the sum exceeds 4294967295, the result is 4294967295.
 fn shifted_column(token: RawToken, columns: u32) -> u32
     ensures { result ≡ shifted_column token columns }
 {

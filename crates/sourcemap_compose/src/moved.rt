@@ -22,9 +22,9 @@ pub fn composed_tokens_stay_within()
 ///   sources.
 /// - No two of these tokens have the same generated position.
 /// - The token closest to the position is on the line of the position.
-/// - A stretch of the adjustment covers the position. No other stretch of the adjustment gives a
-///   token whose generated position lies between the moved start of this stretch and the moved
-///   position, inclusive.
+/// - A stretch of the adjustment covers the position. Consider the composed tokens whose generated
+///   position is at or after the moved start of this stretch, and at or before the moved position.
+///   All of them come from this stretch.
 pub fn moved_positions_answer_as_before()
     ensures { (sources names : ℕ) (original adjustment new : List RawToken)
         (a : Stretch) (q : ℕ × ℕ)

@@ -1,6 +1,8 @@
-//! A facade: re-exports items of the crates on which records and maps are built, under the module
-//! names that users know. These crates cover errors, VLQ digits, lists, composition, tables of
-//! lines, mappings, texts, views, paths of files, and the bytes of bundles.
+//! A facade: only re-exports modules and items of other crates. Users import the items by the
+//! module names below. The items cover errors, tokens, interned strings, base64 digits, the text of
+//! mappings, composition of tokens, the line index, lines and identifiers of source texts, search
+//! in sorted lists, paths and URLs of files, and the bytes of indexed bundles. The crates that
+//! define these items do not depend on the crates of records and maps.
 #![tactic(auto)]
 
 pub mod compose;

@@ -1,4 +1,5 @@
--- Which bytes are a source map, by the keys of their JSON value that are present and not null.
+-- Defines which bytes are a source map. Their JSON value must be an object with certain keys. A key whose value is null
+-- counts as missing. A version, if there is one, must be a `u32`.
 use Rattle.std.specs.Prelude.{ℕ, List, Bool, false, ◌&&◌, ◌||◌, IsTrue, is_some}
 use Rattle.std.specs.Option.{option_map_or}
 use Rattle.serde_json.specs.Data.{Data}

@@ -28,8 +28,8 @@ fn value_is_map(value: &Value) -> bool
     }
 }
 
-// Returns false for any error except `OutOfMemory`, as bytes that cannot be read are not a map.
-// `OutOfMemory` stays an error.
+// Returns `OutOfMemory` as an error. Returns false for any other error, because bytes that could
+// not be read as JSON count as no source map.
 fn false_unless_memory(error: Error) -> Result<bool>
     ensures { MatchResult result
         (λ is. (is ≡ false) × (error ≢ OutOfMemory))
@@ -70,10 +70,13 @@ fn read_is_map(alloc: Global, read: Result<Vec<u8>>) -> Result<bool>
     }
 }
 
-/// Reads a reader to its end, and returns whether its bytes are a source map, as by
-/// `is_sourcemap_slice`. Returns false if a read fails. The error is `OutOfMemory`.
+/// Reads a reader to its end. Returns whether the bytes are a source map, by the rules of
+/// `is_sourcemap_slice`. The only error is `OutOfMemory`, if memory runs out in a read or
+/// elsewhere. If a read fails for another reason, returns false.
 pub fn is_sourcemap<R: Read + Drop>(alloc: Global, reader: R) -> Result<bool>
-    // no clause of a reader says when a read fails, so the result may be false for any bytes
+    // If the bytes of the reader are known, `true` means that they are a source map. The clause
+    // says nothing about `false`: a read may have failed, and no clause of `Read` says when a read
+    // fails.
     ensures answer { IfSome (R.remaining reader)
         (λ bytes. IfOk result (λ is. IsTrue is → AreMap bytes)) }
     ensures err { IsOkUnless result OutOfMemory }

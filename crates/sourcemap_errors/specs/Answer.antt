@@ -13,7 +13,7 @@ abbrev pub Gives : {X Y : Type 0} → (X → Y) → Result X Error → Result Y 
 Gives view (Ok x) due = due ≡ Ok (view x)
 Gives view (Err e) due = UnlessMemory e (due ≡ Err e)
 
--- `Answers` admits the result, mapped by `view`, unless memory ran out
+-- `Answers` holds for the result, with the value of an `Ok` mapped by `view`; the error `OutOfMemory` is always allowed
 abbrev pub IsAnswer : {X Y : Type 0} → (X → Y) → (Result Y Error → Type 0) → Result X Error → Type 0
 IsAnswer view Answers (Ok x) = Answers (Ok (view x))
 IsAnswer view Answers (Err e) = UnlessMemory e (Answers (Err e))

@@ -1,4 +1,4 @@
--- If `Gives` requires a value, a call that succeeds returns this value, and the only error is `OutOfMemory`.
+-- Consequences of `Gives view result (Ok due)`: `view` maps a returned value to `due`; the only error is `OutOfMemory`.
 use Rattle.std.specs.Prelude.{◌≡◌, Result, Ok, Err, IfErr, IfOk}
 use Rattle.std.proofs.Common.{ap, refl, sym}
 use Rattle.sourcemap_errors.specs.Answer.{UnlessMemory, Gives}

@@ -41,7 +41,8 @@ escaped parts = flat_map (λ part. codes "/" ++ percent_encode ESCAPED part) par
 abbrev pub url_text : List ℕ → Bool → List ℕ
 url_text path folder = codes "file://" ++ escaped (components path) ++ end_text folder (components path)
 
--- the result for a path: its URL, as `UrlOf` says, or `None` if the path is not absolute
+-- for an absolute path, the result is one that `UrlOf` allows for the path's `url_text`; for any other path, the result
+-- is `None`
 abbrev pub PathUrl : List ℕ → Bool → Result (Option Parts) Error → Type 0
 PathUrl path folder answer = MatchBool (starts_at_root path) (UrlOf (url_text path folder) answer) (answer ≡ Ok None)
 
@@ -65,11 +66,12 @@ NamesPath base reference (Ok None) = (named_path base reference ≡ None) ⊎ Is
 NamesPath base reference (Ok (Some path)) = named_path base reference ≡ Some path
 NamesPath base reference (Err e) = e ≡ OutOfMemory
 
--- a reference resolved against the `file` URL of an absolute path: the URL, or the error if either URL is rejected
+-- a reference resolved by the URL Standard against the `file` URL of `path`; an error if the text of this `file` URL is
+-- rejected, or if the reference is rejected
 abbrev pub joined : List ℕ → Bool → List ℕ → Parsed Parts
 joined path folder reference = and_then (parse_url None (url_text path folder)) (λ base. parse_url (Some base) reference)
 
 -- the file path of a reference that is resolved against the `file` URL of `path`; `None` if `path` is not absolute, if
--- either URL is rejected, or if the resolved URL has no file path
+-- `joined` is an error, or if the resolved URL has no file path
 abbrev pub path_from : List ℕ → Bool → List ℕ → Option (List ℕ)
 path_from path folder reference = if starts_at_root path then option_and_then path_of (result_ok (joined path folder reference)) else None

@@ -5,12 +5,14 @@ use Rattle.url.specs.Parser.{Parsed, parse_url}
 use Rattle.sourcemap_errors.specs.declared.errors.Error.{Error}
 use Rattle.sourcemap_errors.specs.declared.errors.Error.TheVariants.{OutOfMemory}
 
--- a URL that is made of `size` bytes of text may, with its escapes, exceed 4 GB
+-- texts that together have `size` bytes are long if `size` is 2^28 or more; a URL that is made of shorter texts has
+-- less than 4 GB, even with its escapes
 abbrev pub IsLong : ℕ → Type 0
 IsLong size = 2 ^ 28 ≤ size
 
--- the result for texts of `size` bytes that the URL Standard parses to `parsed`: the URL in `parsed`; `None` if
--- `parsed` is an error, or possibly if the texts are long; or out of memory
+-- the result for texts that together have `size` bytes; `parsed` is the result by the URL Standard. A returned URL is
+-- the URL in `parsed`. `None` is returned only if `parsed` is an error or the texts are long. The only error is
+-- `OutOfMemory`
 abbrev pub ReadsAs : ℕ → Parsed Parts → Result (Option Parts) Error → Type 0
 ReadsAs size parsed (Ok (Some url)) = parsed ≡ Ok url
 ReadsAs size parsed (Ok None) = IsErr parsed ⊎ IsLong size

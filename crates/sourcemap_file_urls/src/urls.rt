@@ -31,10 +31,12 @@ fn is_long(size: usize) -> bool
     size >= 1 << 28
 }
 
-// Converts the result of parsing texts of `size` bytes with the `url` crate. The error `Overflow`
-// of that crate means that the URL exceeds 4 GB. No URL does if `size` is below 2^28, but the
-// contract of the crate allows `Overflow` even then. In that case `Overflow` is returned as
-// `OutOfMemory`, otherwise as `None`.
+// Converts the result of the `url` crate for texts that together have `size` bytes. `OutOfMemory`
+// stays `OutOfMemory`. `Overflow` becomes `OutOfMemory` if `size` is below 2^28, otherwise `None`.
+// Every other error becomes `None`.
+//
+// The crate returns `Overflow` only if the URL has 2^32 bytes or more. Texts of less than 2^28
+// bytes never make such a URL, but the contract of the crate allows `Overflow` for them too.
 fn read(size: usize, parsed: ParseResult<Url>) -> Result<Option<Url>>
     ensures { (due : Parsed Parts) → Gives parsed due → ReadsAs size due result }
 {

@@ -19,7 +19,8 @@ without_charset text = unwrap_or (option_or (after_front (codes ";charset=utf-8"
 abbrev pub body_of : List ℕ → Option (List ℕ)
 body_of url = option_and_then (λ rest. after_front (codes ";base64,") (without_charset rest)) (after_front (codes "data:application/json") url)
 
--- the data URL contains these bytes in padded standard base64, exactly as encoding gives it
+-- each number in `bytes` is below 256, and the base64 text of `url` equals the encoding of `bytes` in standard base64
+-- with padding
 abbrev pub Holds : List ℕ → List ℕ → Type 0
 Holds url bytes = IsBytes bytes × (body_of url ≡ Some (encode_of standard bytes))
 

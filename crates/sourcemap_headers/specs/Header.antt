@@ -1,5 +1,6 @@
 -- The bytes after a junk header. Some servers put a junk header before JSON, so that a browser cannot execute
--- the JSON as a script. The header is a first byte `)`, `]`, `}` or `'`, and all bytes up to the first newline.
+-- the JSON as a script. There is a header if the first byte is `)`, `]`, `}` or `'`. The header ends directly before
+-- the first newline, or at the end of the bytes if there is no newline.
 use Rattle.std.specs.Prelude.{ℕ, List, [], ◌∷◌, Option, Some, None, Bool, false, not, ◌&&◌, ◌||◌, ◌==◌, if◌then◌else◌}
 
 abbrev pub begins_junk : List ℕ → Bool

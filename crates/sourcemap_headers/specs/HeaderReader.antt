@@ -1,4 +1,5 @@
--- A reader that drops a junk header: the bytes that it still returns, by its state.
+-- `StripHeaderReader` drops a junk header. In each state of the reader, `remaining_in` gives the bytes that later reads
+-- return.
 use Rattle.std.specs.Prelude.{◌≡◌, ℕ, List, [], drop, take, length, Result, Ok, ◌++◌, ◌≤◌, Option, Some, None, option_map, option_and_then, Bool, true, false, ◌&&◌, if◌then◌else◌, IsTrue, IfOk, OnOk, IfErr, IfSome, IsSome}
 use Rattle.std.specs.Io.KnownBytes.{IsAtEnd}
 use Rattle.std.specs.IoError.{error_kind}
@@ -52,26 +53,28 @@ is_invalid _ = false
 abbrev pub has_failed : {R : Type 0} → StripHeaderReader R → Bool
 has_failed r = is_invalid r.state
 
--- what a reader still returns, where `remaining` is what its inner reader still returns
+-- all bytes that later reads of `r` return; `None` if the remaining bytes of the inner reader are not known, or if the
+-- header is invalid. `remaining` maps an inner reader to its remaining bytes, or to `None` if they are not known
 abbrev pub remaining_of : {R : Type 0} → (R → Option (List ℕ)) → StripHeaderReader R → Option (List ℕ)
 remaining_of remaining r = option_and_then (remaining_in r.state) (remaining r.reader)
 
--- the output of a read: the bytes at the front of the buffer that are not junk; no bytes if the read failed or gave
--- only junk
+-- the output of a read: the first `n` bytes of `buf` if the read returned `Ok (Some n)`. The output is empty if the
+-- read failed, or if it returned `Ok None` because the inner reader returned only junk
 abbrev pub output : {E : Type 0} → Result (Option ℕ) E → List ℕ → List ℕ
 output (Ok (Some n)) buf = take n buf
 output _ buf = []
 
--- if the remaining bytes of the inner reader are known before a read, they are known after it, and the read returned
--- `bytes`
+-- `old` is the reader before a read, and `new` is the reader after the read. If the remaining bytes of the inner reader
+-- are known before the read, they are also known after it. In that case the bytes remaining in `old` are `bytes`,
+-- followed by the bytes remaining in `new`; or the header is invalid in both `old` and `new`
 abbrev pub Outputs : {R : Type 0} → (R → Option (List ℕ)) → StripHeaderReader R → StripHeaderReader R → List ℕ → Type 0
 Outputs remaining old new bytes =
     (xs : List ℕ) → remaining old.reader ≡ Some xs
     → (ys : List ℕ) × (remaining new.reader ≡ Some ys)
     × (remaining_in old.state xs ≡ option_map (λ later. bytes ++ later) (remaining_in new.state ys))
 
--- bytes at the front of the buffer make the header invalid, whatever bytes follow them. This holds for at least one
--- `state` of the reader in which the next bytes may belong to the header
+-- for some `state` with `IsInHeader state` and some `count` of at most the length of `buf`: if a reader is in this
+-- `state` and the next bytes begin with the first `count` bytes of `buf`, the header is invalid
 abbrev pub ContainsInvalidHeader : List ℕ → Type 0
 ContainsInvalidHeader buf = (state : HeaderState) × (count : ℕ) × IsInHeader state × (count ≤ length buf)
     × ((later : List ℕ) → remaining_in state (take count buf ++ later) ≡ None)
@@ -80,7 +83,9 @@ ContainsInvalidHeader buf = (state : HeaderState) × (count : ℕ) × IsInHeader
 abbrev pub HasInvalidHeader : {R : Type 0} → (R → Option (List ℕ)) → StripHeaderReader R → Type 0
 HasInvalidHeader remaining r = (xs : List ℕ) × (remaining r.reader ≡ Some xs) × (remaining_in r.state xs ≡ None)
 
--- the result of one read of the inner reader; `None` if the inner reader returned only junk
+-- what holds after one read of the inner reader. `old` and `new` are the reader before and after the read, and `buf` is
+-- the buffer after the read. `result` is `Ok (Some n)` if the first `n` bytes of `buf` are output, and `Ok None` if the
+-- inner reader returned only junk
 pub record IsChunkRead {R : Type 0} (remaining : R → Option (List ℕ)) (old new : StripHeaderReader R) (result : Result (Option ℕ) IoError) (buf : List ℕ) : Type 0 where
   pub bound : IfOk result (λ count. IfSome count (λ n. n ≤ length buf))
   pub outputs : Outputs remaining old new (output result buf)

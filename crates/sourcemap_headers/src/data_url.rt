@@ -39,9 +39,9 @@ fn body(url: &[u8]) -> Option<&[u8]>
 }
 
 /// Decodes the data URL of a source map: `data:application/json`, then `;charset=utf-8`,
-/// `;charset=utf8` or nothing, then `;base64,` and standard base64. The base64 must be exactly the
-/// text that encoding the bytes gives: padded, without white space, and without bits set after the
-/// last byte. Letter case matters. The errors are `InvalidDataUrl` for any other text, and
+/// `;charset=utf8` or nothing, then `;base64,` and standard base64. Letter case matters. The base64
+/// must equal the standard encoding of the decoded bytes: it is padded, it has no white space, and
+/// the unused bits of its last symbol are 0. The error is `InvalidDataUrl` for any other text, or
 /// `OutOfMemory`.
 pub fn data_url_bytes(alloc: Global, url: &str) -> Result<Vec<u8>>
     ensures { IsAnswer (λ v. v.items) (DataUrlAnswer url.now) result }
@@ -56,8 +56,8 @@ pub fn data_url_bytes(alloc: Global, url: &str) -> Result<Vec<u8>>
     }
 }
 
-/// Encodes bytes as a data URL with the charset `utf-8`, which `data_url_bytes` decodes. The only
-/// error is `OutOfMemory`.
+/// Encodes bytes as a data URL with the charset `utf-8`. For this URL `data_url_bytes` returns the
+/// same bytes, or the error `OutOfMemory`. The only error of the encoding is `OutOfMemory`.
 pub fn data_url(alloc: Global, bytes: &[u8]) -> Result<String>
     ensures text { IfOk result (λ url. string_bytes url ≡ data_url_of bytes.now) }
     ensures reads_back { IfOk result (λ url. Holds (string_bytes url) bytes.now) }

@@ -8,11 +8,11 @@ use Rattle.sourcemap_hermes_scopes.specs.ScopeLists.{ScopeEntry}
 use Rattle.sourcemap_hermes.specs.Decode.{HermesDecodes}
 use Rattle.sourcemap_hermes.specs.Map.{HermesValue, IsWellFormed}
 
--- the keys of a record, with these scopes of its sources
+-- sets the key `x_facebook_sources` of a record to `entries`. All other keys are unchanged
 abbrev pub with_scopes : Fields → List ScopeEntry → Fields
 with_scopes r entries = record r { x_facebook_sources = Some entries }
 
--- a record with these scopes of its sources
+-- sets the key `x_facebook_sources` of a record to `entries`. All other keys and the sections are unchanged
 abbrev pub scoped : Tree → List ScopeEntry → Tree
 scoped (plain fields) entries = plain (with_scopes fields entries)
 scoped (indexed fields sections) entries = indexed (with_scopes fields entries) sections

@@ -27,7 +27,8 @@ pub record IsWellFormed (h : HermesValue) : Type 0 where
 abbrev pub token_scope : SourceScopesValue → TokenValue → Option (List ℕ)
 token_scope scopes t = scope_at scopes t.raw.src_id ((says t).line, (says t).column)
 
--- the name of the function at a bytecode offset, a generated column of line 0
+-- the name of the function at a bytecode offset. The offset is a column of generated line 0. The name is `token_scope`
+-- of the token that `lookup` returns for this column; `None` if `lookup` returns `None`
 abbrev pub function_name : HermesValue → ℕ → Option (List ℕ)
 function_name h offset = option_and_then (token_scope h.scopes) (lookup h.map (0, offset))
 

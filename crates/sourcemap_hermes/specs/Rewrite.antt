@@ -9,8 +9,9 @@ use Rattle.sourcemap_map_regular.specs.Token.{token_at}
 use Rattle.sourcemap_hermes_scopes.specs.SourceScopes.{IsInOrderAt, picked_scopes}
 use Rattle.sourcemap_hermes.specs.Map.{HermesValue, token_scope, function_name}
 
--- the rewritten map. Each source has the scopes of one old id: the source id of the first token that uses the source.
--- If this old id has no scopes, the source has no scopes
+-- the rewritten map. Tokens may use several old sources that resolve to the same text. These old sources become one new
+-- source. The new source has the scopes of one of them: the old source whose id comes first in the list of tokens. If
+-- this old source has no scopes, the new source has no scopes
 abbrev pub rewritten : Removal → HermesValue → HermesValue
 rewritten removal h = record {
   map = map_rewritten removal h.map;

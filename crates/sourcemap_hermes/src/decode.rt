@@ -97,8 +97,8 @@ impl SourceMapHermes {
     pub fn from_slice(alloc: Global, bytes: &[u8]) -> Result<Self>
         ensures answer { IsAnswer hermes_value
             (BytesHaveResult RecordDecodesAsHermes bytes.now) result }
-        // Unless memory runs out, the bytes determine the result. Of an `Io` error they determine
-        // the kind.
+        // Unless memory runs out, the bytes determine the result. If the result is an `Io` error,
+        // the bytes determine only its kind.
         ensures only { (due : Result HermesValue Error)
             → BytesHaveResult RecordDecodesAsHermes bytes.now due
             → IsAnswer hermes_value (AreSame due) result }

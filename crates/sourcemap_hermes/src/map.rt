@@ -18,9 +18,10 @@ impl SourceMapHermes {
     ghost use Rattle.sourcemap_hermes_scopes.specs.SourceScopes.{AreFewScopes, AreOfEntries, IsInOrderAt};
     ghost use Rattle.sourcemap_hermes.specs.Map.{hermes_value, function_name, token_scope};
 
-    /// The number of entries of scopes. The index of an entry is the id of its source: a source has
-    /// no scopes if its id is this number or greater. An entry may be empty. A source with an entry
-    /// has the function map that the entry encodes, or none if the entry is empty or invalid.
+    /// The number of entries of scopes. The index of an entry is the id of its source. A source has
+    /// no scopes if its id is not less than the number of entries. An entry may be empty. A source
+    /// with an entry has the function map that the entry encodes, or none if the entry is empty or
+    /// invalid.
     pub fn scope_count(&self) -> u32
         ensures count { result ≡ length (hermes_value self.now).scopes.entries }
         ensures few { AreFewScopes (hermes_value self.now).scopes.entries }
@@ -43,10 +44,11 @@ impl SourceMapHermes {
         self.scopes.scope(token.get_src_id(), line, col)
     }
 
-    /// The name of the function at a bytecode offset: the result of `get_scope_for_token` for the
-    /// token closest to column `bytecode_offset` of generated line 0. `None` if there is no such
-    /// token, or if that result is `None`. Requires functions of the token's source sorted by where
-    /// they start; otherwise the result is unspecified.
+    /// The name of the function at a bytecode offset. The offset is a column of generated line 0.
+    /// The call finds the first token at this column, or else the last token before this column.
+    /// For this token, it returns the result of `get_scope_for_token`. `None` if there is no such
+    /// token, or if `get_scope_for_token` returns `None`. Requires functions of the token's source
+    /// sorted by where they start; otherwise the result is unspecified.
     pub fn get_original_function_name(&self, bytecode_offset: u32) -> Option<&str>
         ensures { IfSome (lookup (hermes_value self.now).map (0, bytecode_offset))
             (λ t. IsInOrderAt (hermes_value self.now).scopes t.raw.src_id)

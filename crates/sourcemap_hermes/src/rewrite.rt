@@ -20,8 +20,8 @@ impl SourceMapHermes {
     /// sources resolve against `sourceRoot` to the same text, each token keeps its scope.
     ///
     /// With `load_local_source_contents`, missing contents are read from files, as by
-    /// `SourceMap::rewrite`. The error is then `Io` of kind `InvalidInput` if the folder is not
-    /// absolute. The only other error is `OutOfMemory`.
+    /// `SourceMap::rewrite`. Returns `Io` of kind `InvalidInput` if contents are to be loaded and
+    /// neither `base_path` nor `current_dir` is absolute. The only other error is `OutOfMemory`.
     pub fn rewrite<F: Files>(self, rt: &F, options: &RewriteOptions<'_>) -> Result<SourceMapHermes>
         ensures value { IsAnswer hermes_value (Rewrites options.now (hermes_value self)) result }
         // The meaning of each position is unchanged, except for what the options remove.

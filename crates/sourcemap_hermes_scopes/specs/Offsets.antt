@@ -25,7 +25,8 @@ line_offsets before here (s ∷ later) =
     let here' = here ++ s ∷ [] in
     segment_offset here' (before ++ here') ∷ line_offsets before here' later
 
--- the offsets of decoded lines, each a list of segments, after the segments `before`
+-- the offsets of all segments of these decoded lines. Each decoded line is the list of its segments. `before` are the
+-- segments of earlier lines
 abbrev pub offsets_of_lines : List Segment → List (List Segment) → List HermesScopeOffset
 offsets_of_lines before [] = []
 offsets_of_lines before (line ∷ decoded_lines) = line_offsets before [] line ++ offsets_of_lines (before ++ line) decoded_lines

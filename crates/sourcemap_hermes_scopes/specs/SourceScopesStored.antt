@@ -1,4 +1,4 @@
--- The fields of the scopes of sources, as one value.
+-- The value of `SourceScopes` from the values of its fields, and the invariant of the fields.
 use Rattle.sourcemap_hermes_scopes.specs.ScopeLists.{entries_in}
 use Rattle.sourcemap_hermes_scopes.specs.SourceScopes.{SourceScopesValue, AreFewScopes, AreOfEntries}
 use Rattle.sourcemap_hermes_scopes.specs.declared.source_scopes.SourceScopes.TheInside.{Inside}

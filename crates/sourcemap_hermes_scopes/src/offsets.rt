@@ -31,8 +31,10 @@ const START: HermesScopeOffset = HermesScopeOffset {
     name_index: 0,
 };
 
-// Returns the offset of a segment: `last`, the offset before it, plus the first three numbers of
-// the segment, modulo 2^32.
+// Returns the offset of a segment. Adds the first number of the segment to the column of `last`,
+// the second to the name index and the third to the line, each modulo 2^32. A missing number is 0.
+// `last` has the column, the name index and the line before the segment. The column is 0 at the
+// start of a line.
 #[inline]
 fn next_offset(last: HermesScopeOffset, read: &Numbers) -> HermesScopeOffset
     ensures { (before here : List Segment) (s : Segment) → IsLastOffset before here last

@@ -1,4 +1,4 @@
-//! The scopes of sources as a record has them.
+//! The scopes of sources, as a JSON record has them under `x_facebook_sources`.
 ghost use Rattle.std.specs.Prelude.{◌≡◌, Ok, map, IfOk, IsOkUnless};
 ghost use Rattle.std.specs.List.{AllZip};
 ghost use Rattle.std.specs.Cmp.Lexicographic.{pointwise};
@@ -12,8 +12,9 @@ use sourcemap_errors::errors::Result;
 use sourcemap_records::jsontypes::FacebookScopeMapping;
 use std::alloc::Global;
 
-/// The scopes of sources as a record has them, by source id. A source has `None` or a list; only
-/// the first item of the list is used.
+/// The scopes of sources, as a JSON record has them under `x_facebook_sources`. Item `n` is the
+/// list of the source with id `n`, or `None`. The function map and the function names of a source
+/// come from the first item of its list. Copies and comparisons include all items.
 pub type ScopeLists = Vec<Option<Vec<FacebookScopeMapping>>>;
 
 fn function_map_of(

@@ -42,9 +42,10 @@ impl Model for SourceScopes {
 }
 
 impl SourceScopes {
-    /// The scopes of a record, with their function maps. The first item of a source's list encodes
-    /// its function map. A source with no list, an empty list or invalid mappings has no function
-    /// map. The only error is `OutOfMemory`. Requires at most 4294967295 lists.
+    /// Returns `entries` with the function maps of the sources. The function map of a source is
+    /// decoded from the first item of its list. A source has no function map if it has no list, if
+    /// its list is empty, or if the mappings of the first item are invalid. The only error is
+    /// `OutOfMemory`. Requires at most 4294967295 entries; an entry that is `None` counts too.
     pub fn new(alloc: Global, entries: ScopeLists) -> Result<SourceScopes>
         requires { AreFewScopes (entries_in entries) }
         ensures entries { IfOk result (λ scopes. scopes.entries ≡ entries_in entries) }

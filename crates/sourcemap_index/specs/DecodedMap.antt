@@ -1,4 +1,5 @@
--- The debug id of a map of any kind, and the values and texts that it is written as.
+-- The debug id of a map of any kind. The JSON values and the texts that a map is written as. How deep index maps are
+-- nested, and the maps whose JSON has at most 127 levels.
 use Rattle.std.specs.Prelude.{◌≡◌, ◌≤◌, ℕ, suc, max, List, Option}
 use Rattle.serde_json.specs.Data.{Data, depth}
 use Rattle.serde_json.specs.Read.{max_depth}

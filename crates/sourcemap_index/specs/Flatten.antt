@@ -14,7 +14,8 @@ use Rattle.sourcemap_index_flatten.specs.declared.gathering.Gathering.{Gathering
 use Rattle.sourcemap_index_flatten.specs.declared.gathering.FlatMap.{FlatMap}
 use Rattle.sourcemap_map_rewrite.specs.declared.options.RewriteOptions.{RewriteOptions}
 
--- these pieces and one more, which is the flat map of `t` at this offset; or the error of flattening or adding it
+-- `before` with one more piece at its end: the flat map of `t` at `offset`. If `t` cannot be flattened, the error of
+-- `flat`. Otherwise, if the piece cannot be added, the error of `with_piece`
 abbrev pub map_added : List Piece → ℕ × ℕ → MapTree → Result (List Piece) (List ℕ)
 map_added before offset t = on_ok (flat t) (λ m. with_piece before (offset, m))
 
@@ -35,7 +36,8 @@ Gathered due g = (pieces : List Piece) × (due ≡ Ok pieces) × Gathers pieces 
 abbrev pub IsFlatOf : Result (List Piece) (List ℕ) → FlatMap → Type 0
 IsFlatOf due flat = (pieces : List Piece) × (due ≡ Ok pieces) × IsFlat pieces flat
 
--- the tokens of each map in a section are in order
+-- the section has no map, or the tokens in its map are sorted by generated position. In an index map, the tokens of
+-- each regular map and each Hermes map are sorted, at every level
 abbrev pub IsSectionInOrder : MapSection → Type 0
 IsSectionInOrder s = IfSome s.map HasTokensInOrder
 
@@ -45,7 +47,10 @@ IsSectionInOrder s = IfSome s.map HasTokensInOrder
 abbrev pub RewriteAnswer : RewriteOptions → MapTree → Result MapValue Error → Type 0
 RewriteAnswer options t answer = Then (FlatAnswer t) (λ m a. Rewrites options m a) answer
 
--- `m` has, in order, the positions and meanings of the tokens of the flat map, without what is removed
+-- `t` can be flattened. The tokens of the flat map have the positions and meanings in `flat_list t`, sorted stably by
+-- position. The tokens of `m` correspond to these tokens one to one, in order. Corresponding tokens have the same
+-- generated position. They have the same meaning, except for the parts that `without_removed` removes: the first
+-- matching prefix of the source, and the name if names are not kept
 abbrev pub SaysFlatLess : Removal → MapTree → MapValue → Type 0
 SaysFlatLess removal t m = (whole : MapValue) × (flat t ≡ Ok whole) × SaysFlat t whole × TokensMeanLess removal whole m
 
@@ -53,7 +58,8 @@ SaysFlatLess removal t m = (whole : MapValue) × (flat t ≡ Ok whole) × SaysFl
 abbrev pub MeansFlatLess : Removal → MapTree → MapValue → Type 0
 MeansFlatLess removal t m = (whole : MapValue) × (flat t ≡ Ok whole) × MeansLess removal whole m
 
--- each position with a meaning in the index map has the same meaning in `m`, without what is removed
+-- `t` can be flattened. If a position has a meaning in `t`, it has the same meaning in `m`, except for the parts that
+-- `without_removed` removes: the first matching prefix of the source, and the name if names are not kept
 abbrev pub AnswersLess : Removal → MapTree → MapValue → Type 0
 AnswersLess removal t m =
     (whole : MapValue) × (flat t ≡ Ok whole)

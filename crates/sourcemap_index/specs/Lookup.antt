@@ -7,7 +7,8 @@ use Rattle.sourcemap_index_model.specs.MapTree.{MapTree, leaf, index, held, MapS
 abbrev pub IsAmong : List MapSection → MapSection → Type 0
 IsAmong ss s = (k : ℕ) × (slice_get ss k ≡ Some s)
 
--- one of the regular maps in a map finds the token at some position
+-- a regular map has the token if `lookup_regular` returns the token for some generated position. A Hermes map has the
+-- token if its regular map has it. An index map has the token if the map of one of its sections has it
 abbrev mutual
   pub HasToken : MapTree → TokenValue → Type 0
   HasToken (leaf l) token = (p : ℕ × ℕ) × (lookup_regular (held l) p ≡ Some token)

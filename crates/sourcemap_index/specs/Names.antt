@@ -8,9 +8,10 @@ use Rattle.sourcemap_index_model.specs.MapTree.{MapTree, leaf, hermes}
 use Rattle.sourcemap_index_model.specs.Meaning.{lookup}
 use Rattle.sourcemap_index_model.specs.WellFormed.{IsInOrder}
 
--- the original name of the function with this minified name in the generated text `source`. The name is guessed from
--- the token closest to the position and from the tokens before it in the regular map of this token. The tokens of an
--- index map's other sections are not used
+-- the original name of the function with the name `minified` in the generated text `source`. `lookup` finds a token for
+-- the generated position p. `guessed_from` guesses the name from this token and from the tokens before it in the same
+-- regular map. In an index map, `lookup` searches only the section with the closest offset, so tokens of other sections
+-- are never used. `None` if `lookup` finds no token, or if `guessed_from` finds no name
 abbrev pub guessed_in : MapTree → (source minified : List ℕ) → ℕ × ℕ → Option (List ℕ)
 guessed_in t source minified p = option_and_then (guessed_from source minified) (lookup t p)
 
@@ -32,8 +33,8 @@ function_name t (Some source) (Some minified) p = guessed_in t source minified p
 function_name t _ _ p = None
 
 -- the order that the clause on `function_name` requires. For a Hermes map and a position on line 0, the functions of
--- the closest token's source are sorted. For a guess in another map, the sections are sorted at every level. Otherwise
--- nothing is required
+-- the closest token's source are sorted. For a map that is not a Hermes map, if neither `source` nor `minified` is
+-- `None`, the sections are sorted by offset at every level. Otherwise nothing is required
 abbrev pub IsInOrderForName : MapTree → (source minified : Option (List ℕ)) → ℕ × ℕ → Type 0
 IsInOrderForName (leaf (hermes h)) _ _ p = IsInOrderInBytecode h p
 IsInOrderForName t (Some _) (Some _) p = IsInOrder t

@@ -63,8 +63,10 @@ fn decode_leaf(alloc: Global, raw: RawSourceMap) -> Result<DecodedMap>
     }
 }
 
-// Decodes a record, whose sections were moved to `sections`, to an index map. The sections are
-// decoded in order, then sorted by offset.
+// Decodes a record to an index map. `sections` are the sections of the record, and `raw` has its
+// other keys. Decodes the sections in order, then sorts them stably by offset. More than 4294967295
+// sections are `IncompatibleSourceMap`, and then no section is decoded. Otherwise the error is the
+// first error of a section's map. The only other error is `OutOfMemory`.
 #[cycle(decode)]
 fn decode_parts(
     alloc: Global,

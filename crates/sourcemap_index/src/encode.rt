@@ -44,7 +44,10 @@ impl Encodable for DecodedMap {
 impl Encodable for SourceMapIndex {
     ghost encodes = { λ i. RecordAnswer (index_tree (index_value i)) };
 
-    /// The record of the index map, as for a `DecodedMap`. The only error is `OutOfMemory`.
+    /// The record of the index map. It contains version 3 and the sections. Each section contains
+    /// its offset, its URL and the record of its map; a missing URL or map is `None`. If the index
+    /// map has a file, a debug id, `x_facebook_offsets` or `x_metro_module_paths`, the record
+    /// contains them too. The only error is `OutOfMemory`.
     fn as_raw_sourcemap(&self) -> Result<RawSourceMap>
         ensures answer { IsAnswer tree (RecordAnswer (index_tree (index_value self.now))) result }
         ensures fine { IfOk result (λ r. IsFine (tree r)) }

@@ -33,7 +33,8 @@ fn same_paths(a: &Option<Vec<String>>, b: &Option<Vec<String>>) -> bool
     }
 }
 
-// Whether all but the sections are equal.
+// Whether the two index maps have equal files, debug ids, `x_facebook_offsets` and
+// `x_metro_module_paths`. The sections are not compared.
 fn have_same_parts(a: &SourceMapIndex, b: &SourceMapIndex) -> bool
     ensures { result ≡ same_parts (index_value a.now).parts (index_value b.now).parts }
 {

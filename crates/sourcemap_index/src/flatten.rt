@@ -49,9 +49,11 @@ impl SourceMapIndex {
 
     /// Flattens the index map as `flatten` does, and rewrites the flat map as `SourceMap::rewrite`
     /// does. With `load_local_source_contents`, contents that the rewritten map lacks are read from
-    /// files. The errors of `flatten` come first. After them the error is `Io` of kind
-    /// `InvalidInput` if contents are to be read and the folder is not absolute. The only other
-    /// error is `OutOfMemory`.
+    /// files. Files that cannot be read or are not UTF-8 are skipped.
+    ///
+    /// If `flatten` fails, its error is returned. Otherwise the error is `Io` of kind
+    /// `InvalidInput` if `load_local_source_contents` is true but neither `base_path` nor
+    /// `current_dir` is absolute. The only other error is `OutOfMemory`.
     pub fn flatten_and_rewrite<F: Files>(
         self,
         rt: &F,

@@ -64,7 +64,7 @@ pub fn encoded_texts_are_compact()
 {}
 
 /// A law: if index maps are nested at most 40 levels deep, the JSON of the map has at most 127
-/// levels. More levels cannot be read.
+/// levels. Decoding rejects JSON text of more than 127 levels, with `BadJson(Parse)`.
 pub fn maps_of_forty_levels_are_shallow()
     ensures { (t : MapTree) → levels t ≤ 40 → IsShallow t }
 {}

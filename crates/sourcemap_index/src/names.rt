@@ -16,10 +16,10 @@ impl SourceMapIndex {
     /// Guesses the original name of the function at a generated position, as
     /// `SourceMap::get_original_function_name` does. The search starts at the token that
     /// `lookup_token` returns, and goes back over the tokens of one map only, the map of this
-    /// token. `view`, a view of the generated text, is read at the generated positions of these
-    /// tokens, which are relative to their section. `None` if the search finds no token, if the
-    /// token that it finds has no name, or if `minified_name` is no identifier. Allocates no
-    /// memory.
+    /// token. `view` is a view of the generated text. The search reads `view` at the generated
+    /// position of each token. This is the position in the token's map: no section offset is added
+    /// to it. `None` if the search finds no token, if the token that it finds has no name, or if
+    /// `minified_name` is no identifier. Allocates no memory.
     pub fn get_original_function_name(
         &self,
         line: u32,

@@ -45,7 +45,7 @@ pub record IsTable (entered : List TextEntry) (t : Table) : Type 0 where
   pub kept : entry_values t.entries.items ≡ entries_kept entered
   pub few : length (texts_entered entered) ≤ 4294967295
 
--- `t` is the table after all of `entered` were entered, and `number` is the number of `text` in it
+-- `t` is the table after all of `entered` were entered, and `t` contains `text` at the index `number`
 pub record IsEntered (entered : List TextEntry) (text : List ℕ) (number : ℕ) (t : Table) : Type 0 where
   pub table : IsTable entered t
   pub text_id : id_of text (texts_entered entered) ≡ Some number
@@ -55,8 +55,8 @@ pub record AreEntered (entered entries : List TextEntry) (numbers : List ℕ) (t
   pub table : IsTable entered t
   pub each : numbers ≡ numbers_among entered entries
 
--- the entries after `e` was entered. If `number` is new, `e` is appended. Otherwise, if `e` has contents, `e` replaces
--- the entry that has this number
+-- `entries`, changed by entering `e` with the index `number`. If `number` is not less than the length of `entries`,
+-- `e` is appended. Otherwise, if `e` has contents, `e` replaces the entry at the index `number`
 abbrev pub put_at : ℕ → TextEntry → List TextEntry → List TextEntry
 put_at number e entries =
     cond (nat_lt number (length entries))

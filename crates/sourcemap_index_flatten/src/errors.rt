@@ -37,9 +37,9 @@ fn unresolved_text(alloc: Global, url: Option<&str>) -> Result<String>
     Ok(text)
 }
 
-/// The error `CannotFlatten` for a section without a map. Its text contains `url`, the URL of the
-/// map, or `<unknown url>` if `url` is `None`. `OutOfMemory` if the text of the error cannot be
-/// allocated.
+/// Returns `CannotFlatten` for a section without a map. `url` is the URL in this section. The error
+/// text ends with `url`, or with `<unknown url>` if `url` is `None`. Returns `OutOfMemory` if the
+/// error text cannot be allocated.
 pub fn unresolved_error(alloc: Global, url: Option<&str>) -> Error
     ensures { Refuses (unresolved (option_copied url.entry)) result }
 {

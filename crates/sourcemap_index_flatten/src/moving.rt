@@ -70,7 +70,10 @@ fn move_token(alloc: Global, token: RawToken, to: Move<'_>) -> Result<RawToken>
     }
 }
 
-// Moves `tokens` and appends them to `all`. After an error, `all` is empty.
+// Appends a copy of each of `tokens` to `all`, in order. A copy has the generated position of the
+// token in the flattened map. The source id and name id of a copy are the new ids from `to`, or
+// `NO_ID` where `to` has no new id. The error is `CannotFlatten` if a generated line or column
+// would be above 4294967295. The only other error is `OutOfMemory`. After an error, `all` is empty.
 pub(crate) fn move_all(
     alloc: Global,
     all: &mut Vec<RawToken>,

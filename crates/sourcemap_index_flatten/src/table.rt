@@ -40,7 +40,9 @@ impl<'a> Table<'a> {
         })
     }
 
-    // Enters `entries` in order. Returns the number of each.
+    // Enters `entries` in order. For each of `entries`, returns the index of its text in the table.
+    // The error is `CannotFlatten` if the table would contain more than 4294967295 texts. The only
+    // other error is `OutOfMemory`.
     pub(crate) fn enter_all(&mut self, alloc: Global, entries: &[Entry<'a>]) -> Result<Vec<u32>>
         ensures ok { (before : List TextEntry) → IsTable before self.old
             → IfOk result (λ numbers. AreEntered (before ++ entry_values entries.now)

@@ -55,7 +55,9 @@ RestoresLeaf (regular m) (regular back) = RestoresRegular m back
 RestoresLeaf (hermes h) (hermes back) = RestoresHermes h back
 RestoresLeaf _ _ = ⊥
 
--- `back` has the parts of the index maps of `t`, and restores each regular map and each Hermes map, at every level
+-- `back` and `t` are both index maps, or neither is. If neither is, `back` restores `t` (`RestoresLeaf`). If both are,
+-- they have equal `IndexParts` and equally many sections. The n-th section of `back` and the n-th section of `t` have
+-- equal heads (offset and URL). Either both sections have no map, or `KeepsParts` holds for their maps
 abbrev mutual
   pub KeepsParts : (back t : MapTree) → Type 0
   KeepsParts (leaf back) (leaf l) = RestoresLeaf l back
@@ -68,7 +70,7 @@ abbrev mutual
   KeepSections (filled head t rest) (filled head' t' rest') = (head ≡ head') × KeepsParts t t' × KeepSections rest rest'
   KeepSections _ _ = ⊥
 
--- `back` has the same meaning as `t` at every position, and keeps its parts
+-- `back` has the same meaning as `t` at every generated position, and keeps the parts of `t` (`KeepsParts`)
 abbrev pub Restores : (t back : MapTree) → Type 0
 Restores t back = MeansTheSame back t × KeepsParts back t
 

@@ -75,7 +75,9 @@ unresolved url = codes "Section has an unresolved sourcemap: " ++ unwrap_or url 
 abbrev pub passes_the_end : ℕ × ℕ → Bool
 passes_the_end p = nat_lt 4294967295 p.0 || nat_lt 4294967295 p.1
 
--- adds a piece; an error if there are then too many sources or names, or else if a position of the piece is too large
+-- `before` with `piece` appended. An error if the longer list has more than 4294967295 sources (`sources_in`) or more
+-- than 4294967295 names (`names_in`). Otherwise, an error if the offset of `piece` moves a token of `piece` past line
+-- 4294967295 or past column 4294967295
 abbrev pub with_piece : List Piece → Piece → Result (List Piece) (List ℕ)
 with_piece before piece =
     let pieces = before ++ piece ∷ [] in

@@ -16,7 +16,8 @@ absolute_position offset p = (p.0 + offset.0, (if p.0 == 0 then p.1 + offset.1 e
 abbrev pub absolute_entry : (offset : ℕ × ℕ) → (ℕ × ℕ) × Meaning → (ℕ × ℕ) × Meaning
 absolute_entry offset entry = (absolute_position offset entry.0, entry.1)
 
--- the meanings of the tokens, each with the generated position of its token in the whole map, section after section
+-- the meaning of each token, paired with the token's generated position in the whole map. In an index map, the pairs of
+-- the first section come first, then the pairs of the second section, and so on. A section without a map has no pairs
 abbrev mutual
   pub flat_list : MapTree → List ((ℕ × ℕ) × Meaning)
   flat_list (leaf l) = token_meanings (held l)

@@ -41,9 +41,11 @@ pub fn same_tree_decides()
     ensures equivalence { IsEquivalence same_tree }
 {}
 
-/// A law: if the tokens of each map are sorted, the flattened map has the tokens of all sections
-/// with the same meanings. Each token has its generated position in the whole map. The tokens are
-/// sorted stably by this position.
+/// A law: if the tokens of each regular map and each Hermes map are sorted, and flattening returns
+/// no error, the flattened map has one token for each token of these maps. Each new token has the
+/// meaning of its old token. The new generated position counts from the start of the whole map, and
+/// not from the start of a section. The new tokens are sorted by generated position. Tokens at the
+/// same position keep their old order, section after section.
 pub fn flat_maps_say_the_flat_list()
     ensures { (t : MapTree) (m : MapValue) → HasTokensInOrder t → flat t ≡ Ok m → SaysFlat t m }
 {}

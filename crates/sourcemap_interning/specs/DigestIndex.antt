@@ -15,6 +15,8 @@ abbrev pub matching_id : List (List ℕ) → List ℕ → Option ℕ → Option 
 matching_id texts text None = None
 matching_id texts text (Some id) = cond (is_text text (slice_get texts id)) (Some id) None
 
--- the id of each text of `texts` is found in `firsts` by its digest, or else in `others`; any other text has no id
+-- a search for any text returns the id of the text in `texts`, or `None` if `texts` does not contain the text; the
+-- search takes the id in `firsts` under the digest of the text if the string with that id is equal to the text, and
+-- otherwise the id in `others`
 abbrev pub IsIndex : (ℕ → Option ℕ) → (List ℕ → Option ℕ) → List (List ℕ) → Type 0
 IsIndex firsts others texts = (text : List ℕ) → option_or (matching_id texts text (firsts (digest text))) (others text) ≡ id_of text texts

@@ -1,4 +1,4 @@
--- A digest of 64 bits of a string.
+-- The 64-bit digest of a string.
 use Rattle.std.specs.Prelude.{ℕ, ◌+◌, ◌*◌, ◌/◌, ◌%◌, ◌^◌, List, map, length, drop, fold}
 use Rattle.std.specs.Int.{w64, from_le_bytes}
 use Rattle.std.specs.Simd.{first_chunks}
@@ -11,7 +11,8 @@ fold_halves product = (product / 2 ^ 64 + product % 2 ^ 64) % 2 ^ 64
 abbrev pub mix : ℕ → ℕ → ℕ
 mix digest number = fold_halves ((digest + number) % 2 ^ 64 * 13787848793156543929)
 
--- the digest of a text, which mixes in all whole words of eight bytes, then each remaining byte
+-- the digest of a text: start at 0, mix in each whole word of eight bytes as a little-endian number, then mix in each
+-- remaining byte
 unfoldable pub digest : List ℕ → ℕ
 digest text =
     let words = first_chunks 8 (length text / 8) text in

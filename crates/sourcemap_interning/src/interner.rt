@@ -178,8 +178,9 @@ fn put_first(
     Ok(())
 }
 
-// Appends a string to `texts`, and its id to `others`. This is for a new string whose digest is in
-// `firsts` already, with the id of another string. If memory runs out, neither changes.
+// Appends a string to `texts`, and its id to `others`. If memory runs out, neither changes. `add`
+// calls this function for a new string if `firsts` already has an id under the digest of that
+// string.
 fn put_other(
     texts: &mut Vec<String>,
     others: &mut BTreeMap<String, u32>,

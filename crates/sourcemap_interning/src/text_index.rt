@@ -1,4 +1,5 @@
-//! Numbers of texts, found by hash.
+//! An index that assigns a number to each text. It finds the number by the hash of the text, or in
+//! a tree if the text found no free slot.
 ghost use Rattle.std.specs.Prelude.{◌≡◌, ◌<◌, ◌≤◌, ◌*◌, ◌++◌, ◌∷◌, ℕ, List, [], None, Some, cond, if◌then◌else◌, is_ok, length, map, vec_len, is_some, IfOk, OnOk, OnErr, IsOkUnless};
 ghost use Rattle.std.specs.Str.{bytes_eq};
 ghost use Rattle.sourcemap_interning.specs.Slots.{number_in_tree};
@@ -102,9 +103,8 @@ impl<'a> TextIndex<'a> {
         Ok(number)
     }
 
-    // Grows the table if there are at least half as many texts as slots where a search can start.
-    // There are `mask` + 1 such slots. The texts and their numbers stay the same, also after an
-    // error.
+    // A search can start at `mask` + 1 slots. Grows the table if the number of texts is at least
+    // half of `mask` + 1. The texts and their numbers stay the same, also after an error.
     fn grow(&mut self) -> Result<(), AllocError>
         ensures { self.new ≡ self.old }
     {

@@ -21,7 +21,8 @@ pub record Remaining : Type 0 where
 abbrev pub remaining_code : Coded Remaining
 remaining_code = code_by (List token.Token × List ℕ) (coded× token.tokens_code (coded_list coded_ℕ)) (λ r. (r.tokens, r.bytes)) (λ p. record { tokens = p.0; bytes = p.1 }) (λ _. refl)
 
--- the step is the first of the remaining tokens; at the end no token and no byte remains
+-- the step is the first token of `old`, and `new` has the tokens after it. If the step is `End`, `old` and `new` have
+-- no tokens, and `new` has no bytes
 abbrev pub Takes : Remaining → Step → Remaining → Type 0
 Takes old BeginObject new = old.tokens ≡ token.begin_object ∷ new.tokens
 Takes old EndObject new = old.tokens ≡ token.end_object ∷ new.tokens

@@ -9,14 +9,18 @@ use Rattle.json.specs.Lex.{lex, in_string}
 abbrev pub IsUtf8UpTo : List ℕ → ℕ → ℕ → Type 0
 IsUtf8UpTo text from at = IsUtf8 (drop at text) → IsUtf8 (drop from text)
 
--- Within a string, `before` begins with a part that decodes to `decoded`. The string goes on with `after`.
+-- `before` and `after` begin within a string. Each is decoded up to the closing quote: `before` gives `decoded`,
+-- followed by the bytes that `after` gives; or both are invalid. The tokens, commas and colons after the closing quote
+-- are the same.
 pub record IsDecodedBetween (before decoded after : List ℕ) : Type 0 where
   pub bytes : content plain before ≡ prepend decoded (content plain after)
   pub goes_on : lex in_string before ≡ lex in_string after
 
--- The string from index `from` to index `at` was decoded and appended to `old`, which gives `new`. Both `old` and `new`
--- may end within a character. If `new` and the text from `at` on are UTF-8 together, so are `old` and the text from
--- `from` on.
+-- A step decodes a part of a string. Before the step, the decoded bytes are `old`, and the rest of the string begins at
+-- index `from`. After the step, the decoded bytes are `new`, and the rest begins at index `at`. The decoded bytes,
+-- followed by the decoded rest, are the same before and after the step; or both rests are invalid. The tokens, commas
+-- and colons after the closing quote are the same too. `old` and `new` may end within a character. If `new` followed by
+-- the text from `at` on is UTF-8, then `old` followed by the text from `from` on is UTF-8.
 pub record IsReadUpTo (old text : List ℕ) (from : ℕ) (new : List ℕ) (at : ℕ) : Type 0 where
   pub bytes : prepend new (content plain (drop at text)) ≡ prepend old (content plain (drop from text))
   pub goes_on : lex in_string (drop at text) ≡ lex in_string (drop from text)

@@ -7,8 +7,8 @@ use std::simd::Simd;
 /// Zeros to extend a buffer by, at most 4096 bytes at a time.
 pub static ZEROS: [u8; 4096] = [0; 4096];
 
-/// Stores the first `N` bytes of `text` at index `to` of `buffer`, by one load and one store. The
-/// caller may need fewer of these bytes.
+/// Stores the first `N` bytes of `text` at index `to` of `buffer`, by one load and one store. All
+/// `N` bytes are stored, even if the caller uses only the first few of them.
 #[inline(always)]
 pub fn store_block<const N: usize>(buffer: &mut [u8], to: usize, text: &[u8])
     requires { (N ≤ length text.now) × (to + N ≤ length buffer.old) }

@@ -4,7 +4,8 @@ ghost use Rattle.json.specs.Word.{head, is_operator, is_space, ends_word};
 ghost use Rattle.json.specs.Lex.{between, lex};
 ghost use Rattle.sourcemap_json_read.specs.Strings.{IsUtf8UpTo};
 
-/// The byte at `at`, or a space past the end of the text.
+/// Returns the byte at index `at`. If `at` is not less than the length of the text, returns a
+/// space.
 #[inline(always)]
 pub(crate) fn byte_at(text: &[u8], at: usize) -> u8
     ensures value { result ≡ head (drop at text.now) }

@@ -90,8 +90,8 @@ impl<'a> Cursor<'a> {
     /// A cursor at the start of a text. It allocates one scratch buffer for all strings with
     /// escapes or characters past ASCII. For a valid text without such strings the buffer is never
     /// written. The capacity of the buffer is the length of the text plus `3 * SLACK` bytes. No
-    /// string decodes to more bytes than the text has. The other bytes are spare, because a stored
-    /// block may extend past the end of a decoded string.
+    /// string decodes to more bytes than the text has. `extend_with_zeros` needs the extra
+    /// `3 * SLACK` bytes, because a stored block may extend past the end of a decoded string.
     pub(crate) fn new(alloc: Global, text: &'a [u8]) -> Result<Cursor<'a>, AllocError>
         ensures { IfOk result
             (λ cursor. cursor ≡ record { tokens = tokens text.now; bytes = text.now }) }
@@ -115,7 +115,8 @@ impl<'a> Cursor<'a> {
     {
         let position = skip_comma(self.text, self.position);
         let (step, after) = read_step(alloc, self.text, position, &mut self.scratch)?;
-        // Field by field: copying the padding too takes longer.
+        // Assigns each field separately. To assign the whole `Position` takes longer, because this
+        // also copies its padding.
         self.position.at = after.at;
         self.position.state = after.state;
         Ok(step)

@@ -92,8 +92,8 @@ fn unescape(buffer: &mut Vec<u8>, text: &[u8], start: usize) -> Result<(usize, u
 }
 
 /// Extends the buffer by zeros if it has fewer than `SLACK` bytes from `to` on. `left` is how many
-/// bytes of the text remain. They decode to at most `left` bytes. So it appends `left + 2 * SLACK`
-/// zeros, but at most all of [`ZEROS`].
+/// bytes of the text remain. They decode to at most `left` bytes, so `left + 2 * SLACK` zeros are
+/// enough for the rest of the text. Appends this many zeros, or all of [`ZEROS`] if it has fewer.
 #[inline(always)]
 fn extend_with_zeros(buffer: &mut Vec<u8>, to: usize, left: usize) -> Result<(), AllocError>
     requires { (to ≤ length buffer.old.items) × (left < 2 ^ 63) }

@@ -1,6 +1,6 @@
-//! JSON values from bytes. The fast path follows a cursor, and moves the cursor's strings into the
-//! value. If the text has a form that the fast path does not support, `serde_json` reads the whole
-//! text again.
+//! JSON values from bytes. The fast path reads the tokens one by one with a cursor, and moves the
+//! decoded strings into the value. If the text has a form that the fast path does not support,
+//! `serde_json` reads the whole text again.
 ghost use Rattle.std.specs.Prelude.{◌≡◌, ◌≤◌, length, Some, None, IfOk, IfErr, IsUtf8};
 ghost use Rattle.serde_json.specs.Data.{no_members, depth as nesting};
 ghost use Rattle.serde_json.specs.Errors.{IsMemory, IsOfText};
@@ -79,7 +79,9 @@ fn read(alloc: Global, first: Step, cursor: &mut Cursor<'_>, depth: usize) -> Re
     }
 }
 
-/// Reads the items of an array after its opening bracket, and the closing bracket.
+/// Reads the rest of an array after its opening bracket: the items and the closing bracket. Each
+/// item has at most `depth` levels. The error is `Unsupported` if an item has more levels, or if
+/// the rest has another form that the fast path does not support. Any other error is out of memory.
 #[cycle(read)]
 #[inline(never)]
 fn read_items(alloc: Global, cursor: &mut Cursor<'_>, depth: usize) -> Result<Vec<Value>, Stop>
@@ -100,8 +102,10 @@ fn read_items(alloc: Global, cursor: &mut Cursor<'_>, depth: usize) -> Result<Ve
     }
 }
 
-/// Reads the members of an object after its opening bracket, and the closing bracket. Of duplicate
-/// keys the last value is kept.
+/// Reads the rest of an object after its opening bracket: the members and the closing bracket. Of
+/// duplicate keys the last value is kept. Each value has at most `depth` levels. The error is
+/// `Unsupported` if a value has more levels, or if the rest has another form that the fast path
+/// does not support. Any other error is out of memory.
 #[cycle(read)]
 #[inline(never)]
 fn read_members(

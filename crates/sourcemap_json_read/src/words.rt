@@ -7,7 +7,8 @@ ghost use Rattle.sourcemap_json_read.specs.Words.{AreDigits, IsWordAt};
 use crate::bytes::{byte_at, is_word_end};
 use crate::stop::Stop;
 
-// A number of at least this value may not have another digit.
+// The smallest number with 16 digits. If the value is at least this number and another digit
+// follows, `digits` returns the error `Unsupported`.
 const MAX_BEFORE_DIGIT: u64 = 1_000_000_000_000_000;
 
 /// Returns the index after `word`. The error is `Unsupported` if `word` is not at `from`, or if the

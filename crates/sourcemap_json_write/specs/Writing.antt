@@ -1,4 +1,6 @@
--- Values without floats, with each key once and in order: their compact texts are UTF-8 and read back.
+-- Plain values: their numbers are integers that fit 64 bits, and their objects have each key once, in ascending order.
+-- The compact text of a plain value is UTF-8. Reading this text gives the same value, if arrays and objects nest at
+-- most 127 levels deep.
 use Rattle.std.specs.Prelude.{◌≡◌, Bool, Some, IsUtf8}
 use Rattle.json.specs.Print.{IsNumber}
 use Rattle.json.specs.Tree.{HasNumbers, ItemsHaveNumbers, MembersHaveNumbers}

@@ -31,7 +31,7 @@ pub fn value_to_vec(alloc: Global, value: &Value) -> Result<Vec<u8>, AllocError>
     }
 }
 
-/// Returns the text of `value_to_vec` as a `String`. The error is out of memory.
+/// Calls `value_to_vec` and returns its bytes as a `String`. The error is out of memory.
 pub fn value_to_string(alloc: Global, value: &Value) -> Result<String, AllocError>
     ensures text { IfOk result (λ s. has_float (view value.now) ≡ false
         → string_bytes s ≡ compact_text (view value.now)) }
@@ -56,9 +56,10 @@ impl From<AllocError> for Refusal {
     }
 }
 
-/// Appends the text of a value to `out`. This function is inlined into the loops over items and
-/// members. So only arrays and objects need a call of a recursive function. Such a function has a
-/// large frame.
+/// Appends the compact JSON text of a value to `out`. The error is `Fraction` if the value holds a
+/// float, or `OutOfMemory`. This function is inlined into the loops of `put_items` and
+/// `put_members`. So only an array or an object needs a recursive call, of one of these two
+/// functions. Their stack frames are large.
 #[cycle(put)]
 #[inline(always)]
 fn put_value(out: &mut Vec<u8>, value: &Value) -> Result<(), Refusal>

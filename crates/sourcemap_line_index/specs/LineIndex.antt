@@ -28,9 +28,10 @@ BeginsLine tokens index = 0 < index → line_at tokens index ≢ line_at tokens 
 abbrev pub ContinuesLine : List RawToken → ℕ → Type 0
 ContinuesLine tokens index = (0 < index) × (line_at tokens index ≡ line_at tokens (index - 1))
 
--- if the tokens are sorted, this is the table of the first n of them, with one row for each line that holds one of the
--- n tokens. Then all tokens from the first token of a row up to, not including, the first token of the next row are on
--- the line of the row
+-- For tokens sorted by generated position, this is the table of the first n tokens. The table has one row for each
+-- line that holds one of these tokens. A row consists of a line and of the index of the first token on the line. All
+-- tokens from this index up to, not including, the first token of the next row are on the line of the row. All tokens
+-- from the index in the last row up to, not including, index n are on the line of the last row.
 pub record IsLineTable (tokens : List RawToken) (n : ℕ) (table : LineTable) : Type 0 where
   pub same_length : length table.firsts ≡ length table.lines
   pub few : length table.lines ≤ n
@@ -61,7 +62,7 @@ pub record IsSpan (tokens : List RawToken) (line low high : ℕ) : Type 0 where
   pub on_line : (index : ℕ) (d : RawToken) → low ≤ index → index < high
       → (slice_index_or tokens index d).dst_line ≡ line
 
--- the numbers do not fall from one index to the next, from index `low` up to, not including, `high`
+-- the numbers at the indices from `low` up to, not including, `high` do not fall
 abbrev pub Rises : (ℕ → ℕ) → (low high : ℕ) → Type 0
 Rises number low high = (index : ℕ) → low ≤ index → index + 1 < high → number index ≤ number (index + 1)
 

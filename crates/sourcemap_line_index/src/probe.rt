@@ -1,4 +1,5 @@
-//! The position of a lookup, which code can read only through counted comparisons.
+//! A probe holds the position of a lookup. Code that is generic over probes can only compare this
+//! position with numbers. Each comparison is counted.
 ghost use Rattle.std.specs.Prelude.{◌≡◌, ℕ, ◌+◌, if◌then◌else◌, min, nat_lt};
 ghost use Rattle.std.specs.Ordering.{nat_cmp};
 

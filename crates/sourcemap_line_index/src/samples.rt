@@ -21,8 +21,9 @@ const LARGE: usize = 1 << 16;
 // The longest line that is searched linearly, in tokens.
 const FEW: usize = 16;
 
-// The least average length of a line for which samples are kept, in tokens. With shorter lines, a
-// search by samples could exceed the bound on comparisons.
+// A list has samples only if its lines hold at least this many tokens on average. Lines without
+// tokens are not counted. With shorter lines, a search by samples could exceed the bound on
+// comparisons.
 const LONG: usize = 32;
 
 /// The columns of every eighth token of a long list with long lines. Empty for any other list.
@@ -103,8 +104,9 @@ pub(crate) fn first_by_samples<P: Probe>(
     let low = first.div_ceil(SPACING);
     let high = end.div_ceil(SPACING);
     let index = SPACING * first_sample(samples, low, high, probe);
-    // the last sample before `index` is also before `first`, or its column is before the probe's
-    // column; in both cases the result is after that sample
+    // If `index` is 0, `first` is 0 too. Otherwise the token at `index - SPACING` is sampled. The
+    // index of this token is below `first`, or its column is before the probe's column. In both
+    // cases the index to return is greater than `index - SPACING`.
     let from = first.max(index.saturating_sub(SPACING - 1));
     first_linear(tokens, from, end.min(index), probe)
 }

@@ -131,9 +131,10 @@ impl TokenList {
     }
 
     /// Returns the same token and index as `closest_steps`, found by a binary search among all
-    /// tokens. This is for callers that search many lists in turn. Then no list is in the
-    /// processor's cache, and this search is faster than a search by the table, since its branches
-    /// let the processor fetch ahead.
+    /// tokens. This is for callers that search many lists in turn. Usually, such lists are not in
+    /// the processor's cache. For a list outside the cache, this binary search is faster than the
+    /// search of `closest_steps`, since the branches of the binary search let the processor fetch
+    /// ahead.
     pub fn closest_among_many(&self, line: u32, col: u32) -> Option<(usize, RawToken)>
         ensures answer { result ≡ closest_token self.now (line, col) }
         // the list has this token at this index

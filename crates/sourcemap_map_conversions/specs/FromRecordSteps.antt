@@ -1,4 +1,6 @@
--- Steps from a record to the parts of a map: the fields of the record that are used, and what they are read as.
+-- Steps from a record to the parts of a regular map. Definitions that end in `In` state that `RecordParts` holds fields
+-- of the record, where a missing text or list counts as empty. Definitions that end in `_read` convert these fields to
+-- parts of the map.
 use Rattle.std.specs.Prelude.{◌≡◌, ◌≤◌, vec_len, List, map, option_map, string_bytes}
 use Rattle.serde_json.specs.View.{view}
 use Rattle.sourcemap_tokens.specs.declared.tokens.RawToken.{RawToken}
@@ -38,7 +40,8 @@ pub record HaveFewItems (lists : RecordLists) : Type 0 where
   pub sources : vec_len lists.sources ≤ 4294967295
   pub contents : vec_len lists.contents ≤ 4294967295
 
--- the metadata that these fields of a record are read as
+-- the metadata that is read from these fields of a record: the file name (`file_read`), the ignore list in increasing
+-- order without duplicates (`rising`), and the debug id
 abbrev pub metadata_read : RecordMetadata → MetadataValue
 metadata_read metadata = record {
   file = option_map file_read (option_map view metadata.file);

@@ -30,7 +30,8 @@ pub record AreTextsOf (names : ℕ) (tokens : List RawToken) (mappings : List �
   pub back : (sources : ℕ) → sources < 2 ^ 32 → AllWithin sources names tokens
       → MappingsAnswer mappings (list_or_empty ranges) (record { sources = sources; names = names }) (Ok (reduced names tokens))
 
--- the record of these parts, with the texts of its `mappings` and `rangeMappings`
+-- the record of these parts, with the text `mappings` as its field `mappings`, and `ranges` as its field
+-- `rangeMappings`. The tokens of the parts are not used
 abbrev pub record_with : PartsValue → List ℕ → Option (List ℕ) → Fields
 record_with p mappings ranges = record {
   version = Some 3;
@@ -55,8 +56,8 @@ IsRecordOf p t =
     × AreTextsOf (length p.names) p.tokens mappings ranges
     × (t ≡ plain (record_with p mappings ranges))
 
--- the result of writing the parts: the record of the parts, which reads back as itself. There is no error, except that
--- `IsAnswer` also permits out of memory
+-- the result of writing the parts: a record of the parts (`IsRecordOf`). If this record is written as JSON and read
+-- again, the record is unchanged (`IsFine`). `RecordAnswer` permits no error. `IsAnswer` also permits out of memory
 abbrev pub RecordAnswer : PartsValue → Result Tree Error → Type 0
 RecordAnswer p (Ok t) = IsRecordOf p t × IsFine t
 RecordAnswer p (Err _) = ⊥

@@ -28,7 +28,8 @@ others_view others = record {
   contents = contents_in others.contents;
 }
 
--- the lists of a map, converted to the types that a record has
+-- `lists` contains the other lists, converted for a record. Names become JSON strings, and each source becomes `Some`.
+-- The contents are truncated, or filled up with `None`, to one item for each source (`fitted`). The ids are unchanged
 pub record AreListsOf (name_texts source_texts : List (List ℕ)) (content_texts : List (Option (List ℕ))) (ignored : List ℕ) (lists : WrittenLists) : Type 0 where
   pub names : map view lists.names.items ≡ map string name_texts
   pub sources : map text_view lists.sources.items ≡ map Some source_texts

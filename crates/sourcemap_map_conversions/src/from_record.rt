@@ -48,7 +48,8 @@ struct RecordLists {
     contents: Vec<Option<String>>,
 }
 
-// The fields of a record that a regular map is read from.
+// A regular map is read from these fields of a JSON record. The other fields of the record are
+// ignored.
 #[derive(Drop)]
 struct RecordParts {
     texts: RecordTexts,
@@ -168,8 +169,8 @@ fn metadata_of(alloc: Global, metadata: RecordMetadata) -> Result<MapMetadata>
     Ok(MapMetadata::with(file, ignored, debug_id))
 }
 
-// The decimal digits of an integer of 64 bits, with its sign if it is negative. Any other number
-// gives an empty name.
+// The decimal digits of a number that is stored as `u64` or `i64`. A negative number has its sign
+// before the digits. A floating-point number gives an empty text. The only error is `OutOfMemory`.
 fn number_text(alloc: Global, number: Number) -> Result<String>
     ensures { Gives string_bytes result (Ok (number_read (number_view number))) }
 {
@@ -197,8 +198,8 @@ fn all_names(alloc: Global, mut names: Vec<Value>) -> Result<Vec<String>>
     ensures { Gives texts_of result (Ok (map name_read (map view names.items))) }
 {
     let mut texts = Vec::with_capacity(alloc, names.len())?;
-    // Values are removed from the end of the list. Its unused memory can then be freed before all
-    // names are converted.
+    // Values are removed from the end of the list. `shrink_by_quarters` can then free unused memory
+    // of the list while the loop still converts names.
     names.reverse();
     while let Some(name) = names.pop() {
         texts.push(name_text(alloc, name)?)?;

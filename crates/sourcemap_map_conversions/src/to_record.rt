@@ -54,7 +54,8 @@ struct FileAndRoot {
     root: Option<String>,
 }
 
-// The lists of a map, converted to the types that a record has.
+// The items of the lists `names`, `sources`, `sourcesContent` and `ignoreList` in a record. The
+// record has no `sourcesContent` if no source has contents, and no `ignoreList` if `ids` is empty.
 #[derive(Drop)]
 struct WrittenLists {
     names: Vec<Value>,
@@ -212,7 +213,8 @@ fn source_texts(alloc: Global, sources: Vec<String>) -> Result<Vec<Option<String
     Ok(texts)
 }
 
-// Cuts the list, or fills it with `None`, to one item for each of the `count` sources.
+// Returns the contents with one item for each of the `count` sources. A longer list is truncated.
+// A shorter list is filled up with `None`. The only error is `OutOfMemory`.
 fn content_texts(mut contents: Vec<Option<String>>, count: usize) -> Result<Vec<Option<String>>>
     ensures { Gives contents_in result (Ok (fitted count (contents_in contents))) }
 {

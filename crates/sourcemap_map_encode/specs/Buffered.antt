@@ -2,11 +2,12 @@
 use Rattle.std.specs.Prelude.{ℕ, List, Option}
 use Rattle.std.specs.Io.KnownBytes.{Appends, append_known}
 
--- the bytes of the writer (`held`), followed by those of the buffer (`gathered`), grew by this text; nothing is said if
--- the old bytes of the writer are not known
+-- `held` are the bytes of the writer before a write, and `gathered` are the bytes of its buffer. `held'` and
+-- `gathered'` are the bytes of both after the write. If `held` is known, then `held'` is known, and
+-- `held' ++ gathered'` is `held ++ gathered ++ text`. If `held` is `None`, nothing is said.
 abbrev pub Grows : Option (List ℕ) → List ℕ → Option (List ℕ) → List ℕ → List ℕ → Type 0
 Grows held gathered held' gathered' text = Appends (append_known held gathered) (append_known held' gathered') text
 
--- the bytes of the writer, followed by those of the buffer, grew by a text that satisfies `IsText`
+-- some text satisfies `IsText`, and `Grows` holds for this text
 abbrev pub GrowsBy : (List ℕ → Type 0) → Option (List ℕ) → List ℕ → Option (List ℕ) → List ℕ → Type 0
 GrowsBy IsText held gathered held' gathered' = (text : List ℕ) × IsText text × Grows held gathered held' gathered' text

@@ -28,8 +28,8 @@ abbrev pub part : Bool → Entry → List ℕ
 part later (key, None) = []
 part later (key, Some d) = key_text later key ++ compact_text d
 
--- whether any member is written by the end of these entries. `later` says whether one is written before them. An entry
--- with a value writes a member. An entry without a value writes none
+-- true if a member is written before these entries (`later` is true), or if one of these entries has a value. An entry
+-- with a value is written as a member. An entry without a value is not written
 abbrev pub later_after : Bool → List Entry → Bool
 later_after later [] = later
 later_after later (e ∷ es) = later_after (later || is_some e.1) es

@@ -11,7 +11,8 @@ use std::io::Write;
 /// A buffer of at least this many bytes is written out.
 pub(crate) const PIECE: usize = 1 << 14;
 
-// `PIECE` line ends of `mappings` or `rangeMappings`, for a single write.
+// A group of `PIECE` semicolons for one `write_all`. In `mappings` and `rangeMappings`, a semicolon
+// ends a line.
 static LINE_ENDS: [u8; PIECE] = [b';'; PIECE];
 
 /// Writes the buffer's content and clears the buffer.

@@ -1,5 +1,7 @@
-//! Writes a map as compact JSON in pieces. At any time, memory holds at most about one piece of the
-//! text, and in addition one string of the map or the range bits of one line.
+//! Writes a map as compact JSON in pieces. The buffer holds less than 32 KB of text, plus the range
+//! bits of at most one line. The strings of the map are copied and converted to JSON text one at a
+//! time. The ids of the ignore list are copied all at once. The range flags are collected for one
+//! line at a time.
 #![tactic(auto)]
 
 mod buffered;

@@ -12,7 +12,9 @@ use sourcemap_errors::errors::Result;
 use std::alloc::Global;
 use std::io::Write;
 
-/// Writes a key and a colon, after a comma if a member precedes it (`later`).
+/// Writes the start of a member: a comma if `later` is true, then `key` as a JSON string, then a
+/// colon. `later` says whether another member precedes this one. The errors are `OutOfMemory`, and
+/// `Io` if a write fails for another reason.
 pub(crate) fn put_key<W: Write>(
     alloc: Global,
     writer: &mut W,

@@ -37,7 +37,9 @@ fn put_line<W: Write>(
     put_line_ends(writer, buffer, line_ends)
 }
 
-/// Writes the range bits of sorted tokens. The flags of one line are in memory at a time.
+/// Writes the range bits of `tokens` line by line. The tokens must be sorted by generated position.
+/// A token that equals the previous token gets no bit. Only the flags of one line are collected at
+/// a time. The errors are `OutOfMemory`, and `Io` if a write fails for another reason.
 pub(crate) fn put_ranges<W: Write>(
     alloc: Global,
     writer: &mut W,

@@ -123,8 +123,8 @@ fn push_segment(
     Ok(())
 }
 
-// On a new line the generated column is relative to 0. The other fields stay relative to the last
-// segment that has them, on any line.
+// Moves `against` to `line`. If `against` is on another line, its generated column becomes 0. Its
+// other fields are unchanged, because `mappings` does not reset them at the start of a line.
 fn move_to_line(against: &mut RawToken, line: u32)
     ensures { against.new ≡ at_line against.old line }
 {

@@ -1,4 +1,4 @@
-//! Writes strings, numbers and lists as JSON, one item at a time.
+//! Writes strings, numbers and lists as JSON. A list is written item by item.
 ghost use Rattle.std.specs.Prelude.{◌≡◌, map, false, OnOk, IfErr, string_bytes, IsUtf8};
 ghost use Rattle.std.specs.List.{AllByRecursion};
 ghost use Rattle.json.specs.Print.{quoted};
@@ -18,7 +18,8 @@ use sourcemap_json_write::writing::value_to_string;
 use std::alloc::Global;
 use std::io::Write;
 
-/// Writes a value without fractions as compact JSON.
+/// Writes a value as compact JSON. The value must not contain a float, not even 1.0. The errors
+/// are `Io` and `OutOfMemory`.
 pub(crate) fn put_value<W: Write>(
     alloc: Global,
     writer: &mut W,
@@ -82,8 +83,8 @@ pub(crate) fn put_texts<W: Write>(
     put(writer, buffer, "]")
 }
 
-/// Writes a number. The clause `small` says that the number is below 2^32. It holds after an error
-/// too.
+/// Writes a number. The clause `small` says that the number is below 2^32. This clause holds on
+/// success and after an error. The errors are `Io` and `OutOfMemory`.
 pub(crate) fn put_number<W: Write>(
     alloc: Global,
     writer: &mut W,

@@ -7,7 +7,8 @@ use Rattle.std.specs.Cmp.Lexicographic.{pointwise}
 use Rattle.std.proofs.Common.{rules}
 use Rattle.sourcemap_map_parts.specs.TextLists.{same_text}
 
--- a list cut, or filled with `None`, to `count` items
+-- `contents` with exactly `count` items. If `contents` is longer, only its first `count` items remain. If `contents` is
+-- shorter, `None` items are added at the end.
 abbrev pub fitted : {X : Type 0} → ℕ → List (Option X) → List (Option X)
 fitted count contents = take count (contents ++ replicate count None)
 

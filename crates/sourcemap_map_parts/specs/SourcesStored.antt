@@ -10,8 +10,8 @@ sources_in a = record {
   texts = texts_of a.texts;
 }
 
--- No source has the id 4294967295. The list `resolved` has the sources resolved against the root. If there is no such
--- list, resolving changes no source.
+-- No source has the id 4294967295. The list `resolved` contains all sources, resolved against the root. If `resolved`
+-- is `None`, resolving changes no source.
 pub record AreStored (a : Inside) : Type 0 where
   pub few : length (texts_of a.texts) ≤ 4294967295
   pub resolved : texts_of (unwrap_or a.resolved a.texts) ≡ resolved_texts (sources_in a)

@@ -1,4 +1,5 @@
-//! Lists of optional items that are cut, or filled up with `None`, to a length.
+//! Sets the length of a list of optional items. A longer list is truncated. A shorter list is
+//! filled with `None` at its end. `put` also sets one item.
 ghost use Rattle.std.specs.Prelude.{◌≡◌, ◌<◌, slice_set, vec_len, OnOk, OnErr, IsOkUnless};
 ghost use Rattle.sourcemap_errors.specs.Answer.{Changes};
 ghost use Rattle.sourcemap_errors.specs.declared.errors.Error.TheVariants.{OutOfMemory};

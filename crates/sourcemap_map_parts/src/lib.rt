@@ -1,5 +1,6 @@
-//! The fields that regular maps and builders share: sources with their root, contents, and metadata
-//! (file name, ignore list, debug id).
+//! Types for parts of a regular map. `Sources` holds the sources and their `sourceRoot`. `Contents`
+//! holds the contents of the sources. `MapMetadata` holds the file name, the ignore list and the
+//! debug id. A builder also stores its contents and its metadata in these types.
 #![tactic(auto)]
 
 pub mod contents;

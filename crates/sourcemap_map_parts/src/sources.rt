@@ -137,9 +137,9 @@ impl Sources {
         }
     }
 
-    /// Replaces the unresolved source with this id by `text`, and resolves `text` against the root.
-    /// There must be a source with this id. The only error is `OutOfMemory`, and then nothing
-    /// changes.
+    /// Stores `text` as the unresolved source with this id, and drops the old text. The resolved
+    /// source with this id is then `text`, resolved against the root. There must be a source with
+    /// this id. The only error is `OutOfMemory`, and then nothing changes.
     pub fn set(&mut self, id: u32, text: &str) -> Result<()>
         requires { id < length self.old.texts }
         ensures { Changes result self.old self.new (record self.old {
@@ -305,10 +305,13 @@ fn put_text(texts: &mut Vec<String>, id: usize, text: String)
     texts[id] = text;
 }
 
-// Updates the resolved sources for the new text `source` of the source with this id. The caller
-// changes the unresolved source afterwards. If `resolved_list` is `None`, the root changes no
-// source in `sources`. In that case the list is created if the root is not empty, since such a root
-// may change the new text. The only error is `OutOfMemory`, and then `resolved_list` is unchanged.
+// Updates the resolved sources in `resolved_list` for a new text `source`. Afterwards the caller
+// stores the new text as the unresolved source with this id. There must be a source with this id in
+// `sources`. If `resolved_list` is not `None`, it must contain all `sources`, resolved against
+// `root`. In that case the resolved new text replaces the item with this id. If `resolved_list` is
+// `None` and `root` is empty, the list stays `None`, since an empty root changes no source. If
+// `resolved_list` is `None` and `root` is not empty, the list is created, since `root` may change
+// the new text. The only error is `OutOfMemory`, and then `resolved_list` is unchanged.
 fn update_resolved(
     alloc: Global,
     resolved_list: &mut Option<Vec<String>>,

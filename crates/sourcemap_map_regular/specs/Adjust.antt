@@ -5,7 +5,8 @@ use Rattle.sourcemap_tokens.specs.declared.tokens.RawToken.{RawToken}
 use Rattle.sourcemap_compose.specs.Composition.{composition}
 use Rattle.sourcemap_map_regular.specs.Map.{MapValue}
 
--- the map with the composition of both token lists and all else unchanged; or the error of the composition
+-- the map `original` with new tokens: the composition of the tokens of `original` and the tokens of `adjustment`. All
+-- other parts of `original` are unchanged. If the composition is an error, the result is this error
 abbrev pub adjusted : (original adjustment : MapValue) → Result MapValue Error
 adjusted m n = with_tokens (composition m.tokens n.tokens) where
   with_tokens : Result (List RawToken) Error → Result MapValue Error

@@ -10,7 +10,7 @@ use Rattle.sourcemap_map_regular.specs.MapStored.{parts_in}
 use Rattle.sourcemap_map_regular.specs.Decode.{RecordDecodes}
 pub use Rattle.sourcemap_map_conversions.specs.ToRecord.{written_contents, written_ids}
 
--- the record of a map with these texts of `mappings` and `rangeMappings`
+-- the record of a map. The fields `mappings` and `rangeMappings` of the record are these texts
 abbrev pub record_with : MapValue → List ℕ → Option (List ℕ) → Fields
 record_with m mappings ranges = parts_written (parts_in m) mappings ranges
 

@@ -37,6 +37,7 @@ parts_in m = record {
 abbrev pub value_of : Inside → MapValue
 value_of a = map_over a.metadata a.tokens (texts_of a.names) a.sources a.contents
 
--- there are at most 4294967295 names, so each name has an id below `no_id`, which is the id for no name
+-- there are at most 4294967295 names. So the id of each name is less than `no_id`, and a token with the name id `no_id`
+-- has no name
 abbrev pub HasFewNames : Inside → Type 0
 HasFewNames a = length (texts_of a.names) ≤ 4294967295

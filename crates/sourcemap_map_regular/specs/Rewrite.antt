@@ -31,13 +31,14 @@ first_ids m = firsts_of (resolved_sources m) (map (λ t. t.src_id) m.tokens)
 abbrev pub kept_names : Removal → MapValue → List (List ℕ)
 kept_names removal m = cond removal.with_names (used_names m) []
 
--- the contents of the token's source, if that source is this text
+-- the contents of the source of token t, if this source, once resolved, is equal to `text`. `None` if t has no source,
+-- if its resolved source is not `text`, or if the map has no contents for the source id
 abbrev pub contents_if : MapValue → List ℕ → RawToken → Option (List ℕ)
 contents_if m text t =
     option_and_then (λ source. cond (bytes_eq source text) (contents_of m t.src_id) None) (source_of m t.src_id)
 
--- the contents for a text: `contents_if` of the first token for which it is not `None`; `None` if there is no such
--- token
+-- the contents for the resolved source `text`: the first result of `contents_if` that is not `None`, in the order of
+-- the tokens. `None` if `contents_if` is `None` for every token
 abbrev pub contents_for : MapValue → List ℕ → Option (List ℕ)
 contents_for m text = slice_get (present (map (contents_if m text) m.tokens)) 0
 

@@ -9,7 +9,8 @@ abbrev pub in_front : Option TokenValue → List TokenValue → List TokenValue
 in_front None tokens = []
 in_front (Some token) tokens = token ∷ tokens
 
--- the tokens at the indices below the index of a token, the highest index first
+-- all tokens before this index, in descending order of index. The list is empty if the index is greater than the number
+-- of tokens
 abbrev pub tokens_before : MapValue → ℕ → List TokenValue
 tokens_before m zero = []
 tokens_before m (suc index) = in_front (token_at m index) (tokens_before m index)
@@ -25,6 +26,8 @@ name_of t = (says t).name
 abbrev pub guessed_from : (source minified : List ℕ) → TokenValue → Option (List ℕ)
 guessed_from source minified t = guessed_name position_of name_of source minified (t ∷ tokens_before t.map_of t.index)
 
--- the original name of the function with this minified name, guessed from the token closest to a position
+-- the original name of the function with the name `minified` in the generated text `source`. `lookup` finds a token for
+-- the generated position p. `guessed_from` guesses the name from this token. `None` if `lookup` finds no token, or if
+-- `guessed_from` finds no name
 abbrev pub function_name : MapValue → (source minified : List ℕ) → ℕ × ℕ → Option (List ℕ)
 function_name m source minified p = option_and_then (guessed_from source minified) (lookup m p)

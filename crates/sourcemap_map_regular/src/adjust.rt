@@ -23,13 +23,17 @@ impl SourceMap {
     /// begins at the original position of the token. It ends before the original position of the
     /// next token, in the order of original positions, or at the end of the line if that comes
     /// first. The start of the stretch moves to the generated position of the token. Each new token
-    /// comes from one stretch. A position that a stretch moves keeps its meaning if all of this
-    /// holds:
+    /// comes from one stretch.
     ///
-    /// - The map is well-formed, and no two of its tokens have the same generated position.
-    /// - The token of this map that is closest to the position is on the line of the position.
-    /// - All new tokens in a range come from this stretch. The range begins at the moved start of
-    ///   this stretch and ends at the moved position, both included.
+    /// Suppose that a stretch moves the position `p` to the position `q`. A lookup of `q` in the
+    /// new map gives the same source, original position, name and range flag as a lookup of `p` in
+    /// the old map, if all of this holds:
+    ///
+    /// - The call succeeds.
+    /// - The old map is well-formed, and no two of its tokens have the same generated position.
+    /// - The lookup of `p` in the old map finds a token on the line of `p`.
+    /// - Take the new tokens whose generated position is at or after the moved start of this
+    ///   stretch, and at or before `q`. All of them come from this stretch.
     pub fn adjust_mappings(&mut self, adjustment: &SourceMap) -> Result<()>
         ensures value { Gives (λ _. self.new) result (adjusted self.old adjustment.now) }
         ensures unchanged { OnErr result (self.new ≡ self.old) }

@@ -75,8 +75,8 @@ impl SourceMap {
         Ok(())
     }
 
-    /// Replaces the source with this id, which must exist. Getters resolve the new source against
-    /// `sourceRoot`. The only error is `OutOfMemory`.
+    /// Changes the source with the id `id` to `source`. The map must have a source with this id.
+    /// Getters resolve the new source against `sourceRoot`. The only error is `OutOfMemory`.
     pub fn set_source(&mut self, id: u32, source: &str) -> Result<()>
         requires { id < length self.old.sources }
         ensures value { Changes result self.old self.new

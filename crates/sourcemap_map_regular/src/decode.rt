@@ -87,8 +87,8 @@ impl SourceMap {
     /// `BadJson(Shape)` if the JSON is no record, and the errors of `decode_regular`.
     pub fn from_slice(alloc: Global, bytes: &[u8]) -> Result<Self>
         ensures answer { IsAnswer (λ m. m) (BytesHaveResult RegularDecodes bytes.now) result }
-        // Unless memory runs out, the bytes determine the result. Of an `Io` error they determine
-        // only the kind.
+        // Unless memory runs out, the bytes determine the result. If the result is an `Io` error,
+        // the bytes determine only the kind of the error.
         ensures only { (due : Result MapValue Error) → BytesHaveResult RegularDecodes bytes.now due
             → IsAnswer (λ m. m) (AreSame due) result }
         ensures well_formed { IfOk result IsWellFormed }

@@ -18,7 +18,8 @@ pub trait Encodable {
     ghost use Rattle.sourcemap_errors.specs.declared.errors.Error.{Error};
     ghost use Rattle.sourcemap_records.specs.Jsontypes.{Tree};
 
-    // The results that encoding a value may have.
+    // `encodes v r` means that `as_raw_sourcemap` of `v` may return `r`. In `r` the record is given
+    // as its `Tree`. `as_raw_sourcemap` may always return the error `OutOfMemory` too.
     ghost encodes: { Self → Result Tree Error → Type 0 };
 
     /// The record of the map.

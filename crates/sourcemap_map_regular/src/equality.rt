@@ -19,8 +19,9 @@ fn same_maps(a: &SourceMap, b: &SourceMap) -> bool
     metadata & tokens & names & sources & contents
 }
 
-/// Maps are equal exactly if all parts are: file, root, tokens, names, sources, the list of contents
-/// with its length, ignore list and debug id.
+/// Two maps are equal exactly if these parts are equal: file, `sourceRoot`, tokens, names, sources
+/// as they are written, contents, ignore list and debug id. Lists of contents of different lengths
+/// are not equal.
 impl PartialEq for SourceMap {
     ghost eq = { same_map };
 

@@ -56,7 +56,8 @@ impl Drop for SourceMap {
     }
 }
 
-// The columns from a range token to a position on its line; 0 for other tokens and lines.
+// The number of columns from a range token to a position on the token's line. It is 0 if the token
+// is no range token, if the position is on another line, or if the position is before the token.
 fn distance(token: RawToken, line: u32, col: u32) -> u32
     ensures { result ≡ distance token (line, col) }
 {
@@ -76,9 +77,10 @@ impl SourceMap {
 
     /// A map of these parts, with its tokens sorted stably by generated position. It has no root,
     /// an empty ignore list and no debug id. `None` for `sources_content` is the same as an empty
-    /// list. There may be at most 4294967295 names, sources and contents each. A token has no
-    /// source if no source has its source id, and no name if no name has its name id. The only
-    /// error is `OutOfMemory`.
+    /// list. There may be at most 4294967295 names, sources and contents each. Each token keeps its
+    /// source id and its name id. If no source has the source id, `get_source` of the token returns
+    /// `None`. If no name has the name id, `get_name` of the token returns `None`. The only error
+    /// is `OutOfMemory`.
     pub fn new(
         alloc: Global,
         file: Option<&str>,
@@ -197,8 +199,9 @@ impl SourceMap {
 
     /// The token closest to a generated position: the first token at the position, or else the last
     /// token before it, on its line or on an earlier one. `None` if all tokens are after the
-    /// position. If the token is a range token on the line of the position, its original column
-    /// includes the columns from the token to the position; the sum is at most 4294967295.
+    /// position. If the token is a range token on the line of the position, `get_src_col` of the
+    /// token adds the number of columns from the token to the position. If the sum is greater than
+    /// 4294967295, `get_src_col` returns 4294967295.
     #[inline(always)]
     pub fn lookup_token(&self, line: u32, col: u32) -> Option<Token<'_>>
         ensures value { option_map token_value result ≡ lookup self.now (line, col) }
@@ -249,8 +252,9 @@ impl SourceMap {
     }
 
     /// The token that `lookup_token` returns, found without the table of lines that the map keeps.
-    /// This is faster if lookups alternate between many maps, for example those of the sections of
-    /// an index map, and no map is in the processor's cache.
+    /// For a map outside the processor's cache, this call is faster than `lookup_token`. Maps are
+    /// usually outside the cache if lookups alternate between many maps, for example between the
+    /// maps in the sections of an index map.
     pub fn lookup_token_among_many(&self, line: u32, col: u32) -> Option<Token<'_>>
         ensures value { option_map token_value result ≡ lookup self.now (line, col) }
         ensures meaning { option_map meaning_of_token result ≡ meaning self.now (line, col) }

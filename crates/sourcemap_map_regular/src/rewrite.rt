@@ -23,21 +23,25 @@ impl SourceMap {
     /// Reduces the map to the sources and names that tokens use, each once, in the order of first
     /// use. Sources are resolved against `sourceRoot`, and the result has no root. If tokens use
     /// several sources that resolve to one text, the result has one source for them. It gets
-    /// contents if any of them has contents. If several have contents, the one of these that tokens
-    /// use first gives the contents. File and debug id are kept, and the ignore list is cleared.
-    /// `options` says whether names and contents are kept, and which prefixes are cut from sources.
+    /// contents if any of them has contents. If several of them have contents, the new source gets
+    /// the contents of the one that a token uses first. Sources without contents do not count here.
+    /// File and debug id are kept, and the ignore list is cleared. `options` says whether names and
+    /// contents are kept, and which prefixes are removed from sources.
     ///
     /// With `load_local_source_contents`, contents are loaded from files for sources without
     /// contents, or for all sources if contents are not kept. Each of these sources, before any
-    /// prefix is cut, is resolved against the URL of a folder. The folder is `base_path` if this
-    /// path is absolute, otherwise `base_path` appended to `current_dir`. Files that cannot be read
-    /// or are not UTF-8 are skipped.
+    /// prefix is removed, is resolved against the URL of a folder. The folder is `base_path` if
+    /// this path is absolute, otherwise `base_path` appended to `current_dir`. Files that cannot be
+    /// read or are not UTF-8 are skipped.
     ///
-    /// The errors are `Io` of kind `InvalidInput` if contents are to be loaded and the folder is
-    /// not absolute, and `OutOfMemory`.
+    /// The error is `Io` of kind `InvalidInput` if contents are to be loaded and the folder is not
+    /// absolute. The only other error is `OutOfMemory`.
     pub fn rewrite<F: Files>(self, rt: &F, options: &RewriteOptions<'_>) -> Result<SourceMap>
         ensures value { IsAnswer (λ m. m) (Rewrites options.now self) result }
-        // Each position keeps its meaning, without what the options remove.
+        // At each generated position, the new map has the meaning of the old map, with two changes:
+        // a prefix that `options` selects is removed from the source, and the name is removed if
+        // names are not kept. Each token keeps its generated position, and its meaning changes in
+        // the same way.
         ensures meaning { IfOk result (λ m. MeansLess (removal_of options.now) self m) }
         ensures tokens { IfOk result (λ m. TokensMeanLess (removal_of options.now) self m) }
         // If names are kept and no prefix is cut, the meaning is the same.

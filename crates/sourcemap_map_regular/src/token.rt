@@ -9,8 +9,9 @@ use std::fmt;
 use std::str::from_utf8_unchecked;
 
 /// A token of a map, with a borrow of the map. Its getters return its source and its name as texts.
-/// A token that a lookup returned also has the number of columns that the lookup adds to the
-/// original column of a range token.
+/// A lookup for a position can return a range token on the same line. Then `get_src_col` returns
+/// the original column plus the columns from the token to the position, but at most 4294967295. For
+/// any other token, `get_src_col` returns the original column.
 #[derive(Clone, Copy)]
 pub struct Token<'a> {
     pub(crate) map: &'a SourceMap,
@@ -194,7 +195,9 @@ impl<'a> Token<'a> {
 // The length in bytes of the longest text of a position: two colons and two numbers of ten digits.
 const POSITION_LENGTH: usize = 22;
 
-// Formats `:line:column` at the end of the buffer. One write to a formatter is faster than four.
+// Formats `:line:column` at the end of the buffer and returns this text. So `put` writes the
+// position to the formatter with one write. Four writes, one for each colon and each number, would
+// be slower.
 fn position_text(line: u32, column: u32, buffer: &mut [u8; POSITION_LENGTH]) -> &str
     ensures { result.now ≡ codes ":" ++ decimal line ++ codes ":" ++ decimal column }
 {

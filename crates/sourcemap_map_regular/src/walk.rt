@@ -44,11 +44,13 @@ impl SourceMap {
     ghost use Rattle.sourcemap_map_regular.specs.Walk.{function_name};
 
     /// Guesses the original name of the function at a generated position. `view` is a view of the
-    /// generated text. The search starts at the token closest to the position and goes back over at
-    /// most 128 tokens. It stops at the first token for which the generated text has
-    /// `minified_name` at the token's position and `function` at the previous token's position.
-    /// Returns the name of that token. Returns `None` if there is no such token, if that token has
-    /// no name, or if `minified_name` is no identifier. The call allocates no memory.
+    /// generated text. The search starts at the token closest to the position and goes back over
+    /// the tokens of the map, at most 128 in all. Two consecutive tokens of the search match if the
+    /// identifier at the position of the first token is `minified_name` and the identifier at the
+    /// position of the second token is `function`. White space between a position and the
+    /// identifier is skipped, but not past the end of the line. Returns the name of the first token
+    /// of the first match. Returns `None` if no two tokens match, if the first token of the first
+    /// match has no name, or if `minified_name` is no identifier. The call allocates no memory.
     pub fn get_original_function_name(
         &self,
         line: u32,

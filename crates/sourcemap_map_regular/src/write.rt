@@ -45,8 +45,8 @@ pub fn encode_to<M: Encodable, W: Write>(alloc: Global, map: &M, writer: &mut W)
 }
 
 /// Writes the compact JSON text of the map. The errors are those of [`encode_to`]. The writer is
-/// consumed, so its contents are tested, not proved; [`encode_to`] proves the contents of a
-/// borrowed writer.
+/// consumed, so no clause says what it contains afterwards. [`encode_to`] borrows its writer and
+/// has such a clause.
 pub fn encode<M: Encodable, W: Write + Drop>(alloc: Global, map: &M, mut writer: W) -> Result<()>
     ensures encoded { OnOk result ((text : List ℕ) × IsEncoded (M.encodes map.now) text) }
     ensures error { IfErr result (λ e. UnlessMemory e (M.encodes map.now (Err e) ⊎ IsIo e)) }
@@ -55,9 +55,10 @@ pub fn encode<M: Encodable, W: Write + Drop>(alloc: Global, map: &M, mut writer:
 }
 
 impl SourceMap {
-    /// Writes the compact JSON text of the map. The errors are `Io` if a write fails, and
-    /// `OutOfMemory`. The writer is consumed, so its contents are tested, not proved; [`encode_to`]
-    /// proves the contents of a borrowed writer.
+    /// Writes the compact JSON text of the map. If a write fails, the error is `Io`, or
+    /// `OutOfMemory` if the write ran out of memory. The only other error is `OutOfMemory`. The
+    /// writer is consumed, so no clause says what it contains afterwards. [`encode_to`] borrows its
+    /// writer and has such a clause.
     pub fn to_writer<W: Write + Drop>(&self, writer: W) -> Result<()>
         ensures encoded { OnOk result ((text : List ℕ) × IsEncoded (RecordAnswer self.now) text) }
         ensures error { IfErr result (λ e. UnlessMemory e (IsIo e)) }
@@ -83,7 +84,8 @@ impl SourceMap {
     }
 }
 
-/// A law: the text of a map is exactly the compact JSON text of its record, which has no fractions.
+/// A law: if a map is encoded, the text is the compact text of the JSON value of the map's record.
+/// The reason is that this value contains no number with a fraction.
 pub fn written_maps_are_compact()
     ensures { (m : MapValue) (text : List ℕ)
         → IsEncoded (RecordAnswer m) text → IsCompactTextOf m text }

@@ -15,8 +15,8 @@ contents_with_number numbers contents number id = cond (has_number numbers numbe
 abbrev pub HasNewNumber : List ℕ → ℕ → ℕ → Type 0
 HasNewNumber numbers count id = (number : ℕ) × (slice_get numbers id ≡ Some number) × (number < count)
 
--- the contents by new number: those of the first old number in `order` that has this new number and has contents;
--- `None` if there is no such old number
+-- `kept` has `count` items. The item at index `k` is the contents of an old number: the first old number in `order`
+-- that has the new number `k` and that has contents. The item is `None` if `order` has no such old number
 pub record AreKept (numbers order : List ℕ) (contents : List (Option (List ℕ))) (count : ℕ) (kept : List (Option (List ℕ))) : Type 0 where
   pub many : length kept ≡ count
   pub each : (k : ℕ) → k < count → item_at kept k ≡ first_some (contents_with_number numbers contents k) order

@@ -61,7 +61,9 @@ pub record IsNumbering (texts : List (List ℕ)) (n : Numbering) : Type 0 where
   pub numbered : AreNumbered texts n.seen
   pub index : n.ids ≡ seen_texts texts n.seen
 
--- `new` is `old` with `number` assigned to the old number `id`, whose text is `text`
+-- in the step from `old` to `new`, the old number `id` gets the new number `number`. The item of `seen.numbers` at
+-- index `id` becomes `number`, `id` is appended to `seen.order`, and `text` is appended to `ids` if `ids` lacks it. The
+-- first index of `text` in `new.ids` is `number`
 pub record Assigns (text : List ℕ) (id number : ℕ) (old new : Numbering) : Type 0 where
   pub numbered : id_of text new.ids ≡ Some number
   pub index : new.ids ≡ with_text old.ids text
@@ -69,15 +71,17 @@ pub record Assigns (text : List ℕ) (id number : ℕ) (old new : Numbering) : T
   pub numbers : new.seen.numbers.items ≡ slice_set old.seen.numbers.items id number
 
 -- the sources that `s` has seen are the sources that tokens use, in the order of first use. The same holds for `n` and
--- the names. If `f` has results only for indices of `sources`, then its first result is the same along `s.order` and
--- along the source ids of the tokens
+-- the names. Let `f` return `None` for each number that is not an index of `sources`. Then `first_some f` is the same
+-- for `s.order` and for the list of the source ids of the tokens
 pub record AreSeen (sources names : List (List ℕ)) (tokens : List RawToken) (s n : NewNumbers) : Type 0 where
   pub kept_sources : seen_texts sources s ≡ texts_in_use sources (map (λ t. t.src_id) tokens)
   pub kept_names : seen_texts names n ≡ texts_in_use names (map (λ t. t.name_id) tokens)
   pub first : (f : ℕ → Option (List ℕ)) → ((id : ℕ) → slice_get sources id ≡ None → f id ≡ None)
       → first_some f s.order.items ≡ first_some f (map (λ t. t.src_id) tokens)
 
--- the token with the numbers of its source and its name in the kept lists
+-- the token with a new source id and a new name id. The source id is the first index of the token's source in
+-- `kept_sources`, or `no_id` if there is no such index. The name id is the first index of the token's name in
+-- `kept_names`, or `no_id` if there is no such index
 abbrev pub numbered_by : (sources names kept_sources kept_names : List (List ℕ)) → RawToken → RawToken
 numbered_by sources names kept_sources kept_names t = record t {
   src_id = number_in kept_sources (slice_get sources t.src_id);

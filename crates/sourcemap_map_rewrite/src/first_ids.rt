@@ -1,4 +1,5 @@
-//! The first old number of each text that is kept.
+//! Finds one old number for each text in use. If a text has several old numbers, the result has the
+//! first of them in `order`.
 ghost use Rattle.std.specs.Prelude.{◌≡◌, ℕ, List, IfOk, IsOkUnless};
 ghost use Rattle.std.specs.List.{AllByRecursion};
 ghost use Rattle.sourcemap_errors.specs.declared.errors.Error.TheVariants.{OutOfMemory};

@@ -18,8 +18,9 @@ fn take_text(alloc: Global, texts: &mut Vec<String>, id: usize) -> String
     mem::replace(&mut texts[id], String::new(alloc))
 }
 
-// The texts in use, in the order of their new numbers. If a text has several old numbers, it is
-// moved out of `texts` at the first of these in `numbers.order`.
+// Returns the texts in use, in the order of their new numbers. Each result is moved out of `texts`,
+// not copied. If equal texts have several old numbers, the text at the first of these numbers in
+// `numbers.order` is moved, and the others are dropped. The only error is `OutOfMemory`.
 pub(crate) fn kept_texts(
     alloc: Global,
     mut texts: Vec<String>,

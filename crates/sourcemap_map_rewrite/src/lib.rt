@@ -1,6 +1,6 @@
 //! The steps of `rewrite` on the lists of a map. They drop unused sources and names, deduplicate
-//! the others, renumber tokens, move contents with their sources, load contents from files, and cut
-//! prefixes. Nothing here depends on the type of a map.
+//! the others, renumber tokens, move contents with their sources, load contents from files, and
+//! strip prefixes. This crate uses no type for a whole map, such as `SourceMap`.
 #![tactic(auto)]
 
 mod cut_sources;

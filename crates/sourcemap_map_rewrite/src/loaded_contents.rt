@@ -1,4 +1,5 @@
-//! Contents of the sources in use: kept ones, and ones that are loaded from files.
+//! Finds the contents of the sources in use. The options decide whether the contents in the map are
+//! kept, and whether contents are loaded from files.
 ghost use Rattle.std.specs.Prelude.{◌≡◌, [], true, IfErr, IfOk, IsOkUnless, MatchBool, length, map, string_bytes, vec_len};
 ghost use Rattle.std.specs.List.{AllByRecursion};
 ghost use Rattle.sourcemap_errors.specs.Answer.{UnlessMemory};

@@ -40,8 +40,10 @@ fn renumber_each(
     })
 }
 
-// Returns the tokens with new source and name ids, and the new id of each old source id and name
-// id.
+// Returns the tokens with new source ids and new name ids, and a `Renumbering`. For each old source
+// id and each old name id, the `Renumbering` has the new id, or `NO_ID` if no token uses the old
+// id. The ids of equal texts become one new id. In a token, an id that is not an index of its list
+// becomes `NO_ID`. The only error is `OutOfMemory`.
 pub(crate) fn renumber(
     alloc: Global,
     tokens: TokenList,

@@ -36,8 +36,8 @@ abbrev pub PartRead : Counts → ℕ → List Segment → List ℕ → Segment �
 PartRead counts index before part s =
     (s.index ≡ index) × Reads part s.numbers × (segment_error counts (before ++ s ∷ []) s ≡ None)
 
--- the first error of a part that is not empty, with this index and after the segments `before`:
--- of its digits, otherwise of its numbers
+-- the first error of a part that is not empty. The part has this index in its line and comes after the segments
+-- `before`. The error is the first error of the digits, or the first error of the numbers if the digits are valid
 abbrev pub PartError : Counts → ℕ → List Segment → List ℕ → Error → Type 0
 PartError counts index before part e =
     HasError part e
@@ -72,7 +72,9 @@ LineRead counts n before ((c ∷ cs), bits) line =
     (n < 2 ^ 32) × (first_non_digit bits ≡ None) × (line.bits ≡ bits)
     × PartsRead counts 0 before (parts_of (c ∷ cs)) line.segments
 
--- the first error of line n: of its number, else of its range bits, else of its parts; an empty line has no error
+-- the first error of line n. The line comes after the segments `before`. An empty line has no error. The errors of any
+-- other line are, in this order: `IncompatibleSourceMap` if n is 2^32 or more, `InvalidBase64` with the first byte of
+-- the range bits that is not a digit, and the first error of the parts
 abbrev pub LineError : Counts → ℕ → List Segment → LineText → Error → Type 0
 LineError counts n before ([], bits) e = ⊥
 LineError counts n before ((c ∷ cs), bits) e =

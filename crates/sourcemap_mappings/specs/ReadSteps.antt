@@ -13,14 +13,14 @@ use Rattle.sourcemap_mappings.specs.Segment.{Counts, Segment, parts_of}
 use Rattle.sourcemap_mappings.specs.SegmentSteps.{AreTextSums, AreSums}
 use Rattle.sourcemap_mappings.specs.Read.{Line, line_tokens, PartsRead, LineText, LineRead, lines_of}
 
--- if no column decreased within its line (`rises`), the tokens are sorted, and none of them is after the position that
--- consists of this line and the column of the sums
+-- if `sums.rises` is true, the tokens are sorted by generated position, and no token is after the generated position
+-- (`line`, `sums.column`). `rises` means that no generated column was less than the column before it on its line
 abbrev pub AreInOrderTo : ℕ → Sums → List RawToken → Type 0
 AreInOrderTo line sums tokens = IsTrue sums.rises
     → AreInOrder tokens × AllByRecursion (λ t. is_lt (position_cmp (line, sums.column) (destination t)) ≡ false) tokens
 
--- if no column decreased up to the later sums, then no column decreased up to the earlier sums, and the later column
--- is at least the earlier one
+-- if `later.rises` is true, then `earlier.rises` is true, and `earlier.column` is at most `later.column`. `rises` means
+-- that no generated column was less than the column before it on its line
 abbrev pub RiseFrom : (earlier later : Sums) → Type 0
 RiseFrom earlier later = IsTrue later.rises → IsTrue earlier.rises × (earlier.column ≤ later.column)
 
@@ -58,7 +58,9 @@ pub record TakesPart (counts : Counts) (position : PartPosition) (bits line : Li
   pub order : AreInOrderTo position.line earlier old → AreInOrderTo position.line later new
   pub on_line : AddsOnLine position.line old new
 
--- the tokens of line n, which comes after the segments `before`, are appended; the sums include the line
+-- line n comes after the segments `before` and decodes without an error. The tokens of line n are appended. All sums
+-- except the sum of columns include the segments `before` and the segments of line n. The sum of columns can have any
+-- value
 pub record AddsLine (counts : Counts) (n : ℕ) (before : List Segment) (text : LineText) (old new : List RawToken) (sums : Sums) : Type 0 where
   pub line : Line
   pub read : LineRead counts n before text line

@@ -45,8 +45,9 @@ pub record HasPartError (line : List ℕ) (e : Error) : Type 0 where
   pub some : part ≢ []
   pub error : HasError part e
 
--- an error of the digits of a line, as the error of the part in which it occurs. In the line, a `,` within a number is
--- an invalid digit. But the part ends at the `,`, so its error is `VlqLeftover`: it ends within a number
+-- the error of a part, computed from the error of decoding a number of the part. The number is decoded from the rest of
+-- the line. So if a `,` ends the part within the number, decoding returns `InvalidBase64` with `,`. The error of the
+-- part is then `VlqLeftover`. Every other error stays the same
 abbrev pub error_in_part : Error → Error
 error_in_part (InvalidBase64 c) = if c == comma then VlqLeftover else InvalidBase64 c
 error_in_part e = e

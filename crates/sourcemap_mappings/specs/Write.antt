@@ -63,8 +63,9 @@ base names n before = record {
 abbrev pub difference : ℕ → ℕ → ℤ
 difference a b = pos a -ℤ pos b
 
--- the numbers of a token's segment, each the difference to `against`: the generated column; if the token has a
--- source, also the source and the original position; if it has a name as well, also the name
+-- the numbers of the segment of token t. Each number is a field of t minus the same field of `against`. The first field
+-- is the generated column. If t has a source, the next fields are source id, original line and original column. If t
+-- also has a name id below `names`, the last field is the name id
 abbrev pub numbers : ℕ → RawToken → RawToken → List ℤ
 numbers names against t =
     difference t.dst_col against.dst_col

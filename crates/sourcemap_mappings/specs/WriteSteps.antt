@@ -27,7 +27,9 @@ gap previous line t = if follows previous t then comma ∷ [] else replicate (t.
 abbrev pub at_line : RawToken → ℕ → RawToken
 at_line against n = if against.dst_line == n then against else record against { dst_line = n; dst_col = 0 }
 
--- the new value of `against` after the segment of t: the next segment on the line is relative to this token
+-- the new value of `against` after the segment of t. The next segment on the line is relative to the new value. The
+-- generated position is taken from t. If t has a source, the source id and the original position are taken from t. If t
+-- also has a name id below `names`, the name id is taken from t. All other fields are unchanged
 abbrev pub next_base : ℕ → RawToken → RawToken → RawToken
 next_base names against t = record against {
   dst_line = t.dst_line;

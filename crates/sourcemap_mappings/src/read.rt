@@ -133,8 +133,8 @@ fn add_parts(
     let mut index = 0;
     loop {
         let position = PartPosition { line, index };
-        // separate branches: if one call returned either the sums or an error, the compiler would
-        // unpack the sums at each token
+        // the match is not a function of its own: such a function would return the sums in a
+        // `Result`, and the compiler would unpack this `Result` at each token
         let taken = match usual_part(rest) {
             Some((read, later)) => {
                 let after = add_steps(sums, &read);
@@ -261,8 +261,9 @@ fn read_lines(alloc: Global, mappings: &str, ranges: &str, limits: Limits) -> Re
     })
 }
 
-// The initial capacity is one token for every five bytes of `mappings`, which is usually more than
-// needed.
+// Shrinks the capacity of a list with at most `SMALL_LIST` tokens. The initial capacity in
+// `read_lines` is `mappings.len() / 5 + 1` tokens, but at most `FIRST_TOKENS`. This is usually more
+// than needed.
 fn shrink_small(tokens: &mut Vec<RawToken>)
     ensures { tokens.new.items ≡ tokens.old.items }
 {
@@ -287,12 +288,13 @@ fn token_list_of(mut read: ReadLines) -> Result<TokenList>
 /// Returns the tokens, stably sorted by generated position, with their line table. If the tokens
 /// are decoded in this order, the table is built while decoding.
 ///
-/// Returns the first error from the left. The errors of a line that is not empty are, in this
-/// order: `IncompatibleSourceMap` if the line number, counted from 0, is above 4294967295,
-/// `InvalidBase64` for its range bits, then the error of its first invalid segment. That is the
-/// first error of the digits (`InvalidBase64`, `VlqOverflow` or `VlqLeftover`), otherwise
-/// `BadSegmentSize`, `BadSourceReference` or `BadNameReference`. The only other error is
-/// `OutOfMemory`.
+/// Decodes the lines in order, and returns the first error. An empty line has no error. The errors
+/// of any other line are, in this order: `IncompatibleSourceMap` if the line number, counted from
+/// 0, is above 4294967295; `InvalidBase64` if its range bits contain a byte that is not a digit;
+/// the error of its first invalid segment. The error of a segment is the first error of its digits:
+/// `InvalidBase64`, `VlqOverflow` or `VlqLeftover`. If the digits are valid, the error is the first
+/// of these that applies: `BadSegmentSize`, `BadSourceReference`, `BadNameReference`. The only
+/// other error is `OutOfMemory`.
 pub fn parse_token_list(
     alloc: Global,
     mappings: &str,
@@ -334,8 +336,8 @@ pub fn parse_mappings(
     Ok(list.into_vec())
 }
 
-/// A law: for given counts of sources and names, `mappings` and `rangeMappings` decode to at most
-/// one list of tokens or one error.
+/// A law: for given counts of sources and names, `mappings` and `rangeMappings` have at most one
+/// answer. An answer is either a list of tokens or an error.
 pub fn mappings_determine_one_answer()
     ensures { (mappings ranges : List ℕ) (counts : Counts) (a b : Result (List RawToken) Error)
         → MappingsAnswer mappings ranges counts a → MappingsAnswer mappings ranges counts b

@@ -217,8 +217,9 @@ fn field(count: u32, index: u32, sum: u32) -> u32
     if index < count { sum } else { NO_ID }
 }
 
-// The token of a segment with `count` numbers, which is already included in `sums`. `bits` are the
-// range bits of its line.
+// The token of the segment at `position`. `count` is how many numbers the segment has, or
+// 4294967295 if there are more. `sums` already include the segment. `bits` are the range bits of
+// the segment's line.
 #[inline]
 pub(crate) fn token_at(position: PartPosition, bits: &[u8], count: u32, sums: Sums) -> RawToken
     ensures token { (before here : List Segment) (s : Segment) → AreSums before here sums

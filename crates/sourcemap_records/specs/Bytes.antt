@@ -1,6 +1,6 @@
--- The JSON value that bytes hold, and the record of this value. The errors for bytes that hold no JSON value, or a JSON
--- value that is not a record. The results of decoding a JSON value, bytes or a data URL, given the results of decoding
--- a record. What a call that reads bytes may return.
+-- The JSON value that bytes hold, and the record of this value. The errors if bytes hold no JSON value, or if their
+-- JSON value is not a record. The results that the decoding of a JSON value, of bytes or of a data URL may have. A
+-- parameter, `Decodes`, says which results the decoding of a record may have. What a call that reads bytes may return.
 use Rattle.std.specs.Prelude.{◌≡◌, ◌⊎◌, ℕ, List, Option, Some, None, IfSome, MatchOption, Result, Ok, Err, IsErrAnd, IsUtf8}
 use Rattle.std.specs.IoError.{error_kind}
 use Rattle.std.specs.declared.io.Error.{Error as IoError}
@@ -45,7 +45,9 @@ HoldNoRecord bytes e =
     ((d : Data) × HoldJson bytes d × (record_of d ≡ None) × (e ≡ BadJson Shape)) ⊎ HoldNoJson bytes e
 
 -- `Decodes` says which results the decoding of a record may have. The next three definitions say the same of a JSON
--- value, of bytes and of a data URL. If an input has no record, the result is the error of reading it.
+-- value, of bytes and of a data URL. If there is no record, the result is an error: `InvalidDataUrl` for an invalid
+-- data URL, an error of `HoldNoJson` for bytes without a JSON value, or `BadJson(Shape)` for a JSON value that is not a
+-- record.
 
 -- a result of decoding a JSON value
 abbrev pub ValueHasResult : {Y : Type 0} → (Tree → Result Y Error → Type 0) → Data → Result Y Error → Type 0
@@ -86,6 +88,7 @@ abbrev pub IsAnswerRead : {X Y : Type 0} → (X → Y) → (Result Y Error → T
 IsAnswerRead view Answers (Ok x) = Answers (Ok (view x))
 IsAnswerRead view Answers (Err e) = UnlessReadFails e (Answers (Err e))
 
--- `P` holds of the bytes of a reader: of those in `known`, or of some bytes if `known` is `None`
+-- `known` is the list of unread bytes of a reader, or `None` if this list is unknown. If the list is known, `P` holds
+-- for it. If the list is unknown, `P` holds for at least one list of bytes
 abbrev pub Reading : Option (List ℕ) → (List ℕ → Type 0) → Type 0
 Reading known P = (bytes : List ℕ) × IfSome known (λ remaining. bytes ≡ remaining) × P bytes

@@ -22,7 +22,8 @@ with x next = option_and_then next x
 abbrev pub KeepsOthers : List ℕ → Members → Members → Type 0
 KeepsOthers key before after = (other : List ℕ) → bytes_eq other key ≡ false → get_member other after ≡ get_member other before
 
--- unless memory ran out, the result, mapped by `see`, is `reading`; it is `BadJson(Shape)` if `reading` is `None`
+-- if the result is `Ok x`, then `reading` is `Some (see x)`. If the result is an error, the error is `OutOfMemory`, or
+-- the error is `BadJson(Shape)` and `reading` is `None`
 abbrev pub GivesReading : {X Y : Type 0} → (X → Y) → Result X Error → Option Y → Type 0
 GivesReading see (Ok x) reading = reading ≡ Some (see x)
 GivesReading see (Err e) reading = UnlessMemory e ((e ≡ BadJson Shape) × (reading ≡ None))
@@ -50,7 +51,8 @@ small n = if nat_lt n (2 ^ 32) then Some n else None
 abbrev pub small_number : Data → Option ℕ
 small_number d = with (as_number d) (λ n. with (as_u64 n) small)
 
--- null is read as `Some None`; for any other value, what was read is wrapped in `Some`
+-- `x` holds what was read from the value, or is `None` if the value could not be read. Null gives `Some None` for
+-- every `x`. Any other value gives `Some x`, or `None` if `x` is `None`
 abbrev pub or_null_of : {X : Type 0} → Data → Option X → Option (Option X)
 or_null_of null _ = Some None
 or_null_of _ x = option_map Some x

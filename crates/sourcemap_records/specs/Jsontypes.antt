@@ -249,7 +249,7 @@ written_one s = written_section s.head (written_or_null written s.map)
 
 -- ---- which records read back
 
--- a number of a record is below 2^32
+-- `n` is below 2^32, so it fits into a `u32`
 abbrev pub FitsU32 : ℕ → Type 0
 FitsU32 n = n < 2 ^ 32
 

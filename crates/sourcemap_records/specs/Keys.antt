@@ -130,7 +130,8 @@ extra_keys_in ms =
       x_facebook_sources = x_facebook_sources;
     })))))
 
--- the keys that are removed when a group is read, in reverse order of reading
+-- the keys of `FileKeys`. The next list has the keys of `ContentKeys`. Reading one of these groups removes its keys
+-- from the members. Each list begins with the key that is read last
 abbrev pub file_key_names : List (List ℕ)
 file_key_names = codes "sourceRoot" ∷ codes "sources" ∷ codes "file" ∷ codes "version" ∷ []
 

@@ -83,8 +83,8 @@ pub struct RawSourceMap {
     pub debug_id: Option<DebugId>,
 }
 
-/// The keys of a JSON value by which a source map is detected. Each flag says whether its key has a
-/// value other than null.
+/// The version of a JSON object, and flags for seven of its other keys. These keys decide whether
+/// the object is a source map. Each flag says whether its key has a value other than null.
 #[derive(Clone, Copy, Debug, PartialEq)]
 pub struct MinimalRawSourceMap {
     /// The version of the format, or `None` if it is missing or null.
@@ -172,11 +172,11 @@ impl RawSourceMap {
         read_map(alloc, value)
     }
 
-    /// Returns the record as a JSON value, with its keys in byte order. Writes null for a missing
-    /// version, for missing sources, and for a section's missing URL or map. Leaves out any other
-    /// missing key. The value reads back as this record, with one exception: a `file` that is a
-    /// JSON null, in the record or in the map of a section, reads back as `None`. The error is
-    /// `OutOfMemory`.
+    /// Returns the record as a JSON value, with its keys in byte order. Writes null for each of
+    /// these keys if it is `None`: `version`, `sources`, and in each section `url` and `map`.
+    /// Leaves out any other key that is `None`. The value reads back as this record, with one
+    /// exception: a `file` that is a JSON null, in the record or in the map of a section, reads
+    /// back as `None`. The error is `OutOfMemory`.
     pub fn to_value(&self, alloc: Global) -> Result<Value>
         ensures value { Gives view result (Ok (written (tree self.now))) }
         ensures reads_back { IfOk result (λ v. HasNoNullFile (tree self.now)

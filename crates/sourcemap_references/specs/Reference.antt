@@ -23,7 +23,9 @@ reference_on line =
 abbrev pub line_reference : List ℕ → Option (Option Reference)
 line_reference line = if is_utf8 line then Some (reference_on line) else None
 
--- the result of a line; if the line is UTF-8 without a reference, the result of later lines
+-- the result of a line together with the lines after it. `current` is the result of the line alone, and `later` is the
+-- result of the lines after it. If the line is UTF-8 and has no reference, `current` is `Some None`, and the result is
+-- `later`. Otherwise the result is `current`
 abbrev pub or_later : Option (Option Reference) → Option (Option Reference) → Option (Option Reference)
 or_later (Some None) later = later
 or_later current later = current

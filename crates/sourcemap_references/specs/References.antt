@@ -25,8 +25,9 @@ abbrev pub IsInvalidData : Error → Type 0
 IsInvalidData (Io cause) = error_kind cause ≡ InvalidData
 IsInvalidData _ = ⊥
 
--- the result of a search, unless memory ran out. If `due` is `Some`, the search returns the reference in `due`, if any.
--- If `due` is `None`, since a line is not UTF-8, the error is `InvalidData`
+-- the result of a search for a reference is `due`, or the error is `OutOfMemory`. If `due` is `Some` with a reference,
+-- the search returns this reference. If `due` is `Some None`, the search returns `Ok None`. If `due` is `None`, the
+-- search returns `Io` of kind `InvalidData`; `None` stands for bytes that are not UTF-8
 abbrev pub Locates : Result (Option SourceMapRef) Error → Option (Option Reference) → Type 0
 Locates (Ok found) due = due ≡ Some (option_map reference found)
 Locates (Err e) due = UnlessMemory e ((due ≡ None) × IsInvalidData e)

@@ -21,13 +21,15 @@ joined base url = option_map serialize (result_ok (and_then (parse_url None base
 abbrev pub resolved : List ℕ → List ℕ → Option (List ℕ)
 resolved base url = if is_data_url url then None else joined base url
 
--- a reference resolved against the path of its file; `None` for a `data:` URL, if the path is not absolute, or if the
--- reference leads to no file path
+-- the file path of the reference `url`, resolved against the `file` URL of `path`. `None` in four cases: `url` is a
+-- `data:` URL; `path` is not absolute; `url` or the `file` URL of `path` is rejected; or the resolved URL has no file
+-- path
 abbrev pub resolved_path : List ℕ → List ℕ → Option (List ℕ)
 resolved_path path url = if is_data_url url then None else path_from path false url
 
--- `base` has 2^28 bytes or more, or the parsed `base` and `url` together have 2^28 bytes or more. Resolving adds
--- escapes to a URL, so the resolved URL may then exceed 4 GB
+-- one of two cases: `base` has 2^28 bytes or more; or `base` is not rejected, and `url` and the parsed `base` have 2^28
+-- bytes or more in total. Parsing and resolving may add escapes, so the parsed `base` or the resolved URL may then
+-- exceed 4 GB
 abbrev pub IsLongJoin : List ℕ → List ℕ → Type 0
 IsLongJoin base url = IsLong (length base) ⊎ IsOkAnd (parse_url None base) (λ from. IsLong (length (serialize from) + length url))
 

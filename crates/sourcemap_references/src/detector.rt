@@ -61,9 +61,10 @@ impl SourceMapRef {
     /// Resolves the URL of the source map against the URL of the file that holds the reference.
     ///
     /// Returns `None` if the reference is a `data:` URL, or if either URL is rejected. It may also
-    /// return `None` in two cases: `minified_url` has 2^28 bytes or more, or it has 2^28 bytes or
-    /// more together with the URL in the reference. The second case counts the escapes that parsing
-    /// adds to `minified_url`. The only error is `OutOfMemory`.
+    /// return `None` if `minified_url` has 2^28 bytes or more. It may also return `None` if the URL
+    /// in the reference and the parsed `minified_url` have 2^28 bytes or more in total. The size of
+    /// the parsed `minified_url` includes the escapes that parsing adds. The only error is
+    /// `OutOfMemory`.
     pub fn resolve(&self, minified_url: &str) -> Result<Option<String>>
         ensures { IsAnswer (option_map string_bytes)
             (UnlessLong (resolved minified_url.now (url_of self.now))
@@ -189,8 +190,13 @@ fn lines_after_end(bytes: &[u8], end: usize) -> Option<&[u8]>
 
 /// Returns the reference in a reader's bytes, as `locate_sourcemap_reference_slice` finds it in a
 /// slice. Reads lines through a `BufReader`, up to the line with the reference, and buffers one
-/// line at a time. The error is `Io` if a read fails or a line is not UTF-8, `Io` of kind `Other`
-/// after 2^64 - 1 lines, or `OutOfMemory`.
+/// line at a time.
+///
+/// Interrupted reads are retried. If a read fails for another reason, the error is `Io` with the
+/// error of the reader, or `OutOfMemory` if the error of the reader has this kind. If a line that
+/// was read is not UTF-8, the error is `Io` of kind `InvalidData`. If 2^64 - 1 lines were read and
+/// none of them has a reference, the error is `Io` of kind `Other`. If memory runs out, the error
+/// is `OutOfMemory`.
 pub fn locate_sourcemap_reference<R: Read + Drop>(
     alloc: Global,
     reader: R,

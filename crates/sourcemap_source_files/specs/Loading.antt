@@ -15,12 +15,14 @@ folder_of current base =
     if starts_at_root path then Some path
     else (if starts_at_root current then Some (current ++ codes "/" ++ path) else None)
 
--- the path of a source's file: the text of the source is resolved against the URL of the folder, and the result must be
--- a `file` URL without host; `None` if there is no such path
+-- the path of a source's file. `source` is an entry of the list of sources. The entry is resolved against the `file`
+-- URL of `folder`. The result is the path of the resolved URL, with escapes decoded. The result is `None` if `folder`
+-- is not absolute, if the URL of `folder` or the entry is rejected, if the resolved URL is no `file` URL or has a host,
+-- or if the decoded path is not UTF-8
 abbrev pub file_of : (folder source : List ℕ) → Option (List ℕ)
 file_of folder source = path_from folder true source
 
--- the number of ids below the first argument that have no item in `before`, but have an item in `after`
+-- the number of ids below `n` for which `before` has no item and `after` has an item; `n` is the first argument
 abbrev pub newly : {X : Type 0} → ℕ → (before after : List (Option X)) → ℕ
 newly zero before after = 0
 newly (suc n) before after =

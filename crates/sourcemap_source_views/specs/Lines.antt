@@ -67,9 +67,10 @@ count_ends (byte ∷ text) = cond (is_terminator byte && not (is_crlf byte text)
 abbrev pub HasNoTerminator : Line → Type 0
 HasNoTerminator line = list_any is_terminator line.body ≡ false
 
--- a partial table: `table`, followed by the ranges of the lines from `start` on, is the whole table of the text; no
--- byte from `start` up to `offset`, exclusive, is a terminator; if `offset` is between the bytes of a `\r\n`, `start`
--- is after both bytes
+-- `table` holds the ranges of the first lines of a text, and `start` is the offset where the next line starts: `table`,
+-- followed by the ranges of the lines from `start` on, equals the `line_ranges` of the text. No byte from `start` up to
+-- `offset`, exclusive, is a terminator. If `offset` is between the two bytes of a `\r\n`, these conditions imply that
+-- `start` is after the `\n`
 pub record IsPartialTable (text : List ℕ) (table : List (ℕ × ℕ)) (start offset : ℕ) : Type 0 where
   pub within : start ≤ length text
   pub left : table ++ ranges_from start (lines_of (drop start text)) ≡ line_ranges text

@@ -38,7 +38,8 @@ identifier_from line col offset units = option_and_then (λ at. token_at_start (
 abbrev pub IsWord : List ℕ → (offset word : ℕ) → Type 0
 IsWord line offset word = IsCharBoundary line word × (chars (drop word line) ≡ skip_leading_whitespace (chars (drop offset line)))
 
--- `end` is the offset after the longest run of characters from `word` on that can continue an identifier
+-- a run of characters in a line starts at the offset `word` and ends at the character boundary `end`. Every character
+-- of the run can continue an identifier, and the run is as long as possible. The run may be empty
 abbrev pub IsWordEnd : List ℕ → (word end : ℕ) → Type 0
 IsWordEnd line word end = IsCharBoundary line end × (end ≡ word + length (encode_utf8_all (take_while is_part (chars (drop word line)))))
 
@@ -47,8 +48,8 @@ abbrev pub walked : {S : Type 0} → (S → ℕ × ℕ) → List ℕ → List S 
 walked position_value source [] = []
 walked position_value source (token ∷ tokens) = (token, identifier_at source (position_value token)) ∷ walked position_value source tokens
 
--- the first token that has this identifier and is followed in the list by a token with the identifier `function`;
--- `None` if there is no such token
+-- the first token with the identifier `name` whose next token in the list has the identifier `function`; `None` if
+-- there is no such token
 abbrev pub function_token : {S : Type 0} → List ℕ → List (S × Option (List ℕ)) → Option S
 function_token name [] = None
 function_token name (item ∷ []) = None

@@ -1,4 +1,4 @@
--- The items that a walk back along the tokens of a map has not yet returned.
+-- The items that the iterator `RevTokenIter` has not returned yet: tokens of a map, each with its identifier or `None`.
 use Rattle.std.specs.Prelude.{ℕ, List, [], ◌∷◌, Option, None, Some}
 use Rattle.std.specs.Borrow.{Bor}
 use Rattle.std.specs.Option.{option_copied}

@@ -11,8 +11,9 @@ pub struct LineOffset {
     pub units: u64,
 }
 
-/// Returns the offset of a column, which is in UTF-16 units. A column inside a surrogate pair is
-/// moved after the pair. Returns `None` if the line is too short.
+/// Returns the byte offset of column `col`, and the number of UTF-16 units before this offset.
+/// `col` is in UTF-16 units. A column inside a surrogate pair is moved after the pair. Returns
+/// `None` if the line is too short.
 pub fn reach(line: &str, col: u64) -> Option<LineOffset>
     ensures value { option_map (λ at. at.offset) result ≡ column_offset line.now col }
     ensures boundary { IfSome result (λ at. IsCharBoundary line.now at.offset) }
@@ -141,7 +142,7 @@ pub fn units_in(text: &str) -> u64
     total
 }
 
-/// Returns the part of a line from column `col` to the column `span` later. Both numbers count
+/// Returns the part of a line from column `col` to column `col + span`. `col` and `span` are in
 /// UTF-16 units. A column inside a surrogate pair is moved after the pair. Returns `None` if the
 /// line is too short for either column.
 pub fn slice_at(line: &str, col: u32, span: u32) -> Option<&str>

@@ -99,9 +99,10 @@ impl LineTable {
         Ok(start)
     }
 
-    // Adds the line that the terminator at `end` ends, and returns the start of the next line. If
-    // `end` is before `start`, the byte at `end` is the `\n` of a `\r\n`, whose `\r` has ended the
-    // line already. Then nothing is added, and `start` is returned.
+    // Adds the line from `start` up to the terminator at `end`. Returns the start of the next line.
+    // If `end` is before `start`, the table already has the line with this terminator. Then nothing
+    // is added, and `start` is returned. In this file, that happens only at the `\n` of a `\r\n`.
+    // The only error is out of memory.
     #[inline(always)]
     fn push_end(&mut self, bytes: &[u8], start: usize, end: usize) -> Result<usize>
         requires inside { end < length bytes.now }
@@ -213,8 +214,9 @@ fn terminator_length(text: &[u8]) -> usize
     }
 }
 
-/// A law: the lines of a text with their terminators, joined, are the text. There is one line more
-/// than terminators, and no line contains a terminator.
+/// A law: the lines of a text with their terminators, joined, are the text. The number of lines is
+/// the number of terminators plus one, and `\r\n` counts as one terminator. Apart from its
+/// terminator, a line contains neither `\n` nor `\r`.
 pub fn lines_make_their_text(text: &str)
     ensures joined { joined (lines_of text.now) ≡ text.now }
     ensures counted { length (lines_of text.now) ≡ count_ends text.now + 1 }

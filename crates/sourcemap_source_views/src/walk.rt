@@ -13,7 +13,7 @@ use crate::js_identifiers::{
 };
 use crate::sourceview::SourceView;
 
-/// A token of a map, with the methods that a walk back along the map calls.
+/// A token of a map. A walk back along the tokens of the map uses the methods of this trait.
 pub trait WalkedToken: Copy + Drop {
     /// The type of a token's name.
     type Name;
@@ -108,8 +108,8 @@ impl<'view> Cursor<'view> {
     }
 }
 
-// The first word from a cursor on. From the start of the word to `end`, all characters can continue
-// an identifier. The character at `end`, if any, cannot.
+// A cursor, and an offset `end` in the line of the cursor. The characters from the offset `word` of
+// the cursor up to `end` can all continue an identifier. The character at `end`, if any, cannot.
 #[derive(Clone, Copy)]
 struct Word<'view> {
     cursor: Cursor<'view>,
@@ -199,8 +199,9 @@ fn word_before(line: &str, offset: usize, next: usize, word: usize) -> usize
     }
 }
 
-// The end of the run of characters from `word` on that can continue an identifier. `end` is the end
-// of the run from `next` on. Characters are read only up to `next`.
+// The offset of the first character at or after `word` that cannot continue an identifier, or the
+// end of the line if there is no such character. `end` is the result for `next` instead of `word`,
+// and `next` is not before `word`. Reads no character at or after `next`.
 fn end_before(line: &str, word: usize, next: usize, end: usize) -> usize
     requires order { word ≤ next }
     requires word { IsCharBoundary line.now word }
@@ -260,10 +261,10 @@ fn next_word<'view>(
 }
 
 /// An iterator over a token of a map and all tokens before it, the closest first. With each token
-/// it returns the identifier at the token's generated position in a view. The search takes the rest
-/// of the line from this position on. It finds the longest identifier at the start of the first
-/// word of this rest. The identifier is `None` if the view has no such position, if the rest has no
-/// word, or if its first word starts with no identifier.
+/// it returns the identifier at the token's generated position in a view. The iterator first skips
+/// any white space at this position, but not past the end of the line. The identifier is the
+/// longest one that starts at the resulting offset. The identifier is `None` if the view has no
+/// such position, or if no identifier starts at this offset.
 #[derive(Drop)]
 pub struct RevTokenIter<'view, T> {
     view: &'view SourceView,
@@ -316,8 +317,8 @@ fn is_named(cursor: Option<Cursor<'_>>, col: u32, name: &str) -> bool
 
 // The first token of the walk that has the identifier `name` and is followed in the walk by a token
 // with the identifier `function`. `None` if there is no such token. The walk is over `token` and
-// the tokens before it, at most 128 in all. The walk only compares an identifier with `name` or
-// `function`. It does not search for the end of the identifier.
+// the tokens before it, at most 128 in all. The walk tests whether an identifier is `name`, or
+// whether it is `function`. These tests do not search for the end of the identifier.
 fn function_token<T: WalkedToken>(view: &SourceView, token: T, name: &str) -> Option<T>
     requires { is_identifier (chars name.now) ≡ true }
     ensures { option_map T.seen result ≡ function_token name.now
@@ -360,10 +361,11 @@ impl SourceView {
     }
 
     /// Guesses the original name of a function from its minified name. Walks back over this token
-    /// and the tokens before it, at most 128 in all. Stops at the first token that has the minified
-    /// name at its position and whose previous token in the map has `function` at its position.
-    /// Returns the name of the token with the minified name. Returns `None` if there is no such
-    /// token, if the token has no name, or if `minified_name` is no identifier.
+    /// and the tokens before it, at most 128 in all. Two consecutive tokens of the walk match if
+    /// the identifier at the position of the first token is `minified_name` and the identifier at
+    /// the position of the second token is `function`. Returns the name of the first token of the
+    /// first match. Returns `None` if no two tokens match, if the first token of the first match
+    /// has no name, or if `minified_name` is no identifier.
     pub fn get_original_function_name<T: WalkedToken>(
         &self,
         token: T,

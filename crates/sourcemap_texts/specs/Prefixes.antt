@@ -1,4 +1,4 @@
--- Prefixes that are stripped from the texts of sources.
+-- Prefixes that are stripped from a text, such as an entry of `sources`.
 use Rattle.std.specs.Prelude.{ℕ, List, [], ◌∷◌, ◌++◌, codes, nat_eq, drop, length, if◌then◌else◌}
 use Rattle.std.specs.List.{starts_with, ends_with}
 

@@ -11,7 +11,8 @@ use std::alloc::Global;
 use std::convert::AsStr;
 
 // The rest of the text after a prefix. If the prefix does not end with a slash, a slash must follow
-// it and is stripped too. `None` if the text does not start so.
+// it and is stripped too. `None` if the text does not start with the prefix, or if this slash is
+// missing.
 fn after_prefix<'a>(text: &'a str, prefix: &str) -> Option<&'a str>
     ensures { option_copied result ≡ (if starts_with nat_eq text.now (with_slash prefix.now)
         then Some (drop (length (with_slash prefix.now)) text.now) else None) }
@@ -37,9 +38,10 @@ fn after_first_prefix<'a, S: AsStr>(text: &'a str, prefixes: &[S]) -> Option<&'a
 }
 
 /// Strips the first matching prefix from `current`, or from `text` if `current` is `None`. A prefix
-/// without a slash at its end matches only with a slash after it, which is stripped too. Returns
-/// the text that is left. A result of `None` means that the text that is left is `text` itself. The
-/// only error is out of memory.
+/// without a slash at its end matches only if a slash follows it. This slash is stripped too.
+///
+/// Returns the remaining text, but `None` if `current` is `None` and no prefix matches: `text` is
+/// then unchanged. The only error is `OutOfMemory`.
 pub fn strip_text<S: AsStr>(
     alloc: Global,
     text: &str,

@@ -1,4 +1,5 @@
--- Lists of tokens: their order, their bounds, and the reduced list that encoding keeps.
+-- Lists of tokens: sorting and search by generated position, limits on ids, and the list that decoding returns after
+-- encoding.
 use Rattle.std.specs.Prelude.{◌≡◌, ℕ, ◌≤◌, Bool, ◌&&◌, cond, List, [], ◌∷◌, map, Option, ◌==◌, nat_lt, if◌then◌else◌, IsSortedByKey}
 use Rattle.std.specs.List.{AllByRecursion}
 use Rattle.std.specs.Ordering.{nat_cmp, ordering_then, is_lt}
@@ -7,7 +8,8 @@ use mathlib.Core.Bool.{beq}
 use Rattle.sourcemap_tokens.specs.declared.tokens.RawToken.{RawToken}
 use Rattle.sourcemap_tokens.specs.Search.{closest}
 
--- the id for no source and for no name; a token without a source has it as original line and column too
+-- the id for no source and for no name; also the original line and the original column of a decoded token without a
+-- source
 abbrev pub no_id : ℕ
 no_id = 4294967295
 
@@ -37,11 +39,13 @@ sorted_by key cmp (x ∷ xs) = insert_by key cmp x (sorted_by key cmp xs)
 abbrev pub in_order : List RawToken → List RawToken
 in_order tokens = sorted_by destination position_cmp tokens
 
--- the token closest to a position, with its index
+-- the closest token and its index: the first token at the generated position `p`, otherwise the last token at a smaller
+-- position; `None` if there is no such token
 abbrev pub closest_token : List RawToken → ℕ × ℕ → Option (ℕ × RawToken)
 closest_token tokens p = closest destination position_cmp tokens p
 
--- the source id is below `sources`; or the token has no source, no original position, and no name id below `names`
+-- the source id is below `sources`; otherwise the source id, the original line and the original column are `no_id`, and
+-- the name id is at least `names`
 abbrev pub IsWithin : (sources names : ℕ) → RawToken → Type 0
 IsWithin sources names token =
     sources ≤ token.src_id

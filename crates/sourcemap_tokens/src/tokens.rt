@@ -9,8 +9,9 @@ ghost use Rattle.sourcemap_errors.specs.declared.errors.Error.TheVariants.{OutOf
 
 use sourcemap_errors::errors::Result;
 
-/// The id for no source and for no name. A token without a source has it as original line and
-/// column too.
+/// The id for no source and for no name. Decoding turns a segment with one number into a token with
+/// `NO_ID` as source id, name id, original line and original column. A token without a source that
+/// was not decoded can have an original line and column.
 pub const NO_ID: u32 = 4294967295;
 
 /// One decoded mapping: a generated position (`dst`), and the original position (`src`) and name
@@ -22,9 +23,9 @@ pub struct RawToken {
     pub dst_line: u32,
     /// Generated column.
     pub dst_col: u32,
-    /// Original line, [`NO_ID`] without a source.
+    /// Original line. It is [`NO_ID`] in a decoded token without a source.
     pub src_line: u32,
-    /// Original column, [`NO_ID`] without a source.
+    /// Original column. It is [`NO_ID`] in a decoded token without a source.
     pub src_col: u32,
     /// Source id, [`NO_ID`] for no source.
     pub src_id: u32,
@@ -112,9 +113,11 @@ pub fn one_stable_order(tokens: &[RawToken], sorted: &[RawToken])
         → sorted.now ≡ in_order tokens.now }
 {}
 
-/// A law about `reduced`, which removes repeated tokens and replaces each name id that is not below
-/// `names` by [`NO_ID`]. The token closest to a position stays the same, except that its name id is
-/// replaced if it is not below `names`.
+/// A law about `reduced`. `reduced` removes each token that is equal to the token before it. If a
+/// name id is not below `names`, `reduced` replaces this id by [`NO_ID`]. The token closest to a
+/// generated position in the reduced list is the token closest to this position in `tokens`, with
+/// its name id replaced by the same rule. If `tokens` has no closest token, the reduced list has
+/// none. The tokens need not be sorted.
 pub fn reduced_answers_alike(tokens: &[RawToken], names: u32, line: u32, col: u32)
     ensures { closest_item destination position_cmp (reduced names tokens.now) (line, col)
         ≡ option_map (with_valid_name names)

@@ -27,8 +27,9 @@ use std::alloc::Global;
 /// This includes an empty line, and a line with a carriage return.
 ///
 /// These answers are specified for a regular map, a Hermes map, and an index map whose sections are
-/// in order at every level. Each decoded map is one of these. If the sections of an index map are
-/// not in order, the answer to a position is the text of some token, or `none`.
+/// in order at every level. A map that a decoding call returns is always one of these. But
+/// `SourceMapIndex::new` accepts sections in any order. If the sections of an index map are not in
+/// order, the answer to a position is the text of some token, or `none`.
 pub fn trace_text(alloc: Global, map: &DecodedMap, positions: &[u8]) -> Result<String>
     ensures text { IsInOrder (map_tree map.now) → Gives string_bytes result
         (Ok (trace_of (meaning (map_tree map.now)) positions.now)) }
@@ -79,10 +80,10 @@ fn push_token(text: &mut String, map: &DecodedMap, line: u32, col: u32) -> Resul
 }
 
 /// A law: two maps that mean the same at every position give the same answers to each list of
-/// positions. So do a map and the map that is read back from its JSON value. The premises of
-/// `read_back` are promises of other calls. `DecodedMap::to_value` promises `ReadsBack` for a
-/// well-formed map. `DecodedMap::from_value` promises that its value decodes to the map that it
-/// returns.
+/// positions. `read_back` says that `t` and `back` give the same answers too, under two premises.
+/// First, `value` decodes to a map that restores `t`. `DecodedMap::to_value` promises this for the
+/// value of a well-formed map. Second, `value` decodes to `back`. `DecodedMap::from_value` promises
+/// this for the value that it decodes and the map that it returns.
 pub fn maps_read_back_answer_alike()
     ensures alike { (s t : MapTree) (positions : List ℕ) → MeansTheSame s t
         → trace_of (meaning s) positions ≡ trace_of (meaning t) positions }

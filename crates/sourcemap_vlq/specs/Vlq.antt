@@ -29,7 +29,7 @@ glyph v =
 abbrev pub HasContinuation : ℕ → Type 0
 HasContinuation c = (v : ℕ) × (digit_value c ≡ Some v) × (32 ≤ v)
 
--- a digit without the continuation bit, which ends its number
+-- the last digit of a number: a digit without the continuation bit
 abbrev pub IsLast : ℕ → Type 0
 IsLast c = (v : ℕ) × (digit_value c ≡ Some v) × (v < 32)
 
@@ -92,7 +92,7 @@ pub record BeginsWith (text : List ℕ) (number : ℤ) (rest : List ℕ) : Type 
   pub is_group : IsGroup group number
   pub split : text ≡ group ++ rest
 
--- a text is some valid numbers followed by `rest`
+-- a text is the digits of zero or more numbers, followed by `rest`
 pub record IsSound (text rest : List ℕ) : Type 0 where
   pub front : List ℕ
   pub numbers : List ℤ
@@ -109,7 +109,7 @@ abbrev pub SegmentAnswers : List ℕ → Result (List ℤ) Error → Type 0
 SegmentAnswers text (Ok numbers) = Reads text numbers × (numbers ≢ [])
 SegmentAnswers text (Err e) = HasError text e
 
--- the shortest digits of a number; 0 has no sign
+-- the shortest digits of a number; if the number is 0, its sign bit is not set
 pub record IsShortest (digits : List ℕ) (number : ℤ) : Type 0 where
   pub is_group : IsGroup digits number
   pub shortest : (other : List ℕ) → IsGroup other number → length digits ≤ length other
