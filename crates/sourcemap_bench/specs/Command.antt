@@ -1,5 +1,6 @@
 -- The words of each command.
 use Rattle.std.specs.Prelude.{◌≡◌, ℕ, List, [], ◌∷◌, codes}
+use Rattle.std.specs.Str.Parse.{IsNumeral, digits_value, without_leading_plus}
 use Rattle.sourcemap_bench.specs.declared.command.Operation.{Operation}
 use Rattle.sourcemap_bench.specs.declared.command.Operation.TheVariants.{Decode, DecodeReader, Lookup, Tokens, Encode, Rewrite, Flatten, Compose}
 use Rattle.sourcemap_bench.specs.declared.command.Command.{Command}
@@ -15,8 +16,11 @@ word_of Rewrite = codes "rewrite"
 word_of Flatten = codes "flatten"
 word_of Compose = codes "compose"
 
--- the words of a command: `write`, or the word of an operation and a second word, which is meant as the number of
--- rounds
+-- the word is a decimal number, after a plus or without one, and its value is `n`
+abbrev pub AreRounds : List ℕ → ℕ → Type 0
+AreRounds word n = IsNumeral 10 (without_leading_plus word) × (n ≡ digits_value 10 (without_leading_plus word))
+
+-- the words of a command: `write`, or the word of an operation and the number of rounds
 abbrev pub AskFor : List (List ℕ) → Command → Type 0
-AskFor words (Repeat operation _) = (rounds : List ℕ) × (words ≡ word_of operation ∷ rounds ∷ [])
+AskFor words (Repeat operation n) = (rounds : List ℕ) × (words ≡ word_of operation ∷ rounds ∷ []) × AreRounds rounds n
 AskFor words Write = words ≡ codes "write" ∷ []

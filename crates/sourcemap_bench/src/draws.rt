@@ -1,4 +1,5 @@
-//! Pseudo-random generated positions, the same in every run.
+//! Draws generated positions for lookups in a map. The draws are pseudo-random and start from a
+//! fixed state, so two runs with the same map draw the same positions.
 ghost use Rattle.std.specs.Prelude.{◌≡◌, ℕ, ◌+◌, ◌<◌, ◌≤◌, ◌%◌, ◌^◌, IfOk, IfErr, length, vec_len};
 ghost use Rattle.sourcemap.specs.declared.errors.Error.TheVariants.{OutOfMemory};
 ghost use Rattle.sourcemap_bench.specs.Draws.{scrambled, step, IsBeside};

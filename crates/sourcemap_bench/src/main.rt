@@ -1,5 +1,6 @@
 //! Repeats one operation on the source map on standard input, so that the operation can be timed.
-//! `compose` takes two maps, one on each line. `write` writes the map instead.
+//! Then prints a checksum of the results. `compose` reads two maps, one on each of the first two
+//! lines. `write` repeats nothing: it decodes the map and writes it once, as compact JSON.
 #![tactic(auto)]
 
 mod command;

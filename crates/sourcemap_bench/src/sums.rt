@@ -15,8 +15,9 @@ pub fn add_to_sum(sum: u32, number: u32) -> u32
     ((31 * u64::from(sum) + u64::from(number)) % (1 << 32)) as u32
 }
 
-/// The number that a token adds to a checksum, made of its original position. 0 if there is no
-/// token, or if the token has no source.
+/// Returns the number that a token adds to a checksum: `(line + 7 * column + 1) % 2^32`. The values
+/// `line` and `column` are the token's original position from `get_src`. Returns 0 if there is no
+/// token, or if the source id of the token is 4294967295 (`NO_ID`).
 #[inline]
 pub fn worth(token: Option<Token<'_>>) -> u32
     ensures { result ≡ worth (option_map token_value token.entry) }

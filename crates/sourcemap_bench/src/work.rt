@@ -72,9 +72,15 @@ fn positions_in(alloc: Global, map: &DecodedMap) -> Result<Vec<(u32, u32)>> {
     }
 }
 
-/// Prepares the input of an operation. `bytes` has one map, or for `Compose` two lines with one map
-/// each. Operations that decode take the bytes themselves; for all others the maps are decoded
-/// here.
+/// Prepares the input of an operation. `bytes` has one map. For `Compose` it has two maps, one on
+/// each of the first two lines. For `Decode` and `DecodeReader` the input is the bytes, not yet
+/// decoded, and there is no error. For all other operations the maps are decoded first. Then
+/// `Lookup` also draws the positions, for an index map from the flattened map.
+///
+/// Returns the errors of `decode_slice`. The error is `IncompatibleSourceMap` if a map of `Tokens`,
+/// `Rewrite` or `Compose` is not regular, or if the map of `Flatten` is not an index map. `Lookup`
+/// of an index map also returns the errors of `SourceMapIndex::flatten`. The only other error is
+/// `OutOfMemory`.
 pub fn prepare(alloc: Global, operation: Operation, bytes: Vec<u8>) -> Result<Work> {
     match operation {
         Operation::Decode => Ok(Work::Decode(bytes)),

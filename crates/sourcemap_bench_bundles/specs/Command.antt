@@ -1,6 +1,11 @@
 -- The words of a run.
 use Rattle.std.specs.Prelude.{◌≡◌, ℕ, List, [], ◌∷◌, codes}
+use Rattle.std.specs.Str.Parse.{IsNumeral, digits_value, without_leading_plus}
 
--- the words of a run: `split` and a second word, which is meant as the number of rounds
-abbrev pub AskFor : List (List ℕ) → Type 0
-AskFor words = (rounds : List ℕ) × (words ≡ codes "split" ∷ rounds ∷ [])
+-- the word is a decimal number, after a plus or without one, and its value is `n`
+abbrev pub AreRounds : List ℕ → ℕ → Type 0
+AreRounds word n = IsNumeral 10 (without_leading_plus word) × (n ≡ digits_value 10 (without_leading_plus word))
+
+-- the words of a run of `n` rounds: `split` and the number of rounds
+abbrev pub AskFor : List (List ℕ) → ℕ → Type 0
+AskFor words n = (rounds : List ℕ) × (words ≡ codes "split" ∷ rounds ∷ []) × AreRounds rounds n

@@ -1,4 +1,4 @@
--- Checksums of split bundles, numbers of 32 bits.
+-- 32-bit checksums of the modules of a split bundle.
 use Rattle.std.specs.Prelude.{ℕ, ◌+◌, ◌*◌, ◌%◌, ◌^◌, length, min}
 use Rattle.sourcemap_bundle_split.specs.Split.{ModuleParts}
 

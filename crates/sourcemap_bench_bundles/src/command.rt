@@ -14,7 +14,7 @@ fn split_word(word: &str) -> Option<()>
 /// Parses `split` and the number of rounds, a decimal number below 2^32. Returns the number of
 /// rounds, or `None` for other words.
 pub fn parse_words(words: &[String]) -> Option<u32>
-    ensures { IfSome result (λ rounds. AskFor (map string_bytes words.now)) }
+    ensures { IfSome result (λ rounds. AskFor (map string_bytes words.now) rounds) }
 {
     match words {
         [word, rounds] => {

@@ -13,7 +13,9 @@ fn add_to_sum(sum: u32, number: u32) -> u32
     ((31 * u64::from(sum) + u64::from(number)) % (1 << 32)) as u32
 }
 
-// Adds the length of a module's text in bytes and the number of sources of its map to a checksum.
+// Adds two numbers to the checksum `sum` and returns the new checksum. The first number is the byte
+// count of the module's text; a count above 4294967295 is taken as 4294967295. The second number is
+// the number of sources of the module's map.
 fn with_module(sum: u32, parts: &(String, SourceView, SourceMap)) -> u32
     ensures { result ≡ with_module sum (parts_value parts.now) }
 {
@@ -55,8 +57,8 @@ fn split_rounds(
     Ok(sum)
 }
 
-/// Splits the bundle `rounds` times and returns the checksum. The index map is on the first line, the
-/// bundle after it.
+/// Splits the bundle `rounds` times and returns the checksum. The index map is on the first line,
+/// and the bundle is after that line.
 pub fn checksum(alloc: Global, rounds: u32, bytes: &[u8]) -> Result<u32> {
     let mut parts = bytes.splitn(2, |byte| *byte == b'\n');
     let index = SourceMapIndex::from_slice(alloc, parts.next().unwrap_or_default())?;

@@ -1,4 +1,4 @@
-//! Measured calls on builders.
+//! Makes a call on a builder, so that the time and the memory of this call can be measured.
 
 use crate::call::BuilderCall;
 use crate::lines::{contents_size, number_in, source_size, split_first_line};
@@ -9,7 +9,14 @@ use std::env::Env;
 use std::rt::Files;
 use std::{env, str};
 
-/// Makes a call on a builder, with `bytes` as its input. Returns a size of the result.
+/// Makes a call on a new builder, with `bytes` as the input of the call, and then builds the map.
+/// Returns the size of one part of the map. The size is the number of tokens (4294967295 if there
+/// are more), the number of ids in the ignore list, or the byte count of the sources, of the
+/// contents or of the file name. `SetDebugIds` returns 1 if the map has a debug id, else 0.
+///
+/// Each call returns the errors of the builder. `AddTokens` also returns the errors of
+/// `SourceMap::from_slice`. All calls except `AddTokens` return `Utf8` if `bytes` is not UTF-8.
+/// `Load` also returns the errors of `env::current_dir`.
 pub fn size_of<R: Files + Env + AllocGlobal>(
     rt: &R,
     alloc: Global,
@@ -146,8 +153,9 @@ fn load<R: Files + Env + AllocGlobal>(rt: &R, alloc: Global, bytes: &[u8]) -> Re
     Ok(contents_size(&builder.into_sourcemap()?))
 }
 
-// Adds each line after the first as a source. Cuts the words of the first line as prefixes from the
-// sources. Returns the byte count of all sources.
+// Adds each line after the first as a source. Splits the first line at each space into prefixes,
+// and calls `strip_prefixes` with these prefixes. Returns the byte count of all sources after this
+// call.
 fn strip(alloc: Global, bytes: &[u8]) -> Result<usize> {
     let (line, text) = split_first_line(bytes)?;
     let prefixes: Vec<&str> = line.split(' ').collect(alloc)?;

@@ -102,16 +102,20 @@ pub enum IndexCall {
     FlattenAndRewrite,
     /// `sections`: `SourceMapIndex::new` of a section for each line, with the line as its URL.
     Sections,
-    /// `index-file`: `SourceMapIndex::set_file` of the map on the first line to each line after it.
+    /// `index-file`: `SourceMapIndex::set_file` once for each line after the first, with the line
+    /// as the file name. The index map is on the first line of the input.
     SetFile,
     /// `index-rows`: `adjust_sections_offset_rows` of the map on the first line, by the number on
     /// each line after it.
     AdjustRows,
-    /// `section-urls`: `SourceMapSection::set_url` of the sections of the map on the first line, in
-    /// order, to the lines after the first.
+    /// `section-urls`: `SourceMapSection::set_url` on the first section with the second line, on
+    /// the second section with the third line, and so on. The index map is on the first line of the
+    /// input. Lines without a section are ignored. Sections without a line are not changed.
     SetUrls,
-    /// `section-maps`: `SourceMapSection::set_sourcemap` of the sections of the map on the first
-    /// line, in order, to the maps on the lines after the first.
+    /// `section-maps`: `SourceMapSection::set_sourcemap` on the first section with the map on the
+    /// second line, on the second section with the map on the third line, and so on. The index map
+    /// is on the first line of the input. Lines without a section are ignored. Sections without a
+    /// line are not changed.
     SetMaps,
 }
 
@@ -128,10 +132,11 @@ pub enum MapCall {
     Copy,
     /// `print`: a map as `Debug` prints it.
     Print,
-    /// `value`: `DecodedMap::to_value`, and `from_value` of the value, compared with the map.
+    /// `value`: `DecodedMap::to_value` of a map, and `DecodedMap::from_value` of the JSON value.
+    /// The map that `from_value` returns is compared with the map that was converted.
     Value,
-    /// `rewrite-strip`: `rewrite` of the map on the first line, with each line after it as a prefix
-    /// to cut.
+    /// `rewrite-strip`: one `rewrite` of the regular map on the first line. The lines after the
+    /// first are the prefixes to strip from sources.
     RewriteStripping,
     /// `rewrite-load`: `rewrite` with contents from the current folder.
     RewriteLoading,

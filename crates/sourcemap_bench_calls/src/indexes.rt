@@ -103,8 +103,11 @@ fn set_file(alloc: Global, bytes: &[u8]) -> Result<usize> {
     Ok(index.get_file().map_or(0, |file| file.len()))
 }
 
-// Moves all sections down by the number on each line after the first, in turn. Returns how many of
-// these moves were possible.
+// Decodes the index map on the first line of `bytes`. `number_in` parses each line after the first
+// as a number n. For each n, in order, tries to move all sections down by n generated lines. If a
+// section would then start after generated line 4294967295, the move fails and changes nothing.
+// Returns how many moves succeed. Returns `Utf8` if `bytes` are not UTF-8. The other errors come
+// from `SourceMapIndex::from_slice`.
 fn adjust_rows(alloc: Global, bytes: &[u8]) -> Result<usize> {
     let (mut index, text) = index_and_text(alloc, bytes)?;
     let mut count = 0usize;

@@ -1,4 +1,4 @@
-//! References to maps, data URLs, and detection of maps.
+//! Locates and resolves references to source maps. Decodes data URLs. Detects source maps.
 
 use sourcemap::detector::EmbeddedSourceMap;
 use sourcemap::{

@@ -1,4 +1,4 @@
-//! Interned texts and modules of bundles.
+//! Interns the lines of a text. Reads the modules of a RAM bundle.
 
 use sourcemap::Result;
 use sourcemap::ram_bundle::{RamBundle, is_unbundle_path};

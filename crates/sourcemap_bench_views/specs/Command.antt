@@ -1,5 +1,6 @@
 -- The words of each operation.
 use Rattle.std.specs.Prelude.{◌≡◌, ℕ, List, [], ◌∷◌, codes}
+use Rattle.std.specs.Str.Parse.{IsNumeral, digits_value, without_leading_plus}
 use Rattle.sourcemap_bench_views.specs.declared.command.Operation.{Operation}
 use Rattle.sourcemap_bench_views.specs.declared.command.Operation.TheVariants.{Lines, Names}
 
@@ -7,6 +8,10 @@ abbrev pub word_of : Operation → List ℕ
 word_of Lines = codes "lines"
 word_of Names = codes "names"
 
--- the words of an operation: its own word and a second word, which is meant as the number of rounds
-abbrev pub AskFor : List (List ℕ) → Operation → Type 0
-AskFor words operation = (rounds : List ℕ) × (words ≡ word_of operation ∷ rounds ∷ [])
+-- the word is a decimal number, after a plus or without one, and its value is `n`
+abbrev pub AreRounds : List ℕ → ℕ → Type 0
+AreRounds word n = IsNumeral 10 (without_leading_plus word) × (n ≡ digits_value 10 (without_leading_plus word))
+
+-- the words of an operation that is repeated `n` times: the word of the operation and the number of rounds
+abbrev pub AskFor : List (List ℕ) → Operation → ℕ → Type 0
+AskFor words operation n = (rounds : List ℕ) × (words ≡ word_of operation ∷ rounds ∷ []) × AreRounds rounds n

@@ -1,4 +1,4 @@
--- Checksums of results, numbers of 32 bits.
+-- 32-bit checksums of the results of the timed operations.
 use Rattle.std.specs.Prelude.{ℕ, suc, zero, ◌+◌, ◌*◌, ◌%◌, ◌^◌, List, codes, fold, length, min, take, Option, Some, None}
 use Rattle.sourcemap.specs.Lines.{line_bodies}
 use Rattle.sourcemap.specs.TokenWalk.{function_name}
@@ -16,7 +16,9 @@ counted sum count = mixed sum (min count 4294967295)
 abbrev pub with_lengths : ℕ → List (List ℕ) → ℕ
 with_lengths sum lines = fold (λ sum line. counted sum (length line)) sum lines
 
--- a checksum with the byte counts of the lines of a text, up to line 4294967295
+-- the checksum `start` after the byte count of each line of the text `source` is added to it, in order. Lines after the
+-- first 4294967296 lines are ignored. Line terminators are not counted. A byte count above 4294967295 is taken as
+-- 4294967295
 abbrev pub line_sum : List ℕ → ℕ → ℕ
 line_sum source start = with_lengths start (take 4294967296 (line_bodies source))
 
@@ -29,7 +31,9 @@ abbrev pub name_worth : Option (List ℕ) → ℕ
 name_worth None = 0
 name_worth (Some name) = min (length name + 1) 4294967295
 
--- a checksum with the guesses for `absent_name` at these positions of the generated text
+-- the checksum `start` after one number is added to it for each of these generated positions, in order. At each
+-- position, `function_name` guesses the original name of the function with the name `absent_name` in the generated text
+-- `source`. The number is the `name_worth` of this guess, and the guess is `None` if no name is found
 abbrev pub name_sum : MapValue → (source : List ℕ) → List (ℕ × ℕ) → ℕ → ℕ
 name_sum m source positions start =
     fold (λ sum p. mixed sum (name_worth (function_name m source absent_name p))) start positions

@@ -1,4 +1,5 @@
-//! Start positions of walks back along the tokens of a map.
+//! Computes the generated positions where walks start. A walk visits a token of a map and then the
+//! tokens before it, at most 128 tokens in all.
 ghost use Rattle.std.specs.Prelude.{◌≡◌, ℕ, ◌+◌, ◌*◌, ◌<◌, ◌≤◌, IfErr, IfOk, IfSome, length, min, slice_get, vec_len};
 ghost use Rattle.sourcemap.specs.declared.errors.Error.TheVariants.{OutOfMemory};
 

@@ -22,7 +22,9 @@ fn add_count(sum: u32, count: usize) -> u32
     add_to_sum(sum, u32::try_from(count).unwrap_or(u32::MAX))
 }
 
-/// Adds the byte counts of the lines of a view to a checksum, in order, up to line 4294967295.
+/// Adds the byte count of each line of a view to the checksum `start`, in order, and returns the
+/// new checksum. Lines after the first 4294967296 lines are ignored. Line terminators are not
+/// counted. A byte count above 4294967295 is taken as 4294967295.
 pub fn line_sum(view: &SourceView, start: u32) -> u32
     ensures { result ≡ line_sum view.now start }
 {
@@ -53,7 +55,10 @@ fn add_guess(map: &SourceMap, view: &SourceView, sum: u32, position: (u32, u32))
     add_to_sum(sum, name_worth(name))
 }
 
-/// Adds the guesses for the name `ABSENT_NAME` at these positions to a checksum.
+/// Adds one number to the checksum `start` for each of these generated positions, in order, and
+/// returns the new checksum. At each position, `get_original_function_name` guesses the original
+/// name of the function with the minified name `ABSENT_NAME`. The number is 0 if no name is found.
+/// Otherwise it is the byte count of the found name plus 1, at most 4294967295.
 pub fn name_sum(map: &SourceMap, view: &SourceView, positions: &[(u32, u32)], start: u32) -> u32
     ensures { result ≡ name_sum map.now view.now positions.now start }
 {

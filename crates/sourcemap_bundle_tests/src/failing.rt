@@ -19,9 +19,10 @@ enum Step {
     Read,
 }
 
-// A file system with the startup code `m.js`, the marker `UNBUNDLE`, and the files in `names`. A
-// zero byte ends each name. `9.js` is a link. The access `step` to `path` fails with an error of
-// `kind`.
+// A fake file system. The startup code is `m.js`, and the marker is `js-modules/UNBUNDLE`. The
+// marker contains the magic number, and every other file contains `x`. Reading a folder returns
+// `names`. A zero byte ends each name. `js-modules/9.js` is a link. At `path` one access fails with
+// an error of `kind`. `step` is that access: a request for metadata, an open, or a read.
 #[derive(Drop)]
 struct Disk<'a> {
     names: &'a [u8],
@@ -168,9 +169,11 @@ fn is_bundle_text(alloc: Global, disk: &Disk<'_>) -> Result<String> {
     }
 }
 
-// A row: the access `step` to `path` fails, in a folder with these names. The wanted answer is
-// whether there is a bundle, and all that the bundle answers. It is `refused` if the access fails
-// with `PermissionDenied`, and `no_memory` if it fails with `OutOfMemory`.
+// `names`, `step` and `path` are the fields of a `Disk`. `refused` is the wanted answer if the
+// `kind` of the `Disk` is `PermissionDenied`, and `no_memory` if it is `OutOfMemory`. An answer is
+// the result of `is_unbundle_path`, then the `bundle_text` of the bundle that
+// `parse_unbundle_from_path` returns. If a call returns an error, the `error_text` of the error
+// replaces the result of that call.
 struct Row {
     about: &'static str,
     names: &'static [u8],

@@ -10,10 +10,12 @@ use std::rt::Files;
 
 static MAGIC: [u8; 5] = [0xe5, 0xd1, 0x0b, 0xfb, 0];
 
-// The rows: what a row is about, the names in `js-modules`, and the wanted answer. The answer is
-// whether there is a bundle, and all that the bundle answers. A name that ends with `/` is a
-// folder. A name that ends with `@` is a link to the startup code. Any other file but the marker
-// contains its own name.
+// Each row: what it is about, the entries of `js-modules`, and the wanted answer. The answer is the
+// result of `is_unbundle_path`, then the `bundle_text` of the bundle. If the bundle cannot be
+// parsed, the text of the error replaces the `bundle_text`. The entry `UNBUNDLE` is the marker with
+// its magic number. The entry `UNBUNDLE-` is the marker with only 3 bytes. An entry `name/` is the
+// folder `name`. An entry `name@` is the link `name` to the startup code. Every other entry is a
+// file, and the file contains its own name.
 static FOLDERS: [(&str, &[&str], &str); 18] = [
     (
         "two modules",
@@ -136,8 +138,8 @@ fn made_and_asked<F: Files>(rt: &F, alloc: Global, names: &[&str]) -> Result<Str
     Ok(answer)
 }
 
-// The answers if `js-modules` is missing, if it is a file, and if the path of the startup code is
-// that of a folder.
+// Returns three results of `answers_at`: if `js-modules` is missing, if `js-modules` is a file, and
+// if a folder is passed as the path of the startup code.
 fn asked_without_folder<F: Files>(rt: &F, alloc: Global) -> Result<String> {
     let _ = fs::remove_dir_all(&(rt, alloc), "bundle_alone");
     fs::create_dir(rt, "bundle_alone")?;

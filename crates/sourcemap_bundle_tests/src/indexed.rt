@@ -12,7 +12,9 @@ static ONE: [u8; 26] = [
     0,
 ];
 
-// The rows: the number of bytes that `ONE` is cut to, its startup code then, and its module 0 then.
+// Each row: a length, the wanted text for the startup code, and the wanted text for module 0. The
+// bundle consists of the first bytes of `ONE`, as many as the length says. If the bundle cannot be
+// parsed, or the startup code or the module cannot be read, the text is the text of the error.
 static CUTS: [(usize, &str, &str); 27] = [
     (0, "parse error: 0+12 past 0", "parse error: 0+12 past 0"),
     (1, "parse error: 0+12 past 1", "parse error: 0+12 past 1"),
@@ -46,7 +48,8 @@ static CUTS: [(usize, &str, &str); 27] = [
 // A header alone: the magic number, the largest count of modules, and 2 bytes of startup code.
 static HUGE: [u8; 12] = [0xe5, 0xd1, 0x0b, 0xfb, 255, 255, 255, 255, 2, 0, 0, 0];
 
-// What a row is about, the bytes, and all that the bundle answers.
+// Each row: what it is about, the bytes, and the wanted text. The text is the `bundle_text` of the
+// indexed bundle with these bytes, or the text of the error if parsing fails.
 static WHOLE: [(&str, &[u8], &str); 4] = [
     (
         "another magic number",
@@ -99,7 +102,7 @@ fn count_text(alloc: Global, bytes: &[u8]) -> Result<String> {
     Ok(format!(in alloc; "{count}")?)
 }
 
-// All that a copy of a bundle answers. The bundle owns its bytes.
+// Parses an indexed bundle that owns its bytes. Returns the `bundle_text` of a copy of the bundle.
 fn copy_text(alloc: Global, bytes: &[u8]) -> Result<String> {
     let bundle = RamBundle::parse_indexed_from_vec(Vec::from_slice(alloc, bytes)?)?;
     let copy = bundle.clone()?;

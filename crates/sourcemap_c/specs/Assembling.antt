@@ -17,7 +17,7 @@ abbrev pub list_in : Option Held → Option (List MapSection)
 list_in (Some (Sections sections)) = Some (map section_value sections.items)
 list_in _ = None
 
--- the list of sections is unchanged; a value without a list of sections is unchanged as a whole
+-- The list of sections is unchanged. If `old` holds no list of sections, `new` is equal to `old`.
 abbrev pub AreAsBefore : (old new : Option Held) → Type 0
 AreAsBefore old new = (list_in new ≡ list_in old) × (list_in old ≡ None → new ≡ old)
 

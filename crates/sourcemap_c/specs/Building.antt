@@ -33,8 +33,9 @@ HasId id old due = due ≡ Ok (record old { debug_id = id })
 abbrev pub HasSource : ℕ → List ℕ → BuilderValue → Result BuilderValue Failure → Type 0
 HasSource id source old = OnSource id old (record old { sources = slice_set old.sources id source })
 
--- From each source the first prefix that the source starts with is removed. Before that, `/` is added to each prefix
--- that does not end with it.
+-- `/` is added to each prefix that does not end with `/`. The prefixes are then tried in order on each source. The
+-- first prefix that matches the start of the source is removed from the source. If no prefix matches, the source is
+-- unchanged.
 abbrev pub IsStripped : List (List ℕ) → BuilderValue → Result BuilderValue Failure → Type 0
 IsStripped prefixes old due = due ≡ Ok (record old { sources = map (without_prefix prefixes) old.sources })
 

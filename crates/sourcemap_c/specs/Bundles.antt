@@ -53,8 +53,10 @@ items_in _ = None
 abbrev pub Makes : Result (Result SplitModule Error) Error → (Result ModuleParts Error → Type 0) → Type 0
 Makes made Due = MatchResult made (λ item. (due : Result ModuleParts Error) → Due due → item_value item ≡ due_value due) (λ e. e ≡ OutOfMemory)
 
--- `held` has the items of `bundle`, split by the index map `tree`. A module that can be read has no item if its line in
--- the index map is null. Each other module has an item. That of a module that cannot be read is an error.
+-- `tree` is an index map that can be flattened and has `x_facebook_offsets`. `held` has the items for the modules of
+-- `bundle`, by rising module number. A module has no item if it can be read and its offset is null. Each other module
+-- has one item. The item is the error `InvalidRamBundleEntry` in three cases: the module cannot be read, its number is
+-- past the end of the offsets, or `parts_at` gives this error.
 abbrev pub IsSplit : Option BundleValue → Option MapTree → Option Held → Type 0
 IsSplit bundle tree held = (b : BundleValue) × (i : IndexValue) × (split : SplitValue) × (bundle ≡ Some b) × (tree ≡ Some (index_tree i))
     × Splits i (modules_of b) (Ok split) × (items_in held ≡ Some (map due_value (dues_in split)))

@@ -24,7 +24,8 @@ abbrev pub with_held : LeafMap → MapValue → LeafMap
 with_held (regular _) m = regular m
 with_held (hermes h) m = hermes (record h { map = m })
 
--- the map `l`, which is regular or Hermes, with `m` as its regular map
+-- If `l` is a regular map, the result is `m`. If `l` is a Hermes map, the result is `l` with its regular map replaced
+-- by `m`.
 abbrev pub leaf_of : LeafMap → MapValue → MapTree
 leaf_of l m = leaf (with_held l m)
 

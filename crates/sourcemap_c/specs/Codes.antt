@@ -44,7 +44,7 @@ OfLibraryKindOrAbsent Due wrong absent WrongKind = wrong
 OfLibraryKindOrAbsent Due wrong absent Absent = absent
 OfLibraryKindOrAbsent Due wrong absent PastLimit = ⊥
 
--- no error of the library is allowed, except out of memory, which `Does` and `Answers` always allow
+-- No error of the library is allowed, not even out of memory. `Does` and `Answers` allow out of memory themselves.
 abbrev pub NoError : Error → Type 0
 NoError e = ⊥
 

@@ -27,8 +27,9 @@ Guesses t source minified p code old new = (¬ IsUtf8 minified → Refuses 2 cod
     × (IsUtf8 minified → IsAbsentUnlessOk code old new)
     × (IsUtf8 minified → IsInOrderForName t (Some source) (Some minified) p → ReturnsValue (Some (function_name t (Some source) (Some minified) p)) code old new)
 
--- The name of a function. A Hermes map stores the name, which is specified if `IsInOrderForName` holds. For other maps
--- the name is guessed from the generated text `source`, and the code is `SM_WRONG_KIND` if `source` is `None`.
+-- The name of a function. A Hermes map stores the name. For a Hermes map, the code and the name are specified if
+-- `IsInOrderForName` holds; otherwise the code is `SM_OK`, or `SM_ABSENT` with nothing written. For other maps the name
+-- is guessed from the generated text `source`, and the code is `SM_WRONG_KIND` if `source` is `None`.
 abbrev pub Names : MapTree → (source : Option (List ℕ)) → (minified : List ℕ) → ℕ × ℕ → ℕ → (old new : List ℕ) → Type 0
 Names (leaf (hermes h)) source minified p code old new = IsAbsentUnlessOk code old new
     × (IsInOrderForName (leaf (hermes h)) None None p → ReturnsValue (Some (function_name (leaf (hermes h)) None None p)) code old new)
@@ -39,8 +40,10 @@ abbrev pub NamesIn : Option MapTree → (source : Option (List ℕ)) → (minifi
 NamesIn None source minified p code old new = Refuses 33 code old new
 NamesIn (Some t) source minified p code old new = Names t source minified p code old new
 
--- The name of the function at a bytecode offset of a Hermes map. The name is specified if the functions of the closest
--- token's source are sorted. Without a Hermes map the code is `SM_WRONG_KIND`.
+-- The name of the function at a bytecode offset of a Hermes map. The offset is a column of generated line 0. Take the
+-- token closest to this column, and the functions of its source. If these functions are sorted by position, or there
+-- are none, the code and the name are specified. Otherwise the code is `SM_OK`, or `SM_ABSENT` with nothing written.
+-- Without a Hermes map the code is `SM_WRONG_KIND`.
 abbrev pub NamesAt : Option MapTree → (offset : ℕ) → ℕ → (old new : List ℕ) → Type 0
 NamesAt (Some (leaf (hermes h))) offset code old new = IsAbsentUnlessOk code old new
     × (IfSome (lookup h.map (0, offset)) (λ t. IsInOrderAt h.scopes t.raw.src_id) → ReturnsValue (Some (name_at_offset h offset)) code old new)

@@ -8,7 +8,7 @@ abbrev pub hermes_in : MapTree → Option MapValue
 hermes_in (leaf (hermes h)) = Some h.map
 hermes_in _ = None
 
--- a regular map, as a map of any kind
+-- a regular map as a `MapTree`, the type for maps of all kinds
 abbrev pub regular_tree : MapValue → MapTree
 regular_tree m = leaf (regular m)
 

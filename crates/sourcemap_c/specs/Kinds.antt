@@ -33,7 +33,7 @@ abbrev pub bytes_in : Option Held → Option (List ℕ)
 bytes_in (Some (Bytes bytes)) = Some bytes.items
 bytes_in _ = None
 
--- the `Arc` is the same, and its map has the same value as before
+-- `old` and `new` have the same pointer, and their maps have equal trees
 abbrev pub IsSameMap : (old new : Arc DecodedMap Global) → Type 0
 IsSameMap old new = (new ≡ arc_with_value old (arc_value new)) × (map_tree (arc_value new) ≡ map_tree (arc_value old))
 

@@ -50,7 +50,7 @@ source_at t p = option_and_then (λ says. says.source) (meaning t p)
 abbrev pub name_at : MapTree → ℕ × ℕ → Option (List ℕ)
 name_at t p = option_and_then (λ says. says.name) (meaning t p)
 
--- the answer to one of many positions; its field `found` is false if there is no closest token
+-- the answer to a lookup of the generated position `p`; the field `found` is false if there is no closest token
 abbrev pub answer_at : MapTree → Position → Found
 answer_at t p = found_in (lookup t (p.line, p.column))
 

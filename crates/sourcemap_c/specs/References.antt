@@ -49,8 +49,9 @@ LeadsNowhere url base Due Absent = OfTexts url base Due (Ok None)
 LeadsNowhere url base Due WrongKind = ⊥
 LeadsNowhere url base Due PastLimit = ⊥
 
--- After success the handle has the resolved text. Otherwise the handle is unchanged. The failure is `Absent` if there
--- is no resolved text, the error of resolving, or out of memory.
+-- After success the handle has the resolved text. Otherwise the handle is unchanged. If resolving returned a text, the
+-- only failure is out of memory. If resolving returned `None`, the call fails with `Absent`. If resolving returned an
+-- error, the call fails with this error.
 abbrev pub Puts : Result (Option (String Global)) Error → Result (Unit {0}) Failure → (old new : Option Held) → Type 0
 Puts (Ok (Some text)) result old new = Does result (bytes_in new ≡ Some (string_bytes text)) (OfLibrary NoError) (new ≡ old)
 Puts (Ok None) result old new = (result ≡ Err Absent) × (new ≡ old)
@@ -61,12 +62,14 @@ abbrev pub Refers : Result SourceMapRef Error → List ℕ → Type 0
 Refers (Ok found) url = (url_of found ≡ url) × IsUtf8 url
 Refers (Err e) url = LibraryUnless e (IsNoText url e)
 
--- The result of resolving the reference `url` against `base`, the URL of the generated text. If a URL made of these
--- texts may exceed 4 GB, the result may also be `None`. The only error is out of memory.
+-- The result of resolving the reference `url` against `base`, the URL of the generated text. In two cases the result
+-- may also be `None`: `base` has 2^28 bytes or more; or `base` is not rejected, and `url` and the parsed `base` have
+-- 2^28 bytes or more in total. The only error is out of memory.
 abbrev pub Resolves : (base url : List ℕ) → Result (Option (List ℕ)) Error → Type 0
 Resolves base url = UnlessLong (resolved base url) (IsLongJoin base url)
 
--- The result of resolving the reference `url` against `path`, the path of the generated text. If a URL made of these
--- texts may exceed 4 GB, the result may also be `None`. The only error is out of memory.
+-- The result of resolving the reference `url` against `path`, the path of the generated text. In two cases the result
+-- may also be `None`: the `file` URL of `path` has 2^28 bytes or more; or this `file` URL is not rejected, and `url`
+-- and the parsed `file` URL have 2^28 bytes or more in total. The only error is out of memory.
 abbrev pub ResolvesPath : (path url : List ℕ) → Result (Option (List ℕ)) Error → Type 0
 ResolvesPath path url = UnlessLong (resolved_path path url) (IsLongJoin (url_text path false) url)

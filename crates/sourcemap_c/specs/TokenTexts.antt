@@ -1,4 +1,4 @@
--- Texts of tokens in a handle.
+-- The texts of tokens, and the results of calls that write such a text to a handle.
 use Rattle.std.specs.Prelude.{◌≡◌, ℕ, List, Option, Some, None, option_map}
 use Rattle.sourcemap_map_regular.specs.Map.{MapValue}
 use Rattle.sourcemap_map_regular.specs.Token.{says, token_at, token_text}

@@ -340,8 +340,10 @@ fn items_of(
     Ok(items)
 }
 
-// Moves the map of a module to an `Arc`, which handles can share. If `parts` is an error other than
-// `OutOfMemory`, this error becomes the item. `OutOfMemory` is returned.
+// Makes an item from the parts of a module. The map of the module is moved to an `Arc`, so that
+// several handles can share the map. If `parts` is an error other than `OutOfMemory`, the item is
+// this error. The call returns the error `OutOfMemory` if `parts` is `OutOfMemory`, or if there is
+// no memory for the `Arc`.
 fn item_with(
     alloc: Global,
     parts: Result<(String, SourceView, SourceMap)>,

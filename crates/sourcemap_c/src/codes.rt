@@ -1,4 +1,5 @@
-//! Codes of calls that write no error report, and arguments of callers.
+//! Codes for calls that write no error report. Functions that convert arguments of C callers to
+//! texts and debug ids, and a function that writes a borrowed text.
 ghost use Rattle.std.specs.Prelude.{◌≡◌, MatchResult, Some, true};
 ghost use Rattle.std.specs.Option.{option_copied};
 ghost use Rattle.std.specs.Str.{IsUtf8};

@@ -1,4 +1,4 @@
-//! Traces of lists of positions, and names of functions.
+//! `sm_trace` looks up each generated position of a list. The other calls look up function names.
 ghost use Rattle.std.specs.Prelude.{◌≡◌, None, Some};
 ghost use Rattle.std.specs.Borrow.{sem};
 ghost use Rattle.std.specs.Option.{option_copied};
@@ -17,8 +17,15 @@ use sourcemap_c_handles::errors::{Code, ErrorReport, Failure, Outcome, finish};
 use sourcemap_trace::trace_text;
 use std::alloc::Global;
 
-/// Fills `text` with the trace of a list of positions: the answer to each position, one on each
-/// line.
+/// Looks up each generated position of a list, and fills `text` with the answers. The list has one
+/// position on each line. A position is written as `12:5`: the line, a colon and the column, both
+/// counted from 0. For each line of `positions`, `text` has one line. This line is the text of the
+/// closest token, `none` if there is no closest token, or `bad position` if the line of `positions`
+/// is not a position.
+///
+/// The answers are specified for a regular map, a Hermes map, and an index map whose sections are
+/// in order at every level. The error is `SM_WRONG_KIND` if `map` holds no map. The only other
+/// error is `SM_OUT_OF_MEMORY`.
 #[unsafe(no_mangle)]
 pub extern "C" fn sm_trace(
     alloc: Global,

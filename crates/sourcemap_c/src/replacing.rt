@@ -159,13 +159,18 @@ fn compose_copy(map: &SourceMap, adjustment: &SourceMap) -> Result<SourceMap>
 }
 
 /// Rewrites the map. Keeps only the sources and names that tokens use, and the contents of these
-/// sources. The sources are resolved against `sourceRoot`. Removes `sourceRoot`, the ignore list,
-/// all names if `with_names` is false, and all contents if `with_contents` is false.
+/// sources. The sources are resolved against `sourceRoot`. Removes `sourceRoot` and the ignore
+/// list. If `with_names` is false, removes all names. If `with_contents` is false, removes all
+/// contents.
 ///
 /// Removes from each source the first of `prefixes` that the source starts with. Before that, `/`
 /// is added to each prefix that does not end with it. The prefix `~` means the common prefix of all
 /// sources that are absolute paths. To find it, the call uses the sources as the map stores them,
-/// not resolved against `sourceRoot`. The call tries the common prefix last.
+/// not resolved against `sourceRoot`. The call tries the common prefix last. If the common prefix
+/// is empty or `/`, the call ignores `~`.
+///
+/// The error is `SM_UTF8` if a prefix is not UTF-8. The error is `SM_WRONG_KIND` if `map` holds an
+/// index map or no map. The only other error is `SM_OUT_OF_MEMORY`.
 #[unsafe(no_mangle)]
 pub extern "C" fn sm_rewrite(
     alloc: Global,
@@ -209,8 +214,8 @@ fn rewrite(
     }
 }
 
-/// Returns each item of `texts` as a text. The error is `Utf8` if one of them is not UTF-8, or
-/// `OutOfMemory`.
+/// Returns each item of `texts` as a text. The error is `Utf8` if an item is not UTF-8. The only
+/// other error is `OutOfMemory`.
 pub(crate) fn texts_in<'a>(alloc: Global, texts: &[&'a [u8]]) -> Result<Vec<&'a str>>
     ensures { MatchResult result
         (λ found. let found = list_map (λ text. text.now) found.items in

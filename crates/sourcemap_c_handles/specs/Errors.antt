@@ -100,7 +100,8 @@ failure_text PastLimit = Some (codes "a line would pass 4294967295")
 abbrev pub written : List ℕ → ℕ
 written text = min (length text) 255
 
--- the array after a text was written to it: the text, cut after 255 bytes, a zero byte, and the old bytes after that
+-- The array `old` after `text` was written to it. The array starts with the first 255 bytes of the text, or with the
+-- whole text if the text is shorter. A zero byte follows. The bytes after the zero byte are unchanged.
 abbrev pub over : List ℕ → List ℕ → List ℕ
 over text old = take (written text) text ++ 0 ∷ drop (written text + 1) old
 
@@ -121,7 +122,8 @@ IsWritten code numbers text old new = new ≡ record {
 abbrev pub IsOf : Failure → ErrorReport → ErrorReport → Type 0
 IsOf failure old new = (text : List ℕ) × IsWritten (code_of failure) (failure_numbers failure) text old new × IfSome (failure_text failure) (λ due. text ≡ due)
 
--- the code and the report of a failure, or of out of memory if there is no memory for the text
+-- Either `code` and the report `new` describe `failure`, or both describe `OutOfMemory`. The definition always allows
+-- `OutOfMemory`, because the call that writes the report needs memory for the text.
 abbrev pub Reports : Failure → ℕ → ErrorReport → ErrorReport → Type 0
 Reports failure code old new = ((code ≡ number_of (code_of failure)) × IsOf failure old new)
     ⊎ ((code ≡ number_of Code.OutOfMemory) × IsOf (Library OutOfMemory) old new)

@@ -1,4 +1,4 @@
--- The value of a handle, also after a borrow has ended.
+-- The value of a handle. `EndsAsBefore` says that a borrow of the handle leaves this value unchanged.
 use Rattle.std.specs.Prelude.{◌≡◌, Option, ⊤}
 use Rattle.std.specs.Borrow.{Fml, MutBor, follows_so}
 use mathlib.Core.Option.{none}
@@ -9,6 +9,6 @@ use Rattle.sourcemap_c_handles.specs.declared.held.Held.{Held}
 abbrev pub held_in : Handle → Option Held
 held_in handle = handle.sealed.content
 
--- after the borrow has ended, the handle has the same value as before
+-- when the borrow `handle` ends, the handle holds the value that `handle.now` holds
 abbrev pub EndsAsBefore : MutBor Handle → Fml
 EndsAsBefore handle = follows_so the_row the_row handle.ghost_name none (λ _ _. ⊤) (λ n. held_in n ≡ held_in handle.now)

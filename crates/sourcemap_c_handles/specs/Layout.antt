@@ -28,11 +28,13 @@ raw_token token = record {
   is_range = token.is_range;
 }
 
--- the struct of a token that a lookup found; its original position is the one to which the looked-up position maps
+-- The struct of a token that a lookup found. The struct has the stored fields of the token, with one exception: the
+-- `extra_columns` of the token are added to the original column. A sum above 4294967295 becomes 4294967295.
 abbrev pub found_token : TokenValue → MapToken
 found_token token = record (map_token token.raw) { original_line = (says token).line; original_column = (says token).column }
 
--- the result of a lookup that found this token; for `None`, of a lookup that found no token
+-- The result of a lookup. `Some token` means that the lookup found `token`. `None` means that the lookup found no
+-- token. Then all numbers in the result are 0, and `is_range` and `found` are false.
 abbrev pub found_in : Option TokenValue → Found
 found_in None = record {
   token = record { line = 0; column = 0; original_line = 0; original_column = 0; source = 0; name = 0; is_range = false };

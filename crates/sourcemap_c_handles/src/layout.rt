@@ -97,9 +97,10 @@ impl MapToken {
         }
     }
 
-    /// The struct of a token that a lookup found. Its original position is the one to which the
-    /// looked-up position maps. For a range token it can differ from the stored original position
-    /// of the token.
+    /// The struct of a token that a lookup found. The struct has the stored fields of the token,
+    /// with one exception. If the token is a range token on the line of the looked-up position, the
+    /// columns from the token to this position are added to the original column. A sum above
+    /// 4294967295 becomes 4294967295.
     pub fn of_found(token: &Token<'_>) -> MapToken
         ensures { result ≡ found_token (token_value token.now) }
     {

@@ -130,8 +130,8 @@ static COMPOSED: [(&str, &[Way], &[Way], &str); 21] = [
     ("none at all", &[], &[], ""),
 ];
 
-// Label, an original token, and the adjusted token. The adjustment moves columns from 10 on, on
-// line 0, to the start of line 5.
+// Label, an original token, and the adjusted token. The adjustment is one token. It moves column 10
+// of line 0 to column 0 of line 5, and the later columns of line 0 along with it.
 static CUT: [(&str, Row, Row); 5] = [
     (
         "ten columns of a range token fall away",

@@ -1,4 +1,6 @@
-//! Tests of the crates below records and maps, with vectors from other implementations.
+//! Tests of items of `sourcemap_core`, `sourcemap_compose`, `sourcemap_line_index` and
+//! `sourcemap_interning`. These crates do not depend on the crates of records and maps. Some test
+//! data come from other implementations of source maps.
 #![tactic(auto)]
 
 #[cfg(test)]

@@ -112,8 +112,9 @@ fn finds_between_lines(rt: HostRuntime) {
     }
 }
 
-// 70,000 tokens, `a_line` on each second line, identified by their index. Columns are 0, 10, 10,
-// 20, 30 and so on.
+// Returns 70,000 tokens. `a_line` is at least 1. The lines 0, 2, 4 and so on have `a_line` tokens
+// each, but the last of them may have fewer. The generated columns on a line are 0, 10, 10, 20, 30
+// and so on. The original column of a token is its index in the list.
 fn tokens_on_many_lines(alloc: Global, a_line: u32) -> Result<TokenList> {
     let mut tokens = Vec::new(alloc);
     for at in 0..70_000u32 {
@@ -141,11 +142,12 @@ static ON_MANY_LINES: [(u32, (u32, u32), &str); 21] = [
     (16, (8, 139), "Some(78) true"),
     (16, (8, 140), "Some(79) true"),
     (16, (9, 0), "Some(79) true"),
-    // One more token, so that lines are searched by bisection.
+    // These lines have 17 tokens and are searched by bisection. A linear search is for at most 16.
     (17, (8, 10), "Some(69) true"),
     (17, (8, 149), "Some(83) true"),
     (17, (8, 150), "Some(84) true"),
-    // Long lines, which the list samples.
+    // These lists have long lines, so they also have column samples. `closest_steps` searches the
+    // samples on line 4. Line 5 has no tokens. Line 14 has seven tokens, one too few for samples.
     (1000, (4, 10), "Some(2001) true"),
     (1000, (4, 5005), "Some(2501) true"),
     (1000, (5, 0), "Some(2999) true"),
@@ -158,7 +160,8 @@ fn on_many_lines(alloc: Global, a_line: u32, position: (u32, u32)) -> Result<Str
     closest_text(alloc, &list, position, 1, 36)
 }
 
-// The same lookup by the list, which has samples of long lines.
+// As `on_many_lines`, but with the lookup `closest_steps` of the list. If the list has column
+// samples, and the line has at least eight tokens, this lookup searches the samples first.
 fn in_list_of_many_lines(alloc: Global, a_line: u32, position: (u32, u32)) -> Result<String> {
     let list = tokens_on_many_lines(alloc, a_line)?;
     let (found, steps) = list.closest_steps(position.0, position.1);

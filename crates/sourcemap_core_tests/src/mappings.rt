@@ -8,10 +8,11 @@ use sourcemap_core::tokens::{NO_ID, RawToken};
 use sourcemap_test_support::results::error_text;
 use std::alloc::Global;
 
-// `mappings`, `rangeMappings`, and the numbers of sources and names.
+// The `mappings` text, the `rangeMappings` text, then the count of sources and the count of names.
 type Texts = (&'static str, &'static str, (u32, u32));
 
-// Label, texts and numbers, and the tokens or the error.
+// Label, arguments of `parse_mappings`, result. The result is the text of the tokens, or the text
+// of the error.
 static READ: [(&str, Texts, &str); 20] = [
     (
         "a line of nine tokens, three of them with names",
@@ -166,7 +167,8 @@ pub type Row = ((u32, u32), (u32, u32, u32), u32, bool);
 /// No source and no original position.
 pub const BARE: (u32, u32, u32) = (NO_ID, NO_ID, NO_ID);
 
-// Label, tokens, their mappings, and their range mappings if any. There are two names.
+// Label, tokens, their mappings, and their range mappings if any. `write_mappings` is called with a
+// count of two names.
 static WRITTEN: [(&str, &[Row], &str, Option<&str>); 8] = [
     ("no token", &[], "", None),
     (

@@ -9,7 +9,8 @@ const MOST: usize = 4294967295;
 
 static TEXTS: [&str; 7] = ["b", "a", "b", "", "ab", "a", ""];
 
-// The number of each text, then how many different texts there are.
+// The number that a new index assigns to each text, then the count of texts in the index. Once the
+// index has `MOST` texts, all further texts are skipped.
 fn numbers(alloc: Global, texts: &[&str]) -> Result<String> {
     let mut index = TextIndex::new(alloc)?;
     let mut answer = String::new(alloc);
@@ -42,7 +43,9 @@ fn numbered_texts(alloc: Global, start: &str, end: &str, count: usize) -> Result
     Ok(texts)
 }
 
-// How many of these texts, from the first on, get their index as number.
+// Enters the texts in `index`, in order. Stops at the first text whose number differs from its
+// position in `texts`, and before any text if `index` has `MOST` texts. Returns the count of texts
+// before the stop, or the count of all texts.
 fn count_numbered<'a>(index: &mut TextIndex<'a>, texts: &'a [String]) -> Result<usize> {
     for (at, text) in texts.iter().enumerate() {
         if index.len() >= MOST {

@@ -90,7 +90,8 @@ fn detects_sorted_tokens(rt: HostRuntime) -> Result<()> {
     Ok(())
 }
 
-// Whether a list equals its copy, and its copy without the last token.
+// Two answers. The first is whether a list equals its copy. The second is whether the list equals
+// its copy without the last token.
 fn compare_lists(list: &TokenList) -> Result<(bool, bool)> {
     let copy = list.clone()?;
     let is_same = copy == *list;
@@ -205,7 +206,7 @@ fn equal_texts_have_one_number(rt: HostRuntime) {
     );
 }
 
-// Texts with the same digest: only their bytes differ.
+// Four different texts with the same digest and the same length.
 static COLLIDING: [&str; 4] = [
     "d2Vd/J8r/!qq!p9iuh1fYfw2a&.#!M};",
     "d2Vd/J8r/!qq!p9ifPNtsXs0*y~xFn!I",

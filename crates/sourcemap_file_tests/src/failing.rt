@@ -20,7 +20,9 @@ struct Broken {
     kind: ErrorKind,
 }
 
-// A file that is read as these bytes, and then fails if `fails`.
+// Returns a file with these bytes. Reads return one byte each. If `fails` is true, every read after
+// the last byte fails with `kind`. Otherwise no read fails. The metadata report `size`. If `size`
+// is `None`, reading the metadata is an error.
 fn file(
     bytes: &'static [u8],
     fails: bool,
@@ -104,7 +106,9 @@ fn load_failing(alloc: Global, kind: ErrorKind, sources: &[&str]) -> Result<Stri
     Ok(out)
 }
 
-// The kind of the error, the sources, and the output, for failing opens and failing reads.
+// Each row: an error kind, the sources, and the wanted text. Opening `never.js` fails with this
+// kind. So does a read of `late.js` after its first byte. The text is the number of loaded files,
+// or the text of the error. After it come the contents of each source, or `none`.
 static ROWS: [(ErrorKind, &[&str], &str); 6] = [
     (
         ErrorKind::Other,

@@ -66,7 +66,7 @@ pub fn count_or_error(alloc: Global, loaded: Result<usize>) -> Result<String> {
     }
 }
 
-// How many of the first sources have contents.
+// Returns how many of the first `count` sources have contents.
 fn count_contents(builder: &SourceMapBuilder, count: u32) -> usize {
     let mut held = 0usize;
     for id in 0..count {
@@ -77,9 +77,13 @@ fn count_contents(builder: &SourceMapBuilder, count: u32) -> usize {
     held
 }
 
-/// Loads contents of all sources and returns how many were loaded. After `OutOfMemory` the contents
-/// that were loaded stay. They are counted for the first `count` sources, and a second call loads
-/// the others.
+/// Calls `load_local_source_contents`, and calls it once more if the first call returns
+/// `OutOfMemory`. Contents that the first call loaded stay in the builder, so the second call loads
+/// only contents that are still missing. Returns the number of loaded contents. After a second
+/// call, the contents that the first call loaded are counted only for the first `count` sources.
+///
+/// The error is `Io` of kind `InvalidInput` if neither `base` nor `current` is absolute. Any other
+/// error is `OutOfMemory`, from the second call.
 pub fn load<F: Files>(
     rt: &F,
     builder: &mut SourceMapBuilder,

@@ -7,7 +7,8 @@ use std::alloc::Global;
 use std::rt::Files;
 use std::{fs, io};
 
-// A builder with these sources; `contents` are those of the first.
+// Returns a builder with these sources. `@` at the start of a source stands for `folder`. The first
+// source gets the contents `contents`, or no contents if `contents` is `None`.
 fn builder(
     alloc: Global,
     folder: &str,
@@ -32,7 +33,9 @@ fn set_contents(builder: &mut SourceMapBuilder, contents: Option<&str>) -> Resul
     builder.set_source_contents(0, contents)
 }
 
-// The count of loaded contents, all contents, and the count of a second call.
+// Calls `load` twice. Returns the result of the first call, the contents of the first `count`
+// sources after this call, and the result of the second call. Each result is the number of loaded
+// contents, or the text of the error.
 fn load_text<F: Files>(
     rt: &F,
     alloc: Global,

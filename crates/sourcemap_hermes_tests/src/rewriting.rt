@@ -73,8 +73,8 @@ static DEFAULT: [(&str, &str); 12] = [
         ROOTED,
         r#"{"mappings":"AAAA","names":[],"sources":["r/b.js"],"version":3,"x_facebook_sources":[[{"mappings":"AAA","names":["g"]}]]}"#,
     ),
-    // Lists of scopes that are not empty. One is as long as the list of remaining sources, one is
-    // shorter.
+    // Each map has two sources, but only one entry in `x_facebook_sources`. Tokens use one source
+    // of the first map, and both sources of the second map.
     (
         r#"{"mappings":"ACAA","sources":["a.js","b.js"],"x_facebook_sources":[null]}"#,
         r#"{"mappings":"AAAA","names":[],"sources":["b.js"],"version":3,"x_facebook_sources":[null]}"#,

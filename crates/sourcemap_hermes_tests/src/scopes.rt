@@ -19,7 +19,7 @@ fn lists(alloc: Global, text: &str) -> Result<ScopeLists> {
         .ok_or(Error::IncompatibleSourceMap)
 }
 
-// `SourceScopes::new` requires no more lists than source ids.
+// `SourceScopes::new` requires at most 4294967295 lists. More lists are `IncompatibleSourceMap`.
 fn scopes(alloc: Global, text: &str) -> Result<SourceScopes> {
     let lists = lists(alloc, text)?;
     if lists.len() > 4294967295 {
@@ -296,7 +296,8 @@ static FUNCTIONS: [(&str, u32, u32, &str); 5] = [
     ("AAA,!", 0, 0, "no functions"),
 ];
 
-// The name index by a copy, and whether the copy is equal.
+// Copies a function map. Returns the name index that the copy has for an original position, and
+// whether the copy equals the function map.
 fn index_text(alloc: Global, map: &HermesFunctionMap, line: u32, col: u32) -> Result<String> {
     let copy = map.clone()?;
     Ok(format!(in alloc; "{:?} {}", copy.name_index(line, col), copy == *map)?)

@@ -10,7 +10,8 @@ use sourcemap::types::{DecodedMap, SourceMapIndex, SourceMapSection};
 use sourcemap_test_support::results::box_result;
 use std::alloc::Global;
 
-// A change of an index map of two sections, or of one of the sections.
+// A change to an index map that has two sections, or to one of these sections. Sections are
+// numbered from 0. If no section has the number, nothing changes.
 #[derive(Clone, Copy)]
 enum Change {
     Nothing,
@@ -19,7 +20,7 @@ enum Change {
     Url(u32),
     // the map of the section of this number is removed
     Map(u32),
-    // the section of this number gets an index of no section instead of its map
+    // the section of this number gets a new map: an index map without sections
     NewMap(u32),
     // the debug id of the map of the section of this number is removed
     DebugId(u32),
@@ -193,7 +194,8 @@ fn one_part_of_an_index_is_changed(rt: HostRuntime) {
     }
 }
 
-// An index of no section with both lists of a bundle.
+// An index map without sections, but with both lists of a RAM bundle: `x_facebook_offsets` and
+// `x_metro_module_paths`.
 fn bundle_index(alloc: Global) -> Result<Box<SourceMapIndex>> {
     let offsets = offsets(alloc)?;
     let paths = paths(alloc)?;

@@ -18,7 +18,7 @@ pub fn id_text(alloc: Global, map: &DecodedMap) -> Result<String> {
     }
 }
 
-// The debug id of a map, and the text that it is written as.
+// The debug id of a map, and the text that the map is written as.
 fn id_and_text(alloc: Global, map: &DecodedMap) -> Result<String> {
     let id = id_text(alloc, map)?;
     let text = value_text(alloc, map.to_value())?;
@@ -91,8 +91,9 @@ fn set(alloc: Global, text: &str, id: Option<&str>) -> Result<String> {
     text_with(alloc, &mut *map_of(alloc, text)?, id)
 }
 
-// The text of an index map, and the debug id that is set, which replaces any in the text. Then the
-// debug id of the map, and the text that it is written as.
+// The text of an index map, and the debug id to set in the decoded map. `None` removes the debug id
+// that the map has from the text. Then the debug id of the map after the change, and the text that
+// the map is written as.
 static SET: [(&str, Option<&str>, &str); 4] = [
     (
         r#"{"sections":[],"file":"test.js"}"#,
@@ -129,8 +130,9 @@ fn empty_index(alloc: Global) -> Result<Box<DecodedMap>> {
     box_result(alloc, Ok(DecodedMap::Index(index)))
 }
 
-// Sets the debug id of an index map that was made from parts. Returns whether it had none before,
-// whether it then equals the map of a text with that id, and whether it has the id.
+// Sets the debug id of an index map that was made from parts. Returns whether the map had no debug
+// id before, whether the map now equals the map decoded from `text`, and whether the debug id of
+// the map is now `ID`.
 fn made_text(alloc: Global, map: &mut DecodedMap) -> Result<String> {
     let had_none = map.debug_id().is_none();
     map.set_debug_id(DebugId::parse(ID));

@@ -41,7 +41,8 @@ fn describe(alloc: Global, answer: Result<DecodedMap>) -> Result<String> {
     }
 }
 
-// A text, and the sections of its index map, the kind of another map, or the error.
+// A text. Then the result of decoding it: the sections of an index map, the kind of any other map,
+// or the error.
 static TEXTS: [(&str, &str); 19] = [
     // Sections are sorted stably by offset.
     (
@@ -105,7 +106,8 @@ static TEXTS: [(&str, &str); 19] = [
         r#"{"sections":[{"offset":{"line":0,"column":0},"map":{"mappings":"AAAAAA"}},{"offset":{"line":1,"column":0},"map":{"x_facebook_sources":[],"mappings":"!"}}]}"#,
         "got 6 segments, expected 4 or 5",
     ),
-    // The record is read whole before a map of it is made.
+    // The whole record is read before the map of any section is decoded. So the error is the
+    // missing column of the second section, not the invalid mappings of the first section.
     (
         r#"{"sections":[{"offset":{"line":0,"column":0},"map":{"mappings":"!"}},{"offset":{"line":1}}]}"#,
         "bad json: a field has the wrong type",
@@ -147,7 +149,8 @@ static INDEXES: [(&str, &str); 8] = [
         r#"1:2 None a map;3:0 Some("p") no map;"#,
     ),
     (r#"{"sections":[]}"#, ""),
-    // The record of a map of another kind is an error before anything of it is decoded.
+    // A record without sections is `IncompatibleSourceMap`. Its mappings are not decoded, so
+    // invalid mappings do not change the error.
     (
         r#"{"mappings":"!"}"#,
         "encountered incompatible sourcemap format",

@@ -27,7 +27,8 @@ const LAST_LINE: &str =
 const BROKEN: &str =
     r#"{"mappings":"AAAA","names":[],"sources":["a.js"],"version":3,"x_facebook_sources":[[{"mappings":"AAA,!","names":["f"]}]]}"#;
 
-// The Hermes map that a map is, or that its first section has.
+// If `map` is a Hermes map, returns this Hermes map. If `map` is an index map, returns the Hermes
+// map of the first section. Returns `None` if there is no such Hermes map.
 fn hermes_in(map: &DecodedMap) -> Option<&SourceMapHermes> {
     match map {
         DecodedMap::Hermes(map) => Some(map),
@@ -94,7 +95,8 @@ fn scopes_are_written_as_they_were_read(rt: HostRuntime) {
     }
 }
 
-// The debug id of a map, then its debug id and a function name after the id was removed.
+// Removes the debug id of a map. Returns the old debug id, the new debug id, and the name of the
+// function at bytecode offset 0 after the removal.
 fn ids_text(alloc: Global, map: &mut DecodedMap) -> Result<String> {
     let old = id_text(alloc, map)?;
     map.set_debug_id(None);

@@ -1,5 +1,6 @@
-//! Tests of index maps: decoding, construction, lookups, changes; and of RAM bundles, split by index
-//! maps.
+//! Tests of index maps: decoding, construction, lookups, changes, flattening and writing. Also
+//! tests of Hermes maps, of reading and writing maps of each kind, and of splitting RAM bundles
+//! with index maps.
 #![tactic(auto)]
 
 #[cfg(test)]

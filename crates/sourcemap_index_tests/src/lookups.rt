@@ -14,11 +14,13 @@ const TWO: &str =
 const LINES: &str =
     r#"{"sections":[{"offset":{"line":2,"column":4},"map":{"sources":["a.js"],"mappings":"AAAA,IAAI;IACA"}}]}"#;
 
-// Columns after a range token count from its position in the map of the section.
+// A section with a range token at its offset. On the token's line, the original column increases by
+// one with each generated column after the token, up to 4294967295.
 const RANGED: &str =
     r#"{"sections":[{"offset":{"line":1,"column":3},"map":{"sources":["a.js"],"mappings":"AAAO","rangeMappings":"B"}}]}"#;
 
-// Of sections at one position the first answers there, and the last after it.
+// Two sections with the same offset. The position at the offset is looked up in the first section.
+// Later positions are looked up in the second section.
 const EQUAL: &str =
     r#"{"sections":[{"offset":{"line":1,"column":2},"map":{"sources":["a.js"],"mappings":"AAAA"}},{"offset":{"line":1,"column":2},"map":{"sources":["b.js"],"mappings":"AAAA"}}]}"#;
 
@@ -38,7 +40,7 @@ const LATE: &str =
 const MIXED: &str =
     r#"{"sections":[{"offset":{"line":0,"column":0},"map":{"sources":["a.js"],"mappings":"AAAA,SAAA"}},{"offset":{"line":0,"column":5},"map":{"sources":["b.js"],"mappings":"AAAA"}}]}"#;
 
-// The second section has a Hermes map, which answers as its regular map.
+// The second section has a Hermes map. A lookup in a Hermes map searches its regular map.
 const HERMES: &str =
     r#"{"sections":[{"offset":{"line":0,"column":0},"map":{"sources":["a.js"],"mappings":"AAAA"}},{"offset":{"line":1,"column":2},"map":{"sources":["b.js"],"mappings":"AAAO","rangeMappings":"B","x_facebook_sources":[[{"names":["f"],"mappings":"AAA"}]]}}]}"#;
 
@@ -106,9 +108,10 @@ fn positions_are_looked_up_in_the_closest_section(rt: HostRuntime) {
     }
 }
 
-// An index map, a line and a column. Then the text of the token there by the index map, and by its
-// flattened map. They differ where the earlier section has a token after the start of the later
-// section: only the flattened map finds that token.
+// An index map, a line and a column. Then the text of the token that the index map finds there, and
+// the text of the token that its flattened map finds there. The texts differ for `MIXED`: its
+// earlier section has a token after the start of its later section. Only the flattened map finds
+// this token.
 static FLAT_POSITIONS: [(&str, u32, u32, &str, &str); 4] = [
     (TWO, 10, 4, "b.js:0:0", "b.js:0:0"),
     (TWO, 10, 9, "b.js:0:0", "b.js:0:0"),

@@ -168,8 +168,9 @@ fn write_nested(alloc: Global, depth: usize) -> Result<String> {
     written_text(alloc, &*nested_index(alloc, depth)?)
 }
 
-// How many index maps are nested, and what the text that they are written as is read as. Maps of
-// any depth are written, but a text that nests deeper than 127 levels cannot be read.
+// The number of nested index maps, and the result of decoding the text that they are written to.
+// The result is the text of the token at 0:0 and whether the decoded map equals the written map, or
+// the error. Maps of any depth are written, but JSON text of more than 127 levels is not decoded.
 static WRITTEN: [(usize, &str); 4] = [
     (20, "a.js:0:0 true"),
     (41, "a.js:0:0 true"),

@@ -1,5 +1,5 @@
-// Maps of each kind, read from readers that return one byte a read, are interrupted before each
-// read, or fail.
+// Maps of each kind are read from readers that return one byte a read. These readers are
+// interrupted before each read. Some of them fail after a number of reads.
 use crate::checks::check;
 use crate::lookups::token_text;
 use crate::maps::map_of;
@@ -84,7 +84,7 @@ fn each_read_may_fail(rt: HostRuntime) {
     }
 }
 
-// The calls that read a map of one kind.
+// The kind of map that is read. Each kind has its own `from_reader`.
 #[derive(Clone, Copy)]
 enum Kind {
     Regular,

@@ -97,7 +97,8 @@ static FLAT: [(&str, &str); 13] = [
         r#"{"sections":[{"offset":{"line":0,"column":0},"map":{"sections":[{"offset":{"line":0,"column":0},"url":"inner"}]}},{"offset":{"line":1,"column":0},"url":"outer"}]}"#,
         "cannot flatten the indexed sourcemap: Section has an unresolved sourcemap: inner",
     ),
-    // A token on the last line of a nested index map, which moves down by one line.
+    // The nested index map has a token on line 4294967295. Flattening moves this token down by one
+    // line.
     (
         r#"{"sections":[{"offset":{"line":1,"column":0},"map":{"sections":[{"offset":{"line":4294967295,"column":0},"map":{"sources":["a.js"],"mappings":"AAAA"}}]}}]}"#,
         "cannot flatten the indexed sourcemap: a position passes 4294967295",
@@ -254,7 +255,8 @@ fn sections_move_down_all_or_none(rt: HostRuntime) {
     }
 }
 
-// An index map with a file name, and a nested index map at its second row.
+// An index map with a file name and a debug id. Its second section starts on line 1, and the map of
+// this section is an index map.
 const FILED: &str =
     r#"{"file":"test.js","debugId":"0123456789abcdef0123456789abcdef","sections":[{"offset":{"line":0,"column":7},"url":"u"},{"offset":{"line":1,"column":3},"map":{"sections":[{"offset":{"line":0,"column":1},"map":{"sources":["a.js"],"mappings":"AAAA"}}]}}]}"#;
 
@@ -276,8 +278,8 @@ fn moved_to(alloc: Global, text: &str, rows: u32, after: &str) -> Result<String>
     moved_beside(alloc, &mut *index_of(alloc, text)?, rows, &*after)
 }
 
-// An index map, by how many rows its sections move down, and the whole index map afterwards. Then
-// whether the sections can move, and whether the result equals that index map.
+// An index map, the number of rows to move its sections down, and the expected index map. Then
+// whether the sections can move, and whether the index map afterwards equals the expected one.
 static MOVED_WHOLE: [(&str, u32, &str, &str); 4] = [
     (FILED, 0, FILED, "true true"),
     (FILED, 4294967294, FILED_LOWER, "true true"),
@@ -344,7 +346,9 @@ static WRITTEN: [(&str, &str); 9] = [
         BUNDLE,
         r#"{"sections":[],"sources":null,"version":3,"x_facebook_offsets":[5,null],"x_metro_module_paths":["a.js"]}"#,
     ),
-    // Each of the two lists of a RAM bundle is written if the index map has it, in a section, too.
+    // An index map may have two lists of a RAM bundle, `x_facebook_offsets` and
+    // `x_metro_module_paths`. Each list that it has is written, even if the list is empty. The same
+    // holds for an index map in a section.
     (
         r#"{"sections":[],"x_facebook_offsets":[]}"#,
         r#"{"sections":[],"sources":null,"version":3,"x_facebook_offsets":[]}"#,

@@ -1,5 +1,6 @@
-// Maps of each kind, written to writers that take one byte a write, are interrupted, take nothing
-// or fail. They are also written to buffers, which are consumed.
+// Maps of each kind are written to writers that take one byte a write. Some writers fail after a
+// number of bytes. Others are interrupted before each byte, and may take nothing after a number of
+// bytes. Maps are also written to buffers, which are consumed.
 use crate::checks::check;
 use crate::maps::map_of;
 use sourcemap::encoder::encode;
@@ -26,11 +27,12 @@ const LONGEST: usize = 1 << 12;
 enum Way {
     // one that fails after so many bytes
     Failing(Option<usize>),
-    // one that is interrupted before each byte, and takes no more than so many
+    // one that is interrupted before each byte, and takes at most this many bytes in total; `None`
+    // is no limit
     Halting(Option<usize>),
     // a buffer that the `to_writer` of the map's kind consumes
     Buffered,
-    // a buffer that `encode` consumes, the call for maps of any kind
+    // a buffer that `encode` consumes; `encode` writes maps of any kind
     AnyBuffered,
 }
 

@@ -1,5 +1,6 @@
-// Ends the test and prints the row, unless the result is the wanted text. A library may not abort a
-// process, so this cannot be shared.
+// Prints the row and the result and ends the test, unless the result is the wanted text. Each test
+// crate that calls `check` has its own copy. A shared copy would be in a library, and `rt ci`
+// refuses a library that may abort the process.
 use std::fmt::Debug;
 use std::process::Abort;
 use std::result;

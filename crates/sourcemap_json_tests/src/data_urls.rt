@@ -1,4 +1,5 @@
-// Data URLs: decoded without a charset and with UTF-8, refused in any other form, and written.
+// Data URLs. Three forms are decoded: without a charset, with `charset=utf-8` and with
+// `charset=utf8`. Each other form returns an error. One text is encoded as a data URL.
 use crate::checks::check;
 use sourcemap_errors::errors::Result;
 use sourcemap_json::data_url::{data_url, data_url_bytes};

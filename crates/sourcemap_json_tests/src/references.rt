@@ -15,7 +15,8 @@ use std::alloc::Global;
 use std::io::ErrorKind;
 use std::str;
 
-// A label, bytes, and the reference in them with `#` or `@` before it for its mark, or the error.
+// A label, bytes, and the result of locating a reference in them: `#` and the URL for `//#`, `@`
+// and the URL for `//@`, `none` if no reference is found, or the text of the error.
 static LOCATED: [(&str, &[u8], &str); 18] = [
     (
         "the first of two, without the white space around it",
@@ -196,7 +197,7 @@ fn views_have_the_same_reference(rt: HostRuntime) {
 }
 
 // A label. Then a long text: its start, the piece that it repeats 3,000 times, and its end. Then
-// the reference with `#` or `@` before it for its mark, or the error.
+// the result of locating a reference in this text, written as in `LOCATED`.
 static LONG: [(&str, &[u8], &[u8], &[u8], &str); 8] = [
     (
         "after many lines",
@@ -260,8 +261,8 @@ fn long(alloc: Global, head: &[u8], piece: &[u8], tail: &[u8]) -> Result<Vec<u8>
     Ok(bytes)
 }
 
-// The reference that is found in a slice of a long text. If a reader of the text finds another one,
-// both are returned.
+// Locates the reference in a long text twice: in the text as a slice, and with a reader. Returns
+// the result, or both results if they differ.
 fn slice_and_reader(alloc: Global, head: &[u8], piece: &[u8], tail: &[u8]) -> Result<String> {
     let bytes = long(alloc, head, piece, tail)?;
     let found = locate_sourcemap_reference_slice(alloc, bytes.as_slice());
@@ -286,7 +287,8 @@ fn locates_in_long_texts(rt: HostRuntime) {
     }
 }
 
-// A reference, the URL of its text, and the resolved URL.
+// The URL in a reference, the URL of the file that holds the reference, and the resolved URL, or
+// `none` if `resolve` returns `None`.
 static RESOLVED: [(&str, &str, &str); 7] = [
     ("a.js.map", "http://x.com/m/a.js", "http://x.com/m/a.js.map"),
     ("a.js.map", "a.js", "none"),
@@ -320,7 +322,8 @@ fn leads_to_urls(rt: HostRuntime) {
     }
 }
 
-// A reference, the path of its text, and the resolved path.
+// The URL in a reference, the path of the file that holds the reference, and the resolved path, or
+// `none` if `resolve_path` returns `None`.
 static PATHS: [(&str, &str, &str); 6] = [
     ("../m/a.js.map", "/x/y/a.js", "/x/m/a.js.map"),
     ("a%20b.map", "/c d/a.js", "/c d/a b.map"),

@@ -1,5 +1,5 @@
-// Strings with escapes between runs of plain bytes. The lengths of the runs are around those of
-// blocks.
+// Strings with escapes between runs of plain bytes. The reader loads blocks of 32 or 64 bytes. Some
+// runs are as long as such a block, or one byte longer or shorter.
 use crate::answers::{answer, kit_answer};
 use crate::checks::check;
 use serde_json::Result;

@@ -11,7 +11,8 @@ static TEXTS: [&str; 4] = [
     r#"[18446744073709551615,0,7,{},"",[[[["a"]]]]]"#,
 ];
 
-// The bytes that are put into the texts. Each of the two past ASCII is not UTF-8 by itself.
+// The bytes that overwrite bytes of the texts. `\xc3` and `\xa9` are not ASCII. Neither of them is
+// UTF-8 by itself.
 const BYTES: &[u8] = b"\"\\{}[]:, \n\x1f09-+.eEnulatrfsbd\xc3\xa9x";
 
 // The next pseudorandom number.

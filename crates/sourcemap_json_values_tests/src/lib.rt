@@ -1,5 +1,5 @@
-//! Tests of reading JSON texts to values: each kind of value, and each form that is valid or invalid,
-//! and of writing values as JSON texts.
+//! Tests of reading valid JSON texts to values of each kind, and of refusing invalid JSON texts.
+//! Also tests of writing values as compact JSON texts.
 #![tactic(auto)]
 
 #[cfg(test)]

@@ -24,8 +24,9 @@ static SPELLED: [(&str, &str); 11] = [
 // Each of these makes the JSON text invalid if it is put into a string.
 static ERRORS: [&str; 6] = ["\t", r"\x", r"\u00g0", r"\ud83d\n", "\\\u{1}", r#"",,""#];
 
-// Ranges for the number of letters before an escape: around the lengths of one and two blocks, and
-// around the length of the buffer at first.
+// Ranges for the number of letters before an escape. The first range includes 64 and 128, the
+// lengths of one and two blocks. The second range includes 4096: the buffer is first extended to
+// this length.
 static OFFSETS: [(usize, usize); 2] = [(0, 140), (3900, 4110)];
 
 // An array of two strings: `before` letters, `inner` and a letter, then a string of `rest` letters.

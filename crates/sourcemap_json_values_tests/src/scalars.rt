@@ -86,8 +86,8 @@ static NUMBERS: [(&str, &str); 34] = [
     ("Infinity", "none"),
 ];
 
-// Whole numbers past the integers of 64 bits. They are read as floats, so the kit's result is
-// expected.
+// Whole numbers outside the ranges of `u64` and `i64`. They are read as floats. The test takes the
+// expected result from `kit_answer`.
 static FAR_NUMBERS: [&str; 3] = [
     "18446744073709551616",
     "99999999999999999999",

@@ -1,4 +1,5 @@
-// Arrays and objects. Also texts with white space or more around a value, or without a value.
+// Arrays and objects. Also texts with white space or other characters around a value, and texts
+// without a value.
 use crate::answers::{answer, kit_answer};
 use crate::checks::check;
 

@@ -64,7 +64,8 @@ static VALUES: [(&str, &str); 20] = [
     ("[[[[[[[[7]]]]]]]]", "[[[[[[[[7]]]]]]]]"),
 ];
 
-// Lengths of runs: around those of the blocks that are copied, and longer ones.
+// Lengths of runs, in characters. The writer copies blocks of up to 32 bytes, so some lengths are
+// close to 32 or 64. The last two runs are much longer than a block.
 static LENGTHS: [usize; 11] = [0, 1, 15, 31, 32, 33, 63, 64, 65, 1100, 5000];
 
 fn compact_text(alloc: Global, value: &Value) -> Result<String> {
@@ -112,8 +113,8 @@ fn two_runs(alloc: Global, run: &str, len: usize, between: &str, around: &str) -
     Ok(text)
 }
 
-// `len` letters in turn. If `index` is below `len`, a character that needs an escape is there
-// instead.
+// A text of `len` characters: the letters `a` to `z` in order, repeated. If `index` is below `len`,
+// a quote, a backslash or `\u{1f}` replaces the letter at `index`. Each of these needs an escape.
 fn letters(alloc: Global, len: u8, index: u8) -> Result<String> {
     let mut text = String::new(alloc);
     for at in 0..len {
@@ -167,7 +168,9 @@ fn escapes_between_runs_of_each_length_are_written(rt: HostRuntime) -> Result<()
     Ok(())
 }
 
-// Short strings are tested and copied by blocks that overlap, so each length and index matters.
+// The writer searches short strings for bytes that need an escape, in blocks that may overlap. It
+// copies short strings without such bytes in the same blocks. So the test tries each length up to
+// 70, and such a byte at each index.
 #[test]
 fn an_escape_at_each_index_of_a_short_string_is_written(rt: HostRuntime) -> Result<()> {
     for len in 0..71u8 {

@@ -32,10 +32,11 @@ const EQUAL: [Row; 2] = [
     ((0, 5), (0, 2, 2), NONE, false),
 ];
 
-// A range token. `AFTER_START` moves a position after its start.
+// A range token that starts at 0:0. `AFTER_START` moves the later position 0:10 to 5:0.
 const RANGE: [Row; 1] = [((0, 0), (0, 0, 7), NONE, true)];
 
-// A range token with an original column close to the last one, and a range token without a source.
+// `FAR_RANGE` is a range token with an original column near the last column, 4294967295.
+// `BARE_RANGE` is a range token without a source.
 const FAR_RANGE: [Row; 1] = [((0, 0), (0, 0, 4294967290), NONE, true)];
 
 const BARE_RANGE: [Row; 1] = [((0, 0), (NONE, NONE, NONE), NONE, true)];
@@ -96,7 +97,8 @@ static ADJUSTED: [(&[Row], &[Row], (u32, u32), &str); 13] = [
     (&BEFORE, &LAST, (0, NONE), "o.js:1:1"),
 ];
 
-// A map of one source and two names. Those of the adjustment must not replace them.
+// A map of one source and two names. After an adjustment, the map must still have this source and
+// these names. The source and the name of the adjustment are ignored.
 fn original(alloc: Global, rows: &[Row]) -> Made {
     make_map(alloc, rows, &["k", "m"], &["o.js"])
 }
@@ -351,8 +353,9 @@ fn adjusted_maps_have_these_tokens_and_no_others(rt: HostRuntime) {
 }
 
 // Label. The tokens of the original map, then those of the adjustment. The new position, then the
-// old position that the adjustment moves to it. The text that the adjusted map prints at the new
-// position, and the original map at the old position. A `+` after the text marks a range token.
+// old position that the adjustment moves to it. The text that two lookups must give: of the new
+// position in the adjusted map, and of the old position in the original map. A `+` after the text
+// marks a range token.
 static ALIKE: [(&str, [&[Row]; 2], [(u32, u32); 2], &str); 9] = [
     (
         "where a token was cut",
@@ -440,8 +443,8 @@ fn moved_positions_keep_their_meaning(rt: HostRuntime) {
 
 // The tokens of the original map, those of the adjustment, and the adjusted map as text. In the
 // first row two tokens move to one position and keep their order. In the second row the mappings of
-// the two maps are `AAAA,KAAK` and `EAAA`. In the third row they are `AAAO`, with range mappings
-// `B`, and `EAAU`.
+// the two maps are `AAAA,KAAK` and `EAAA`. In the third row the original map has the mappings
+// `AAAO` and the range mappings `B`, and the adjustment has the mappings `EAAU`.
 static WRITTEN: [(&[Row], &[Row], &str); 3] = [
     (
         &APART,

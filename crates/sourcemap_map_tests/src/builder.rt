@@ -15,7 +15,8 @@ enum Step<'a> {
     DebugId(&'a str),
     Ignore(u32),
     Strip(&'a str),
-    // `set_source`, then `set_source_contents`, each with the id of an existing source
+    // `Show` calls `set_source`, and `Contents` calls `set_source_contents`. If no source has the
+    // id, the step returns the error `BadSourceReference` instead.
     Show(u32, &'a str),
     Contents(u32, Option<&'a str>),
     Source(&'a str),
@@ -235,7 +236,7 @@ struct Row {
     steps: &'static [Step<'static>],
     // results of the steps
     answers: &'static str,
-    // results of getters after the steps, of a builder for the file `f`
+    // what `describe` returns after the steps, for a builder that began with the file `f`
     getters: &'static str,
     written: &'static str,
 }

@@ -32,7 +32,7 @@ static CHANGES: [Change<'static>; 10] = [
 ];
 
 // For each of `CHANGES`, `+` if it changes the map, else `=`. The map has no debug id to remove.
-// The id of the last `Ignore` is ignored already.
+// The last `Ignore` adds id 3, which is already in the ignore list.
 const MARKS: &str = "+=++++++=+";
 
 fn make(map: &mut SourceMap, change: &Change<'_>) -> Result<()> {

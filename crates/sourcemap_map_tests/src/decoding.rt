@@ -7,7 +7,7 @@ use sourcemap::{DecodedMap, Error, SourceMap, decode, decode_data_url, decode_sl
 use sourcemap_test_support::results::{again, error_of};
 use std::alloc::Global;
 
-// The map of the documentation of the crate `sourcemap`.
+// The example map in the documentation of the Rust crate `sourcemap`.
 const README: &str =
     r#"{"version":3,"sources":["coolstuff.js"],"names":["x","alert"],"mappings":"AAAA,GAAIA,GAAI,EACR,IAAIA,GAAK,EAAG,CACVC,MAAM"}"#;
 
@@ -119,7 +119,9 @@ fn maps_of_any_kind_are_read(rt: HostRuntime) {
     }
 }
 
-// The first `end` bytes of a text, decoded.
+// Decodes the first `end` bytes of a text. Returns the text of the token closest to position 0:0,
+// or the text of the decoding error. Returns `none` if the map has no such token, or if the text
+// has fewer than `end` bytes. Out of memory stays an error.
 fn beginning_read(alloc: Global, text: &str, end: usize) -> Result<String> {
     match text.as_bytes().get(..end) {
         None => Ok(String::from_str(alloc, "none")?),

@@ -1,4 +1,5 @@
-// The texts that errors print, and the positions in these texts.
+// The texts that errors print. Some errors hold numbers, such as a byte offset or a length. Their
+// texts must have these numbers.
 use crate::checks::check;
 use sourcemap::Error;
 use sourcemap::errors::{Base64Fault, RangeFault, Result};

@@ -20,7 +20,7 @@ static TEXTS: [(&str, &str); 32] = [
     ("ひらがな", "true [ひらがな]"),
     ("へんすう_test", "true [へんすう_test]"),
     ("결제사_연결():De", "false [결제사_연결]"),
-    // the empty text counts as an identifier, but it has no word that starts with one
+    // the empty text counts as an identifier, but it has no word, so the second answer is `none`
     ("", "true none"),
     ("   ", "false none"),
     ("1a", "false none"),

@@ -1,6 +1,7 @@
-//! Tests of regular maps, by the names that users know: decoding of bytes, data URLs and records,
-//! construction from parts and by builders, lookups, changes, rewriting, encoding, and views of
-//! texts.
+//! Tests of the facade `sourcemap`, mostly with regular maps. They cover decoding of bytes, data
+//! URLs and records, construction from parts and by builders, lookups, changes, rewriting and
+//! encoding. They also cover views of texts, names of functions, JavaScript identifiers, and the
+//! texts of errors. One module, `lines`, tests line tables of the crate `sourcemap_core`.
 #![tactic(auto)]
 
 #[cfg(test)]

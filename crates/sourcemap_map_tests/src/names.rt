@@ -37,21 +37,23 @@ static NAMES: [(&str, (u32, u32), &str, &str); 17] = [
     (INDEX, (2, 9), "b", "none"),
     // Before the section.
     (INDEX, (0, 9), "b", "none"),
-    // By the column of the bytecode alone. Only line 0 is bytecode, so other lines have no names.
+    // In a Hermes map the column is a bytecode offset. The minified name and the view are not used.
+    // Only line 0 is bytecode, so other lines have no names.
     (HERMES, (0, 0), "b", "<global>"),
     (HERMES, (0, 1), "b", "<global>"),
     (HERMES, (0, 7), "b", "f"),
     (HERMES, (1, 0), "b", "none"),
 ];
 
-// A boxed map: the prover handles dropping a box as one step, and dropping a map as one step for
-// each part, at each return.
+// The map is in a box because of the prover. At each return, the prover follows the drop of a box
+// in one step. Without a box, the prover takes one step for each part of a `DecodedMap`.
 fn map_of(alloc: Global, text: &str) -> Result<Box<DecodedMap>> {
     let map = decode_slice(alloc, text.as_bytes())?;
     Ok(Box::new(alloc, map)?)
 }
 
-// A boxed regular map, for the same reason.
+// A regular map in a box. The prover follows the drop of a `SourceMap` in one step also without a
+// box, because its `Drop` is written by hand.
 fn regular_of(alloc: Global, text: &str) -> Result<Box<SourceMap>> {
     let map = SourceMap::from_slice(alloc, text.as_bytes())?;
     Ok(Box::new(alloc, map)?)
@@ -119,7 +121,8 @@ fn maps_but_hermes_maps_need_a_name_and_a_view(rt: HostRuntime) {
     }
 }
 
-// The name that the method of `SourceMap`, `SourceMapIndex` or `SourceMapHermes` returns.
+// Calls `get_original_function_name` of `SourceMap`, `SourceMapIndex` or `SourceMapHermes`, not of
+// `DecodedMap`. Returns the name, or `none` if the method returns `None`.
 fn name_by_kind(alloc: Global, map: &str, (line, col): (u32, u32)) -> Result<String> {
     let view = SourceView::new(alloc, TEXT)?;
     let map = map_of(alloc, map)?;
@@ -147,7 +150,8 @@ fn each_kind_of_map_names_functions(rt: HostRuntime) {
 // this one, has a token without a source.
 static FAR: [(u32, &str); 4] = [(0, "foo"), (99, "foo"), (125, "foo"), (126, "none")];
 
-// `MAP` with a second line. Its tokens have no source, one at each column from 0 to `last`.
+// `MAP` with a second generated line. This line has one token at each column from 0 to `last`. None
+// of these tokens has a source.
 fn with_second_line(alloc: Global, last: u32) -> Result<String> {
     let mut text = String::from_str(
         alloc,
@@ -201,7 +205,8 @@ fn line_of_source(alloc: Global, id: u32, line: u32) -> Result<String> {
     line_text(alloc, map.get_source_view(id), line)
 }
 
-// As `line_of_source`, by the token that leads to the source. The fourth token leads to none.
+// Like `line_of_source`, but takes the source from the token with index `id`. For the ids 0 to 2,
+// this token has the source with the same id. The token with index 3 has no source.
 fn line_of_token(alloc: Global, id: u32, line: u32) -> Result<String> {
     let map = regular_of(alloc, WITH_CONTENTS)?;
     let view = match map.get_token(id as usize) {

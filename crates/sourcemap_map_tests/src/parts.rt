@@ -1,5 +1,5 @@
-// Encoding in parts writes the same text as encoding at once. Also: tokens on far lines, and
-// writers that take one byte a write, are interrupted or fail.
+// Encoding in parts writes the same text as encoding at once. The tests also encode a token on a
+// far line. Some writers take one byte a write. Some of these are interrupted, or fail.
 use crate::checks::check;
 use crate::samples::{Made, NONE, make_map, mixed_map, range_map, readme};
 use crate::writing::{BARE, WRITTEN, cut_writing, outcome_text, regular};
@@ -27,8 +27,8 @@ fn are_line_ends(buf: &[u8]) -> bool {
 }
 
 impl Write for LineCounter {
-    // If the first and last byte of a piece end lines, all its bytes are assumed to end lines. So
-    // many line ends are counted fast.
+    // If the first and last byte of a piece end lines, all its bytes are assumed to end lines. A
+    // piece of line ends is then counted at once, without a loop over its bytes.
     fn write(&mut self, buf: &[u8]) -> io::Result<usize> {
         self.longest = self.longest.max(buf.len());
         if are_line_ends(buf) {
@@ -71,7 +71,7 @@ fn far_text(alloc: Global) -> Result<String> {
 
 #[test]
 fn far_lines_take_little_memory(rt: HostRuntime) {
-    // by hand: the ends of 300,000,000 lines in each of the two texts
+    // worked out by hand: `mappings` and `rangeMappings` have 300,000,000 line ends each
     let want =
         r#"{"file":"f","mappings":"A","names":[],"rangeMappings":"B","sources":[],"version":3} 600000000 true"#;
     check(&rt, "a far line", far_text(rt.alloc()), want);

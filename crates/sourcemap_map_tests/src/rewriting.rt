@@ -27,7 +27,7 @@ fn write_rewritten(alloc: Global, map: Result<SourceMap>) -> Result<String> {
 const TWO_SOURCES: &str =
     r#"{"mappings":"ACAA","sources":["a.js","b.js"],"sourcesContent":["x","y"]}"#;
 
-// Label, a map, and what it is written as when it is rewritten by default.
+// Label, the JSON of a map, and the JSON of the map that `rewrite` returns with default options.
 static DEFAULT: [(&str, &str, &str); 4] = [
     (
         "a source that no token uses",
@@ -186,7 +186,8 @@ fn contents_are_loaded_from_absolute_folders_alone(rt: HostRuntime) {
     }
 }
 
-// Label and a map. For each source of the map rewritten by default, its id in the old map.
+// Label, a map, and the ids that `rewrite_with_ids` returns with default options. There is one id
+// for each source of the new map: the old source id of the first token that uses this source.
 static OLD_IDS: [(&str, &str, &str); 4] = [
     ("the second source alone is used", TWO_SOURCES, "[1]"),
     ("the second source is used first", TWO_NAMES, "[1, 0]"),

@@ -18,7 +18,8 @@ pub const NONE: u32 = u32::MAX;
 /// Generated line and column, then source id with original line and column, name id, range flag.
 pub type Row = ((u32, u32), (u32, u32, u32), u32, bool);
 
-// The tokens of the map of the documentation of the crate `sourcemap`, the last of them first.
+// The tokens of the map in the documentation of the crate `sourcemap`. The token with the last
+// generated position is first in this list. The other tokens follow in order.
 static README: [Row; 9] = [
     ((0, 24), (0, 2, 8), NONE, false),
     ((0, 0), (0, 0, 0), NONE, false),
@@ -38,8 +39,8 @@ static RANGED: [Row; 3] = [
     ((0, 5), (0, 0, 5), NONE, true),
 ];
 
-// Two tokens that differ only in the ids of their sources, which have the same text. Then a range
-// token, and a token without a source.
+// Two tokens that differ only in the source id. In `mixed_map`, each of the two ids has the
+// source `a.js`. Then a range token, and a token without a source.
 static MIXED: [Row; 4] = [
     ((0, 2), (0, 0, 0), NONE, false),
     ((0, 2), (4, 0, 0), NONE, false),

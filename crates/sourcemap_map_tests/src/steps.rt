@@ -44,8 +44,8 @@ fn two_lines(alloc: Global) -> Made {
     map_of(alloc, tokens)
 }
 
-// A map of five tokens at columns 0 to 4 of line 0, and 3,000 tokens at each third column of
-// line 2. The original column of each token is its index.
+// A map of 3,005 tokens: one at each of the columns 0 to 4 of line 0, and one at every third column
+// of line 2, from 0 to 8997. The original column of each token is its index.
 fn long_line(alloc: Global) -> Made {
     let mut tokens = Vec::new(alloc);
     for number in 0..5 {
@@ -64,8 +64,8 @@ fn map_of(alloc: Global, tokens: Vec<RawToken>) -> Made {
     box_result(alloc, map)
 }
 
-// The original column of the closest token, and whether the lookup took as many comparisons as
-// allowed.
+// The original column of the closest token, or `None` if all tokens are after the position. Then
+// whether the number of comparisons is within the bounds of `row`.
 fn steps_text(alloc: Global, map: &SourceMap, row: &Counted) -> Result<String> {
     let (position, least, most, _) = *row;
     let (found, steps) = map.lookup_token_steps(position.0, position.1);
@@ -88,7 +88,7 @@ fn most_steps(map: &SourceMap) -> u32 {
 }
 
 // Whether some lookup among 3,000 tokens at distinct columns counts at least eight comparisons. A
-// comparison has three outcomes, so seven distinguish 2,187 answers at most.
+// comparison has three outcomes. So seven comparisons distinguish at most 2,187 answers.
 fn counts_enough(alloc: Global, map: Made) -> Result<String> {
     let is_enough = most_steps(&*map?) >= 8;
     Ok(format!(in alloc; "{is_enough}")?)

@@ -13,7 +13,8 @@ struct ChainToken {
     name: Option<&'static str>,
 }
 
-// A token, and the tokens before it in the order of the walk.
+// The token `here`, and all tokens before it in a map. The list `earlier` is in the order of the
+// walk, the closest token first.
 #[derive(Clone, Copy)]
 struct Chain<'a> {
     here: ChainToken,
@@ -55,7 +56,8 @@ impl<'a> WalkedToken for Chain<'a> {
     }
 }
 
-// A text, the positions of tokens from the last one back, and the identifier at each position.
+// A text, the generated positions of tokens in the order of the walk, and the identifier at each
+// position, or `none`.
 static WALKS: [(&str, &[(u32, u32)], &str); 18] = [
     ("abc👌def", &[(0, 5), (0, 4), (0, 3)], " [def] [def] none"),
     ("abc👌def", &[(0, 3), (0, 4), (0, 5)], " none [def] [def]"),
@@ -116,7 +118,7 @@ static WALKS: [(&str, &[(u32, u32)], &str); 18] = [
         &[(0, 3), (0, 2), (0, 1), (0, 0)],
         " none none none [a]",
     ),
-    // Line after line, and columns past the end of the line.
+    // A walk back over three lines, then a walk with columns past the end of the line.
     (
         "abcd\nef\nabcd",
         &[(2, 2), (1, 2), (1, 1), (0, 3), (0, 1)],
@@ -163,8 +165,10 @@ fn walks_find_the_identifier_at_each_position(rt: HostRuntime) {
     }
 }
 
-// A walk from the last token back, for the text `function b(){}`. First how many tokens are on the
-// line after this text. Then the columns and names of the tokens in the text.
+// A walk back from the last token, for the text `function b(){}`. The number counts tokens without
+// a name on line 1, and the text has no line 1. The walk visits these tokens first, then the tokens
+// in the list. All tokens in the list are on line 0. The list has the column and the name of each
+// token.
 type Walk = (u32, &'static [(u32, &'static str)]);
 
 // Label, a name in the generated text, a walk, and the name that is guessed.
@@ -262,8 +266,9 @@ fn walks_guess_the_name_after_the_word_function(rt: HostRuntime) {
     }
 }
 
-// A text, what the function is called in it, and the name that is guessed. One token has the column
-// 9 and the name `foo`, another has the column 0 and no name.
+// A text, the minified name to look for, and the guessed original name, or `none`. Each walk has
+// two tokens on line 0: first a token at column 9 with the name `foo`, then a token at column 0
+// without a name.
 static COMPARED: [(&str, &str, &str); 9] = [
     ("function bc(){}", "b", "none"),
     ("function bc(){}", "bc", "[foo]"),

@@ -1,4 +1,5 @@
-// Encoding of maps, by each call, and writers that take little or fail.
+// Tests of the encoding of maps: as records, as JSON values, and as bytes. The writers take one
+// byte in each write, and some fail after a number of bytes.
 use crate::checks::check;
 use crate::samples::{Made, map_text, record_of, record_written, value_written};
 use serde_json::Value;
@@ -90,7 +91,9 @@ fn decode_boxed(alloc: Global, text: &str) -> Result<Box<DecodedMap>> {
     box_result(alloc, decode_slice(alloc, text.as_bytes()))
 }
 
-// The text of a map, by the record of a borrowed map, then by that of a consumed map.
+// `by_record` and `by_moved_record` decode a regular map, make its record, and return the text of
+// the record. The first function borrows the map to make the record, the second function consumes
+// the map.
 
 fn by_record(alloc: Global, text: &str) -> Result<String> {
     record_written(alloc, record_of(regular(alloc, text)))
@@ -100,7 +103,9 @@ fn by_moved_record(alloc: Global, text: &str) -> Result<String> {
     map_text(alloc, regular(alloc, text))
 }
 
-// The text of a map of any kind, by the value of a borrowed map, then by that of a consumed map.
+// `by_value` and `by_moved_value` decode a map of any kind, make its JSON value, and return the
+// text of the value. The first function borrows the map to make the value, the second function
+// consumes the map.
 
 fn by_value(alloc: Global, text: &str) -> Result<String> {
     let map = decode_boxed(alloc, text)?;

@@ -1,4 +1,4 @@
-//! Files of file systems that tests make up.
+//! A fake file for the fake file systems of tests, and the error of an unsupported operation.
 ghost use Rattle.std.specs.Prelude.{IsErr};
 
 use crate::readers::NarrowReader;
@@ -16,7 +16,7 @@ pub fn unsupported_error<T>() -> io::Result<T>
 /// A file that is only read.
 #[derive(Drop)]
 pub struct FakeFile<'a> {
-    /// Returns the bytes and the errors of reads.
+    /// Each read of the file reads from this reader, and returns the same bytes or the same error.
     pub reader: NarrowReader<'a>,
     /// The size in the metadata of the file. With `None`, reading the metadata is an error.
     pub size: Option<u64>,

@@ -1,4 +1,6 @@
-//! Support that the crates `*_tests` share: results as texts, and readers, writers and files that fail.
+//! Helpers for the `*_tests` crates. The functions in `results` repeat a call, box a value, or make
+//! a text from an error or an option. The other modules contain fake readers, fake writers and a
+//! fake file. Each fake can return errors.
 #![tactic(auto)]
 
 pub mod files;

@@ -2,8 +2,9 @@
 use std::io;
 use std::io::{ErrorKind, Write};
 
-/// Takes one byte a write, and fails after `left` bytes; a flush counts as a byte. If `left` is
-/// `None`, it takes any number of bytes.
+/// Each write takes one byte, or none if the buffer is empty. After `left` more calls of `write`
+/// and `flush`, each further call returns `BrokenPipe`. If `left` is `None`, the number of calls is
+/// not limited. The only other error is out of memory.
 #[derive(Drop)]
 pub struct NarrowWriter {
     /// The bytes taken.
@@ -39,8 +40,10 @@ impl Write for NarrowWriter {
     }
 }
 
-/// Takes one byte a write, is interrupted before each, and takes nothing after `left` bytes. If
-/// `left` is `None`, it takes any number of bytes.
+/// A write returns `Interrupted` unless the write before it was interrupted. Any other write takes
+/// one byte, or none if the buffer is empty. After `left` more bytes, such a write takes nothing
+/// and returns 0. If `left` is `None`, the number of bytes is not limited. A flush does nothing.
+/// The only other error is out of memory.
 #[derive(Drop)]
 pub struct HaltingWriter {
     /// The bytes taken.

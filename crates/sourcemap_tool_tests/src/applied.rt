@@ -139,7 +139,8 @@ const PAST_THE_LAST_COLUMN: (&str, &str) = (
     r#"{"sources":["t.js"],"mappings":"+/////HAAA"}"#,
 );
 
-// The path is not opened: the second map is given.
+// Decodes the map `text` and the adjustment `by`, and applies `Compose` to them. `apply` ignores
+// the path `any` of the command and opens no file.
 fn compose(rt: &HostRuntime, text: &str, by: &str) -> Result<String, Error> {
     let command = Command::Compose(String::from_str(rt.alloc(), "any")?);
     let map = decode_slice(rt.alloc(), text.as_bytes())?;

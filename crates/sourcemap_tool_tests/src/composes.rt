@@ -72,7 +72,8 @@ fn is_line(text: &[u8], want: &str) -> bool {
     text.strip_suffix(b"\n") == Some(want.as_bytes())
 }
 
-// Whether `reply_to` returns the status and text of a row for both of its maps.
+// Calls `reply_to` once, with the input and the file of a row. Returns whether the status of the
+// reply is the status of the row, and the text of the reply is the text of the row and a newline.
 fn replies_with(rt: &HostRuntime, words: &[String], row: &Row<'_>) -> Result<bool, Fail> {
     let bytes = Vec::from_slice(rt.alloc(), row.input.as_bytes())?;
     let file = Vec::from_slice(rt.alloc(), row.file.as_bytes())?;
@@ -118,7 +119,9 @@ const MAP: &str = r#"{"sources":["o.js"],"mappings":"AAAA,KAAK"}"#;
 
 const ADJUSTMENT: &str = r#"{"sources":["t.js"],"mappings":"EAAA"}"#;
 
-// Whether a run prints the error of a file that fails after `left` bytes, with status 1.
+// Runs the tool with `MAP` as input. The file `a.map` contains `ADJUSTMENT`, and its reads fail
+// after `left` bytes. Returns whether the run prints `broken pipe` and a newline and ends with
+// status 1.
 fn is_refused(rt: &HostRuntime, words: &[String], left: usize) -> Result<bool, Fail> {
     let mut files = files_with(ADJUSTMENT);
     files.left = Some(left);

@@ -9,7 +9,9 @@ use std::io;
 use std::io::ErrorKind;
 use std::rt::Files;
 
-// The only file fails with `kind` after `left` bytes, or already when it is opened.
+// There is one file, at `path`. Opening it fails with `kind` if `fails_on_open` is true. Reads
+// return `bytes`, one byte a read. After `left` reads, each read fails with `kind`. If `left` is
+// `None`, no read fails. Opening any other path fails with `NotFound`.
 #[derive(Drop)]
 pub struct FakeFiles<'a> {
     pub path: &'a str,

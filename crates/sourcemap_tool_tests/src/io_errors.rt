@@ -72,9 +72,10 @@ fn a_reader_that_fails_is_not_decoded(rt: HostRuntime) -> Result<(), Fail> {
     Ok(())
 }
 
-// Whether a run prints `want` on a writer that accepts one byte at a time, and fails on each writer
-// that accepts too few bytes. A flush counts as one byte. Such a writer then holds a prefix of
-// `want`.
+// Whether a run prints `want` on a writer that takes one byte per write. More runs use writers that
+// fail after `left` calls of `write` and `flush`, for each `left` from 0 to `want.len()`. Each of
+// these runs must return `Io` and write exactly the first `left` bytes of `want`. The only error is
+// out of memory.
 fn is_written(rt: &HostRuntime, words: &[String], want: &[u8]) -> Result<bool, Fail> {
     let mut output = narrow(rt, None);
     let status = run(rt, rt.alloc(), words, &mut slow(None), &mut output)?;
@@ -109,7 +110,8 @@ fn is_written_when_interrupted(rt: &HostRuntime, words: &[String]) -> Result<boo
     Ok(status == 0 && output.held.as_slice() == LOOKED_UP)
 }
 
-// Whether an error is that of a writer that takes nothing.
+// Whether an error is `Io` of kind `WriteZero`. This error occurs if a writer takes no byte of a
+// nonempty buffer.
 fn is_write_zero(error: &Error) -> bool {
     matches!(error, Error::Io(cause) if cause.kind() == ErrorKind::WriteZero)
 }

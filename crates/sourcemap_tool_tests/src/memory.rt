@@ -11,8 +11,9 @@ pub fn unless_out(status: u8, output: &[u8]) -> Result<(), Error> {
     Ok(())
 }
 
-/// Returns `OutOfMemory` if a run on a failing writer ran out of memory, or began to report it.
-/// `held` is what was written; no expected output begins like that report.
+/// Returns `OutOfMemory` if `ended` is `Err(OutOfMemory)`, or if `held` is a nonempty prefix of
+/// `NO_MEMORY`. `ended` is the result of a run on a failing writer. `held` is the output of this
+/// run. The expected output must not start with `o`, the first byte of `NO_MEMORY`.
 pub fn unless_cut_out(ended: &Result<u8, Error>, held: &[u8]) -> Result<(), Error> {
     let began = !held.is_empty() && NO_MEMORY.starts_with(held);
     if began || matches!(ended, Err(Error::OutOfMemory)) {

@@ -155,7 +155,10 @@ fn is_reply(
     Ok(reply.status == status && reply.text.as_str() == text)
 }
 
-// Checks `reply_to` and `run`. Words that are a command read all of the input, others nothing.
+// Whether `reply_to` returns this status and text, and `run` returns this status and prints this
+// text. Status 2 means that the words are no command. For status 2, `run` must leave the whole
+// input unread. For any other status, `run` must read the whole input. The only error is out of
+// memory.
 fn is_answered(
     rt: &HostRuntime,
     line: &str,

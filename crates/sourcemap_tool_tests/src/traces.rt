@@ -202,7 +202,8 @@ fn runs_answer_positions(rt: HostRuntime) -> Result<(), Fail> {
     Ok(())
 }
 
-// Whether a run prints the error of a file that fails after `left` bytes, with status 1.
+// Whether a run prints `broken pipe` and a newline and ends with status 1, if reads of its file of
+// positions fail after `left` bytes.
 fn is_refused(rt: &HostRuntime, words: &[String], left: usize) -> Result<bool, Fail> {
     let mut files = files_with("0:5\nx");
     files.left = Some(left);

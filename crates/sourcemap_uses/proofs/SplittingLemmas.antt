@@ -1,12 +1,16 @@
 -- The first module of a split bundle, and the meaning of its map.
-use Rattle.std.proofs.Common.{◌≡◌, ◌∙◌, refl, sym, ap, ℕ, List, ◌∷◌, ◌&&◌, Bool, true, false, is_some, Result, Ok, inl, inr, map}
+use Rattle.std.proofs.Common.{◌≡◌, ◌∙◌, refl, sym, ap, ℕ, List, [], ◌∷◌, ◌&&◌, Bool, true, false, is_some, Result, Ok, Err, IfOk, IsOkUnless, String, string_bytes, inl, inr, map}
 use Rattle.std.specs.Str.{is_utf8}
+use Rattle.std.specs.declared.alloc.Global.{Global}
+use Rattle.sourcemap.specs.Answer.{IsAnswer, UnlessMemory}
 use Rattle.sourcemap.specs.BundleModules.{ModuleValue}
 use Rattle.sourcemap.specs.Split.{ModuleParts, SplitValue, Splits, due_of, dues_in, parts_at, parts_on, with_offsets}
 use Rattle.sourcemap.specs.Trees.{IndexValue}
 use Rattle.sourcemap.specs.Types.{MapValue, meaning}
 use Rattle.sourcemap.specs.declared.errors.Error.{Error}
-use Rattle.sourcemap_uses.specs.Splitting.{IsFirstModule}
+use Rattle.sourcemap.specs.declared.errors.Error.TheVariants.{OutOfMemory}
+use Rattle.sourcemap_uses.specs.Splitting.{IsFirstModule, TracesFirst, first_text, printed}
+use Rattle.sourcemap_uses.proofs.RefusalLemmas.{unless_memory}
 
 module _ (i : IndexValue) (modules : List (Result ModuleValue Error)) (split : SplitValue) (flat : MapValue) (found : ModuleValue) (first : ℕ)
     (is_first : IsFirstModule i modules flat found first) where
@@ -32,3 +36,31 @@ given_map flat line found parts is = by_cases (is_some (meaning flat (line, 0)) 
     by_cases : (b : Bool) → (is_some (meaning flat (line, 0)) && is_utf8 found.text) ≡ b → (parts_on flat line found).map ≡ parts.map
     by_cases true b = let given : Ok (parts_on flat line found) ≡ Ok parts = (rw b at is) in let same : parts_on flat line found ≡ parts = cc in ap (λ p. p.map) same
     by_cases false b = let no = (rw b at is) in cc
+
+-- an error of splitting is the result
+pub split_refused : (i : IndexValue) (modules : List (Result ModuleValue Error)) (p : ℕ × ℕ) (e : Error)
+    → UnlessMemory e (Splits i modules (Err e)) → UnlessMemory e (TracesFirst i modules p (Err e))
+split_refused i modules p e h = unless_memory e (Splits i modules (Err e)) (TracesFirst i modules p (Err e)) (λ refused. inr refused) h
+
+module _ (i : IndexValue) (modules : List (Result ModuleValue Error)) (p : ℕ × ℕ) (split : SplitValue)
+    (splits : Splits i modules (Ok split)) where
+  -- the result is determined by the first item
+  first_traced : (items : List (Result ModuleParts Error)) → dues_in split ≡ items → TracesFirst i modules p (first_text p items)
+  first_traced items is = inl (split, splits, sym (ap (first_text p) is))
+
+  -- without an item, the text is empty
+  pub none_traced : dues_in split ≡ [] → TracesFirst i modules p (Ok [])
+  none_traced is = first_traced [] is
+
+  -- an error of the first item is the result
+  pub item_refused : (due : Result ModuleParts Error) (others : List (Result ModuleParts Error)) (e : Error)
+      → dues_in split ≡ due ∷ others → UnlessMemory e (due ≡ Err e) → UnlessMemory e (TracesFirst i modules p (Err e))
+  item_refused due others e is h = unless_memory e (due ≡ Err e) (TracesFirst i modules p (Err e))
+      (λ same. first_traced (Err e ∷ others) (is ∙ ap (λ d. d ∷ others) same)) h
+
+  -- the text for the first module, unless memory runs out
+  pub text_traced : (parts : ModuleParts) (others : List (Result ModuleParts Error)) (r : Result (String Global) Error)
+      → dues_in split ≡ Ok parts ∷ others → IfOk r (λ text. string_bytes text ≡ printed (meaning parts.map p)) → IsOkUnless r OutOfMemory
+      → IsAnswer string_bytes (TracesFirst i modules p) r
+  text_traced parts others (Ok text) is same memory = rw same (first_traced (Ok parts ∷ others) is)
+  text_traced parts others (Err e) is same memory = rw memory tt

@@ -42,9 +42,10 @@ abbrev pub url_in : Reference → List ℕ
 url_in (usual url) = url
 url_in (legacy url) = url
 
--- where the map of a text at this path is, by the result of `first_reference` for the text. `Some None` means that no
--- line has a reference: the answer is `nowhere`. `None` means that a line is not UTF-8, and that no line before it has
--- a reference: the answer is an error
+-- where the map of a text is. The first argument is the result of `first_reference` for the text, and `path` is the
+-- path of the text. `Some None` means that all lines are UTF-8 and no line has a reference: the answer is `nowhere`.
+-- `None` means that a line is not UTF-8, and that no line before it has a reference: the answer is an error, `Io` of
+-- kind `InvalidData`. For a reference, `MapOfUrl` says the answer for the URL of the reference
 abbrev pub MapByReference : Option (Option Reference) → List ℕ → Result FoundValue Error → Type 0
 MapByReference None path answer = IsErrAnd answer IsInvalidData
 MapByReference (Some None) path answer = answer ≡ Ok nowhere

@@ -8,7 +8,8 @@ use Rattle.sourcemap.specs.declared.errors.Error.TheVariants.{IncompatibleSource
 abbrev pub AreTooMany : List (List ℕ) → Error → Type 0
 AreTooMany sources e = (e ≡ IncompatibleSourceMap) × (4294967295 < length sources)
 
--- the new builder is the old one with a prefix of these sources added
+-- `sources` is the list `added` followed by the list `rest`. The new builder is the old builder after the sources in
+-- `added` are added, in order. Each list may be empty.
 abbrev pub HasFirstOf : (old new : BuilderValue) → List (List ℕ) → Type 0
 HasFirstOf old new sources =
     (added rest : List (List ℕ)) × (sources ≡ added ++ rest) × (new ≡ fold with_source old added)

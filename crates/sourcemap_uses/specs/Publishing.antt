@@ -11,8 +11,9 @@ no_details = record { with_names = false; with_contents = false; prefixes = [] }
 abbrev pub without_name : Meaning → Meaning
 without_name says = record says { name = None }
 
--- each position has in the new map the meaning that it has in the old map, without the name; the new map has no names
--- and no contents
+-- Each generated position has the same meaning in both maps, except that the meaning in the new map has no name. A
+-- position without a meaning in one map has no meaning in the other. The new map has no names, and its sources have no
+-- contents.
 pub record IsBare (old new : MapValue) : Type 0 where
   pub meaning : (p : ℕ × ℕ) → meaning new p ≡ option_map without_name (meaning old p)
   pub names : new.names ≡ []

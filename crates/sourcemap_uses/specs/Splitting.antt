@@ -1,13 +1,14 @@
--- The first module of a bundle in the bundle's flattened map.
-use Rattle.std.specs.Prelude.{◌≡◌, ℕ, true, List, [], ◌∷◌, filter_map, Option, Some, None, Result, Ok}
+-- A position in the first module of a bundle, by the module's map and by the bundle's flattened map.
+use Rattle.std.specs.Prelude.{◌≡◌, ℕ, true, List, [], ◌∷◌, filter_map, Option, Some, None, Result, Ok, Err}
 use Rattle.sourcemap.specs.BundleModules.{ModuleValue}
 use Rattle.sourcemap.specs.Flat.{flat as flat_of}
 use Rattle.sourcemap.specs.ModuleMap.{end_of, is_in}
-use Rattle.sourcemap.specs.Split.{with_first_line}
+use Rattle.sourcemap.specs.Split.{ModuleParts, Splits, dues_in, with_first_line}
 use Rattle.sourcemap.specs.Token.{token_text}
 use Rattle.sourcemap.specs.Tokens.{destination, position_cmp}
+use Rattle.sourcemap.specs.TreeDecoder.{Then}
 use Rattle.sourcemap.specs.Trees.{IndexValue, index_tree}
-use Rattle.sourcemap.specs.Types.{MapValue, Meaning}
+use Rattle.sourcemap.specs.Types.{MapValue, Meaning, meaning}
 use Rattle.sourcemap.specs.Utils.{closest_item}
 use Rattle.sourcemap.specs.declared.errors.Error.{Error}
 use Rattle.sourcemap.specs.declared.types.RawToken.{RawToken}
@@ -16,6 +17,17 @@ use Rattle.sourcemap.specs.declared.types.RawToken.{RawToken}
 abbrev pub printed : Option Meaning → List ℕ
 printed None = []
 printed (Some says) = token_text says
+
+-- the text that the token at a position of the first module prints, by the map of this module; the error of the first
+-- item if it is an error; the empty text if there are no items
+abbrev pub first_text : ℕ × ℕ → List (Result ModuleParts Error) → Result (List ℕ) Error
+first_text p [] = Ok []
+first_text p (Ok parts ∷ _) = Ok (printed (meaning parts.map p))
+first_text p (Err e ∷ _) = Err e
+
+-- the error of splitting the bundle, or the text for its first item
+abbrev pub TracesFirst : IndexValue → List (Result ModuleValue Error) → ℕ × ℕ → Result (List ℕ) Error → Type 0
+TracesFirst i modules p answer = Then (Splits i modules) (λ split a. a ≡ first_text p (dues_in split)) answer
 
 -- `flat` is the flattened map of the index map. `found` is the first module whose item in `x_facebook_offsets` is not
 -- null, and no module before it gives an error. `first` is this item: the line of the bundle on which `found` begins.
@@ -26,8 +38,9 @@ pub record IsFirstModule (i : IndexValue) (modules : List (Result ModuleValue Er
   pub others : List (Result (ModuleValue × ℕ) Error)
   pub comes_first : filter_map (with_first_line offsets) modules ≡ Ok (found, first) ∷ others
 
--- the position is in the module `found`: not before line `first`, and before the end of the module's text. So is the
--- token that a lookup of the position in the flattened map finds
+-- The text of the module `found` begins at column 0 of line `first`. The position `p` is in this module: at or after
+-- this start, and before the end of the text. A lookup of `p` in the map `flat` finds a token. The generated position
+-- of this token is in the module too.
 pub record IsInModule (flat : MapValue) (found : ModuleValue) (first : ℕ) (p : ℕ × ℕ) : Type 0 where
   pub token : RawToken
   pub inside : is_in first (end_of first found.text) p ≡ true

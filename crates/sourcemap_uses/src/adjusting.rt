@@ -31,16 +31,21 @@ pub struct OriginalPosition {
 /// Returns the errors of `adjust_mappings`.
 ///
 /// Each token of `adjustment` moves a stretch of the generated text of `map`. The stretch begins at
-/// the original position of the token. It ends before the next original position of a token of
-/// `adjustment`, or at the end of the line if that comes first. Suppose that a stretch moves an old
-/// position in this text to the position looked up. Then the result is what `map` returned for the
-/// old position, under four premises:
+/// the original position of the token. It ends before the original position of the next token, in
+/// the order of original positions, or at the end of the line if that comes first. The start of the
+/// stretch moves to the generated position of the token. Each token of the adjusted map comes from
+/// one stretch.
 ///
+/// Suppose that a stretch moves the position `p` to the position `line`, `col`. The call returns
+/// the original position that a lookup of `p` in `map` gives before the adjustment, if all of this
+/// holds:
+///
+/// - The call succeeds.
 /// - `map` is well-formed.
 /// - No two tokens of `map` have the same generated position.
-/// - A lookup of the old position in `map` finds a token on the line of the old position.
-/// - No other stretch gives the adjusted map a token between the moved start of this stretch and
-///   the position looked up, both included.
+/// - A lookup of `p` in `map` finds a token on the line of `p`.
+/// - Take the tokens of the adjusted map whose generated position is at or after the moved start of
+///   this stretch, and at or before `line`, `col`. All of them come from this stretch.
 pub fn lookup_adjusted(
     alloc: Global,
     mut map: SourceMap,

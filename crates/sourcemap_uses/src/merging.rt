@@ -10,9 +10,10 @@ ghost use Rattle.sourcemap_uses.specs.Merging.{AreTooMany, HasFirstOf, with_disp
 use sourcemap::{Result, SourceMap, SourceMapBuilder};
 use std::alloc::Global;
 
-/// Returns a map of the resolved sources of both maps, each once, in the order of their first
-/// occurrence. It has no tokens and no `sourceRoot`. Errors: `OutOfMemory`, and
-/// `IncompatibleSourceMap` for more than 4294967295 sources.
+/// Returns a source map with the resolved sources of `first`, followed by the resolved sources of
+/// `second`. Each source is kept once, in the order of first occurrence. The new map has no `file`,
+/// tokens, names, contents, `sourceRoot`, ignore list or debug id. Errors: `OutOfMemory`, and
+/// `IncompatibleSourceMap` for more than 4294967295 different sources.
 pub fn merged_sources(alloc: Global, first: &SourceMap, second: &SourceMap) -> Result<SourceMap>
     ensures map { IfOk result (λ m. m ≡ made_of None [] []
         (kept_once (resolved_sources first.now ++ resolved_sources second.now)) []) }

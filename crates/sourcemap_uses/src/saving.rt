@@ -12,10 +12,10 @@ use sourcemap::laws::{encoded_texts_read_back, maps_of_forty_levels_are_shallow}
 use sourcemap::{DecodedMap, Result};
 use std::alloc::Global;
 
-/// Encodes a map. If the map is well-formed and at most 40 index maps are nested, the bytes decode
-/// to a map with the same meaning at every position. That map has the same parts, but may lack
-/// repeated tokens, name ids that name nothing, and contents that belong to no source. The only
-/// error is `OutOfMemory`.
+/// Encodes a map. If the map is well-formed, and index maps are nested at most 40 levels deep (the
+/// outermost index map is level 1), the bytes decode to a map with the same meaning at every
+/// position. That map has the same parts, but may lack repeated tokens, name ids that name nothing,
+/// and contents that belong to no source. The only error is `OutOfMemory`.
 pub fn save(alloc: Global, map: &DecodedMap) -> Result<Vec<u8>>
     ensures reads_back { IfOk result (λ text. IsWellFormed (map_tree map.now)
         → levels (map_tree map.now) ≤ 40

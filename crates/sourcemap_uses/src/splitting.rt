@@ -1,9 +1,11 @@
 //! Positions in the modules of a RAM bundle.
-ghost use Rattle.std.specs.Prelude.{◌≡◌, ℕ, ◌+◌, IfOk, string_bytes};
+ghost use Rattle.std.specs.Prelude.{◌≡◌, ℕ, ◌+◌, IfOk, IsOkUnless, string_bytes};
+ghost use Rattle.sourcemap.specs.Answer.{IsAnswer};
 ghost use Rattle.sourcemap.specs.AnyMap.{index_value};
 ghost use Rattle.sourcemap.specs.BundleModules.{ModuleValue, modules_of};
 ghost use Rattle.sourcemap.specs.Types.{MapValue, meaning};
-ghost use Rattle.sourcemap_uses.specs.Splitting.{IsFirstModule, IsInModule, printed};
+ghost use Rattle.sourcemap.specs.declared.errors.Error.TheVariants.{OutOfMemory};
+ghost use Rattle.sourcemap_uses.specs.Splitting.{IsFirstModule, IsInModule, TracesFirst, printed};
 
 use sourcemap::laws::module_means_what_flat_means;
 use sourcemap::ram_bundle::{RamBundle, split_ram_bundle};
@@ -13,14 +15,16 @@ use std::alloc::Global;
 /// Looks up a position in the first module of a bundle, by the map of the module. Lines count from
 /// 0 at the first line of the module. Modules whose item in `x_facebook_offsets` is null are
 /// skipped. Returns the original position as a token prints it, or an empty text if there is no
-/// token or no module. Returns the errors of `split_ram_bundle`, and any error that its iterator
-/// gives for this module.
+/// token or no module. Returns the error of `split_ram_bundle`, or else the error that its iterator
+/// gives for this module. Any other error is `OutOfMemory`.
 ///
-/// The flattened map of the whole bundle gives the same result for this position, with lines
-/// counted from the start of the bundle, under two premises:
+/// The flattened index map gives the same text for line `first + line` and column `col`. Here
+/// `first` is the item of the module in `x_facebook_offsets`: the line of the bundle on which the
+/// module starts. There are two premises:
 ///
-/// - The position is in the module, before the end of its text.
-/// - A lookup of the position in the flattened map finds a token that is in the module too.
+/// - This position is in the module, before the end of the module's text.
+/// - A lookup of this position in the flattened index map finds a token, and the generated position
+///   of the token is in the module, before the end of the module's text.
 pub fn trace_first_module<'a>(
     alloc: Global,
     bundle: &'a RamBundle<'a>,
@@ -28,7 +32,9 @@ pub fn trace_first_module<'a>(
     line: u32,
     col: u32,
 ) -> Result<String>
-    ensures { (flat : MapValue) (found : ModuleValue) (first : ℕ)
+    ensures answer { IsAnswer string_bytes
+        (TracesFirst (index_value map.now) (modules_of bundle.now) (line, col)) result }
+    ensures flat { (flat : MapValue) (found : ModuleValue) (first : ℕ)
         → IsFirstModule (index_value map.now) (modules_of bundle.now) flat found first
         → IsInModule flat found first (first + line, col)
         → IfOk result (λ text. string_bytes text ≡ printed (meaning flat (first + line, col))) }
@@ -43,11 +49,12 @@ pub fn trace_first_module<'a>(
 }
 
 fn text_at(alloc: Global, map: &SourceMap, line: u32, col: u32) -> Result<String>
-    ensures { IfOk result (λ text. string_bytes text ≡ printed (meaning map.now (line, col))) }
+    ensures text { IfOk result
+        (λ text. string_bytes text ≡ printed (meaning map.now (line, col))) }
+    ensures memory { IsOkUnless result OutOfMemory }
 {
-    let mut text = String::new(alloc);
-    if let Some(token) = map.lookup_token(line, col) {
-        write!(text, "{token}")?;
+    match map.lookup_token(line, col) {
+        None => Ok(String::new(alloc)),
+        Some(token) => Ok(token.to_string(alloc)?),
     }
-    Ok(text)
 }

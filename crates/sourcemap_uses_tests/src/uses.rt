@@ -1,4 +1,4 @@
-// Runs the callers of `sourcemap_uses`.
+// Tests of functions in the crate `sourcemap_uses`.
 use sourcemap::errors::JsonFault;
 use sourcemap::ram_bundle::RamBundle;
 use sourcemap::types::RawToken;
@@ -254,7 +254,9 @@ fn a_data_url_holds_its_map(rt: HostRuntime) -> std::result::Result<(), Fail> {
     Ok(())
 }
 
-// A generated text, and where its map is if the path of the text is `/out/a.js`, or the error.
+// A generated text, and what `map_found` returns for this text. The path of the text is
+// `/out/a.js`. The result is `in the text` for an embedded map, the path of the map file,
+// `nowhere`, or the text of the error.
 static FOUND: [(&str, &str); 4] = [
     (
         "x()\n//# sourceMappingURL=data:application/json;base64,eyJtYXBwaW5ncyI6IkFBQUEiLCJzb3VyY2VzIjpbImEuanMiXX0=\n",
@@ -380,8 +382,10 @@ fn is_kept(alloc: Global, text: &str, line: u32, col: u32) -> Result<bool> {
     is_kept_flat(&*index_of(alloc, text)?, line, col)
 }
 
-// An index map, a position, and the result of `is_kept_flat`. It is true if the index map has no
-// token for the position, or else if the flattened map has the same meaning there.
+// An index map that can be flattened, a position, and the result of `is_kept_flat`. The result is
+// true if the index map has no token for the position. Otherwise the result is true exactly if the
+// flattened map has a token for the position too, and both tokens have the same source, original
+// position, name and `is_range`.
 static KEPT: [(&str, u32, u32, bool); 9] = [
     (APART, 10, 9, true),
     (APART, 10, 3, true),

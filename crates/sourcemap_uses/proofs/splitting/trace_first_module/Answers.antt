@@ -1,4 +1,5 @@
--- On its lines, the first module's map has the meaning of the flattened map.
+-- The text for the first module, or an error. In this module, its map has the meaning of the flattened map.
+use Rattle.std.proofs.lemmas.Result.{err_from_is_err_and}
 use Rattle.std.proofs.Common.{◌≡◌, ◌∙◌, ◌+◌, ◌-◌, sym, ap, subst, Ok, IfOk, string_bytes, arith}
 use Rattle.sourcemap.specs.Answer.{Gives}
 use Rattle.sourcemap.specs.AnyMap.{index_value}
@@ -7,17 +8,41 @@ use Rattle.sourcemap.specs.Split.{HasFewTexts, ModuleParts, file_name, parts_at,
 use Rattle.sourcemap.specs.SplitIterators.{split_value}
 use Rattle.sourcemap.specs.Types.{meaning}
 use Rattle.sourcemap_uses.specs.Splitting.{printed}
-use Rattle.sourcemap_uses.proofs.SplittingLemmas.{first_due, given_map}
+use Rattle.sourcemap_uses.proofs.SplittingLemmas.{first_due, given_map, split_refused, none_traced, item_refused, text_traced}
 use Rattle.sourcemap_uses.proofs.splitting.trace_first_module.Goals as goal
 
-pub returns-in-None : goal.returns-in-None
-returns-in-None c = λ flat found first is_first on_lines.
+pub returns-in_err-modules-clause-answer : goal.returns-in_err-modules-clause-answer
+returns-in_err-modules-clause-answer c =
+    let p = err_from_is_err_and c.from_residual.result c.from_residual.ensures.1 in
+    rw (p.1, p.2) (split_refused (index_value c.args.map.now) (modules_of c.args.bundle.now) (c.args.line, c.args.col) _ c.in_err-modules.ensures.answer)
+
+pub returns-in-None-clause-answer : goal.returns-in-None-clause-answer
+returns-in-None-clause-answer c =
+    none_traced (index_value c.args.map.now) (modules_of c.args.bundle.now) (c.args.line, c.args.col) (split_value c.in_ok-modules.modules)
+    c.in_ok-modules.ensures.answer c.in-None.ensures.steps.0
+
+pub returns-in-Some-Err-clause-answer : goal.returns-in-Some-Err-clause-answer
+returns-in-Some-Err-clause-answer c =
+    let steps = c.in-Some-Err.ensures.steps in
+    item_refused (index_value c.args.map.now) (modules_of c.args.bundle.now) (c.args.line, c.args.col) (split_value c.in_ok-modules.modules)
+    c.in_ok-modules.ensures.answer steps.0 _ c.in-Some-Err.error steps.1 steps.2
+
+pub returns-clause-answer : goal.returns-clause-answer
+returns-clause-answer c =
+    let steps = c.in-Some-Ok.ensures.steps in
+    let parts : ModuleParts = parts_value (c.in-Some-Ok.field-0-0-0, c.in-Some-Ok.field-0-0-1, c.in-Some-Ok.map) in
+    let gives : steps.0 ≡ Ok parts = subst (λ r. Gives parts_value r steps.0) c.in-Some-Ok.field-0-is steps.2 in
+    text_traced (index_value c.args.map.now) (modules_of c.args.bundle.now) (c.args.line, c.args.col) (split_value c.in_ok-modules.modules)
+    c.in_ok-modules.ensures.answer parts _ c.text_at.result (steps.1 ∙ ap (λ due. due ∷ _) gives) c.text_at.ensures.text c.text_at.ensures.memory
+
+pub returns-in-None-clause-flat : goal.returns-in-None-clause-flat
+returns-in-None-clause-flat c = λ flat found first is_first on_lines.
     let due = first_due (index_value c.args.map.now) (modules_of c.args.bundle.now) (split_value c.in_ok-modules.modules) flat found first is_first c.in_ok-modules.ensures.answer in
     let none = sym c.in-None.ensures.steps.0 ∙ due.1.1 in
     cc
 
-pub returns : goal.returns
-returns c = λ flat found first is_first on_lines.
+pub returns-clause-flat : goal.returns-clause-flat
+returns-clause-flat c = λ flat found first is_first on_lines.
     let line = c.args.line in
     let col = c.args.col in
     let due = first_due (index_value c.args.map.now) (modules_of c.args.bundle.now) (split_value c.in_ok-modules.modules) flat found first is_first c.in_ok-modules.ensures.answer in
@@ -32,4 +57,4 @@ returns c = λ flat found first is_first on_lines.
     let back : first + line - first ≡ line = omega arith in
     let same : meaning c.in-Some-Ok.map (line, col) ≡ meaning flat (first + line, col) =
     ap (λ m. meaning m (line, col)) (sym map_is) ∙ ap (λ l. meaning (parts_on flat first found).map (l, col)) (sym back) ∙ law in
-    subst (λ says. IfOk c.text_at.result (λ text. string_bytes text ≡ printed says)) same c.text_at.ensures
+    subst (λ says. IfOk c.text_at.result (λ text. string_bytes text ≡ printed says)) same c.text_at.ensures.text
