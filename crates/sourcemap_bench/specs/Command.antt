@@ -16,7 +16,7 @@ word_of Rewrite = codes "rewrite"
 word_of Flatten = codes "flatten"
 word_of Compose = codes "compose"
 
--- the word is a decimal number, after a plus or without one, and its value is `n`
+-- the word is an optional `+`, followed by one or more decimal digits. The value of the digits is `n`
 abbrev pub AreRounds : List ℕ → ℕ → Type 0
 AreRounds word n = IsNumeral 10 (without_leading_plus word) × (n ≡ digits_value 10 (without_leading_plus word))
 

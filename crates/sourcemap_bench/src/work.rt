@@ -74,8 +74,9 @@ fn positions_in(alloc: Global, map: &DecodedMap) -> Result<Vec<(u32, u32)>> {
 
 /// Prepares the input of an operation. `bytes` has one map. For `Compose` it has two maps, one on
 /// each of the first two lines. For `Decode` and `DecodeReader` the input is the bytes, not yet
-/// decoded, and there is no error. For all other operations the maps are decoded first. Then
-/// `Lookup` also draws the positions, for an index map from the flattened map.
+/// decoded, and there is no error. For all other operations the maps are decoded first. Then, for
+/// `Lookup`, `drawn_positions` draws generated positions. If the map is an index map, the positions
+/// are drawn from the flattened map.
 ///
 /// Returns the errors of `decode_slice`. The error is `IncompatibleSourceMap` if a map of `Tokens`,
 /// `Rewrite` or `Compose` is not regular, or if the map of `Flatten` is not an index map. `Lookup`

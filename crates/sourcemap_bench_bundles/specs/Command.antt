@@ -2,7 +2,7 @@
 use Rattle.std.specs.Prelude.{◌≡◌, ℕ, List, [], ◌∷◌, codes}
 use Rattle.std.specs.Str.Parse.{IsNumeral, digits_value, without_leading_plus}
 
--- the word is a decimal number, after a plus or without one, and its value is `n`
+-- the word is an optional `+`, followed by one or more decimal digits. The value of the digits is `n`
 abbrev pub AreRounds : List ℕ → ℕ → Type 0
 AreRounds word n = IsNumeral 10 (without_leading_plus word) × (n ≡ digits_value 10 (without_leading_plus word))
 

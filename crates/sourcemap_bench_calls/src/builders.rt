@@ -10,9 +10,9 @@ use std::rt::Files;
 use std::{env, str};
 
 /// Makes a call on a new builder, with `bytes` as the input of the call, and then builds the map.
-/// Returns the size of one part of the map. The size is the number of tokens (4294967295 if there
-/// are more), the number of ids in the ignore list, or the byte count of the sources, of the
-/// contents or of the file name. `SetDebugIds` returns 1 if the map has a debug id, else 0.
+/// Returns the size of one part of the map: the number of tokens, the number of ids in the ignore
+/// list, or the byte count of the sources, the contents or the file name. More than 4294967295
+/// tokens count as 4294967295. `SetDebugIds` returns 1 if the map has a debug id, else 0.
 ///
 /// Each call returns the errors of the builder. `AddTokens` also returns the errors of
 /// `SourceMap::from_slice`. All calls except `AddTokens` return `Utf8` if `bytes` is not UTF-8.

@@ -108,14 +108,13 @@ pub enum IndexCall {
     /// `index-rows`: `adjust_sections_offset_rows` of the map on the first line, by the number on
     /// each line after it.
     AdjustRows,
-    /// `section-urls`: `SourceMapSection::set_url` on the first section with the second line, on
-    /// the second section with the third line, and so on. The index map is on the first line of the
-    /// input. Lines without a section are ignored. Sections without a line are not changed.
+    /// `section-urls`: `SourceMapSection::set_url` on sections of an index map. The index map is on
+    /// the first line of the input. The next lines are the URLs, one for each section, in order.
+    /// Extra lines are ignored. Sections without a line are not changed.
     SetUrls,
-    /// `section-maps`: `SourceMapSection::set_sourcemap` on the first section with the map on the
-    /// second line, on the second section with the map on the third line, and so on. The index map
-    /// is on the first line of the input. Lines without a section are ignored. Sections without a
-    /// line are not changed.
+    /// `section-maps`: `SourceMapSection::set_sourcemap` on sections of an index map. The index map
+    /// is on the first line of the input. The next lines are the new maps, one for each section, in
+    /// order. Extra lines are ignored. Sections without a line are not changed.
     SetMaps,
 }
 

@@ -8,7 +8,7 @@ abbrev pub word_of : Operation → List ℕ
 word_of Lines = codes "lines"
 word_of Names = codes "names"
 
--- the word is a decimal number, after a plus or without one, and its value is `n`
+-- the word is an optional `+`, followed by one or more decimal digits. The value of the digits is `n`
 abbrev pub AreRounds : List ℕ → ℕ → Type 0
 AreRounds word n = IsNumeral 10 (without_leading_plus word) × (n ≡ digits_value 10 (without_leading_plus word))
 

@@ -31,9 +31,9 @@ abbrev pub name_worth : Option (List ℕ) → ℕ
 name_worth None = 0
 name_worth (Some name) = min (length name + 1) 4294967295
 
--- the checksum `start` after one number is added to it for each of these generated positions, in order. At each
--- position, `function_name` guesses the original name of the function with the name `absent_name` in the generated text
--- `source`. The number is the `name_worth` of this guess, and the guess is `None` if no name is found
+-- the checksum `start` with one more number for each of these generated positions, in order. At each position,
+-- `function_name` guesses the original name of the function named `absent_name` in the generated text `source`. The
+-- number is the `name_worth` of the guessed name, or 0 if no name is guessed
 abbrev pub name_sum : MapValue → (source : List ℕ) → List (ℕ × ℕ) → ℕ → ℕ
 name_sum m source positions start =
     fold (λ sum p. mixed sum (name_worth (function_name m source absent_name p))) start positions

@@ -27,9 +27,10 @@ Guesses t source minified p code old new = (¬ IsUtf8 minified → Refuses 2 cod
     × (IsUtf8 minified → IsAbsentUnlessOk code old new)
     × (IsUtf8 minified → IsInOrderForName t (Some source) (Some minified) p → ReturnsValue (Some (function_name t (Some source) (Some minified) p)) code old new)
 
--- The name of a function. A Hermes map stores the name. For a Hermes map, the code and the name are specified if
--- `IsInOrderForName` holds; otherwise the code is `SM_OK`, or `SM_ABSENT` with nothing written. For other maps the name
--- is guessed from the generated text `source`, and the code is `SM_WRONG_KIND` if `source` is `None`.
+-- The name of a function. A Hermes map stores the name. For a Hermes map, the call writes `function_name` and returns
+-- `SM_OK`, or writes nothing and returns `SM_ABSENT` if there is no such name. If `IsInOrderForName` does not hold, the
+-- call may return either code, and may write any name with `SM_OK`. For other maps the name is guessed from the
+-- generated text `source`, and the code is `SM_WRONG_KIND` if `source` is `None`.
 abbrev pub Names : MapTree → (source : Option (List ℕ)) → (minified : List ℕ) → ℕ × ℕ → ℕ → (old new : List ℕ) → Type 0
 Names (leaf (hermes h)) source minified p code old new = IsAbsentUnlessOk code old new
     × (IsInOrderForName (leaf (hermes h)) None None p → ReturnsValue (Some (function_name (leaf (hermes h)) None None p)) code old new)
@@ -40,10 +41,10 @@ abbrev pub NamesIn : Option MapTree → (source : Option (List ℕ)) → (minifi
 NamesIn None source minified p code old new = Refuses 33 code old new
 NamesIn (Some t) source minified p code old new = Names t source minified p code old new
 
--- The name of the function at a bytecode offset of a Hermes map. The offset is a column of generated line 0. Take the
--- token closest to this column, and the functions of its source. If these functions are sorted by position, or there
--- are none, the code and the name are specified. Otherwise the code is `SM_OK`, or `SM_ABSENT` with nothing written.
--- Without a Hermes map the code is `SM_WRONG_KIND`.
+-- The name of the function at a bytecode offset of a Hermes map. The offset is a column of generated line 0. The call
+-- writes `name_at_offset` and returns `SM_OK`, or returns `SM_ABSENT` if there is no such name. If the functions of the
+-- closest token's source are unsorted, the call may return either code, and may write any name with `SM_OK`. Without a
+-- Hermes map the call returns `SM_WRONG_KIND`. The call writes nothing unless it returns `SM_OK`.
 abbrev pub NamesAt : Option MapTree → (offset : ℕ) → ℕ → (old new : List ℕ) → Type 0
 NamesAt (Some (leaf (hermes h))) offset code old new = IsAbsentUnlessOk code old new
     × (IfSome (lookup h.map (0, offset)) (λ t. IsInOrderAt h.scopes t.raw.src_id) → ReturnsValue (Some (name_at_offset h offset)) code old new)

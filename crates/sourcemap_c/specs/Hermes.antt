@@ -12,7 +12,7 @@ hermes_in _ = None
 abbrev pub regular_tree : MapValue → MapTree
 regular_tree m = leaf (regular m)
 
--- the handle has this regular map; false if there is no regular map
+-- the first argument is `Some m`, and the handle has the regular map `m`
 abbrev pub HoldsRegular : Option MapValue → (held : Option MapTree) → Type 0
 HoldsRegular None held = ⊥
 HoldsRegular (Some m) held = held ≡ Some (regular_tree m)

@@ -62,14 +62,14 @@ abbrev pub Refers : Result SourceMapRef Error → List ℕ → Type 0
 Refers (Ok found) url = (url_of found ≡ url) × IsUtf8 url
 Refers (Err e) url = LibraryUnless e (IsNoText url e)
 
--- The result of resolving the reference `url` against `base`, the URL of the generated text. In two cases the result
--- may also be `None`: `base` has 2^28 bytes or more; or `base` is not rejected, and `url` and the parsed `base` have
--- 2^28 bytes or more in total. The only error is out of memory.
+-- The result of resolving the reference `url` against `base`, the URL of the generated text: `resolved base url`. The
+-- result may also be `None` if `base` has 2^28 bytes or more, or if `url` and the parsed `base` together have 2^28
+-- bytes or more. The only error is out of memory.
 abbrev pub Resolves : (base url : List ℕ) → Result (Option (List ℕ)) Error → Type 0
 Resolves base url = UnlessLong (resolved base url) (IsLongJoin base url)
 
--- The result of resolving the reference `url` against `path`, the path of the generated text. In two cases the result
--- may also be `None`: the `file` URL of `path` has 2^28 bytes or more; or this `file` URL is not rejected, and `url`
--- and the parsed `file` URL have 2^28 bytes or more in total. The only error is out of memory.
+-- The result of resolving the reference `url` against `path`, the path of the generated text: `resolved_path path url`.
+-- The result may also be `None` if the `file` URL of `path` has 2^28 bytes or more, or if `url` and the parsed `file`
+-- URL together have 2^28 bytes or more. The only error is out of memory.
 abbrev pub ResolvesPath : (path url : List ℕ) → Result (Option (List ℕ)) Error → Type 0
 ResolvesPath path url = UnlessLong (resolved_path path url) (IsLongJoin (url_text path false) url)

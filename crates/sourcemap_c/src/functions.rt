@@ -23,9 +23,9 @@ use std::alloc::Global;
 /// closest token, `none` if there is no closest token, or `bad position` if the line of `positions`
 /// is not a position.
 ///
-/// The answers are specified for a regular map, a Hermes map, and an index map whose sections are
-/// in order at every level. The error is `SM_WRONG_KIND` if `map` holds no map. The only other
-/// error is `SM_OUT_OF_MEMORY`.
+/// If an index map has unsorted sections at any level, an answer may be `none` or the text of a
+/// token that is not the closest. The error is `SM_WRONG_KIND` if `map` holds no map. The only
+/// other error is `SM_OUT_OF_MEMORY`.
 #[unsafe(no_mangle)]
 pub extern "C" fn sm_trace(
     alloc: Global,

@@ -59,8 +59,9 @@ fn overwrite(numbers: &mut [i64], parsed: &[i64])
 }
 
 /// Encodes the numbers in Base64 VLQ as one segment, and fills `text` with the segment. Each number
-/// has its shortest digits. Without numbers, the segment is empty. The error is `SM_VLQ_OVERFLOW`
-/// if the absolute value of a number is 2^62 or more. The only other error is `SM_OUT_OF_MEMORY`.
+/// is encoded with as few digits as possible. Without numbers, the segment is empty. The error is
+/// `SM_VLQ_OVERFLOW` if the absolute value of a number is 2^62 or more. The only other error is
+/// `SM_OUT_OF_MEMORY`.
 #[unsafe(no_mangle)]
 pub extern "C" fn sm_write_segment(
     alloc: Global,

@@ -117,8 +117,8 @@ ReturnsWithFile file (Compose path) t answer = Then (FileDecodes file) (λ other
 ReturnsWithFile file (Trace _) t answer = answer ≡ traced t file
 ReturnsWithFile file command t answer = Returns command t None answer
 
--- the output of a command for the map that the bytes decode to, or the error of the command or of the file. If the
--- bytes do not decode, the answer is the error of decoding the bytes, for any `file`
+-- the output of a command for the map in `bytes`, or the first error. Errors are checked in this order: decoding
+-- `bytes`; reading the file; decoding the file of `compose`; the command. Only `compose` and `trace` use the file
 abbrev pub ReturnsOnBytes : Command → (bytes : List ℕ) → (file : Result (List ℕ) Error) → Result (List ℕ) Error → Type 0
 ReturnsOnBytes command bytes file answer = Then (BytesDecode bytes) (λ t a. ReturnsWithFile file command t a) answer
 
@@ -187,8 +187,8 @@ abbrev pub WithFile : Option (Result (List ℕ) Error) → (Result (List ℕ) Er
 WithFile (Some file) P = P file
 WithFile None P = (file : Result (List ℕ) Error) × MayBeRead file × P file
 
--- an error that a run may have instead of a reply. `OutOfMemory` is always allowed. If the words ask for a command, the
--- read of the input may also fail: this error is `Io`, of any kind except `OutOfMemory`
+-- an error that a run may have instead of a reply: `OutOfMemory`, or an `Io` error of reading the input. The `Io` error
+-- is allowed only if the words ask for a command, and its kind is never out of memory
 abbrev pub IsCutShort : List (List ℕ) → Error → Type 0
 IsCutShort words e = UnlessMemory e ((command : Command) × AskFor words command × UnlessReadFails e ⊥)
 

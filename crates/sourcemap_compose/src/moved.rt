@@ -15,16 +15,16 @@ pub fn composed_tokens_stay_within()
 {}
 
 /// A law: at a moved position, the composition has the same source, original position, name and
-/// range flag as the original has at the position before the move. The premises:
+/// range flag as the original has at `q`, the position before the move. The premises:
 ///
 /// - The composition has no error.
-/// - The tokens of the original are in order and within its counts, with at most 4294967295
-///   sources.
-/// - No two of these tokens have the same generated position.
-/// - The token closest to the position is on the line of the position.
-/// - A stretch of the adjustment covers the position. Consider the composed tokens whose generated
-///   position is at or after the moved start of this stretch, and at or before the moved position.
-///   All of them come from this stretch.
+/// - The tokens of the original are sorted by generated position, and no two of them have the same
+///   generated position.
+/// - The tokens of the original are within some counts of sources and names, see `AllWithin`. The
+///   count of sources is at most 4294967295.
+/// - In the original, the token closest to `q` is on the line of `q`.
+/// - A stretch `a` of the adjustment covers `q`. No other stretch of the adjustment gives a
+///   composed token at a generated position from `moved a a.start` to `moved a q`, both included.
 pub fn moved_positions_answer_as_before()
     ensures { (sources names : ℕ) (original adjustment new : List RawToken)
         (a : Stretch) (q : ℕ × ℕ)

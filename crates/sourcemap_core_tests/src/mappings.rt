@@ -167,8 +167,8 @@ pub type Row = ((u32, u32), (u32, u32, u32), u32, bool);
 /// No source and no original position.
 pub const BARE: (u32, u32, u32) = (NO_ID, NO_ID, NO_ID);
 
-// Label, tokens, their mappings, and their range mappings if any. `write_mappings` is called with a
-// count of two names.
+// Label, tokens, their mappings, and their range mappings if any. `write_mappings` is called with 2
+// as the number of names, so it writes no name id above 1.
 static WRITTEN: [(&str, &[Row], &str, Option<&str>); 8] = [
     ("no token", &[], "", None),
     (

@@ -43,9 +43,9 @@ fn numbered_texts(alloc: Global, start: &str, end: &str, count: usize) -> Result
     Ok(texts)
 }
 
-// Enters the texts in `index`, in order. Stops at the first text whose number differs from its
-// position in `texts`, and before any text if `index` has `MOST` texts. Returns the count of texts
-// before the stop, or the count of all texts.
+// Enters `texts` in `index`, in order. Stops at a text if `index` has `MOST` texts, or if the
+// number of the text is not its position. Returns the position of this text, otherwise the length
+// of `texts`.
 fn count_numbered<'a>(index: &mut TextIndex<'a>, texts: &'a [String]) -> Result<usize> {
     for (at, text) in texts.iter().enumerate() {
         if index.len() >= MOST {

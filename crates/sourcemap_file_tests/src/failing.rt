@@ -107,8 +107,8 @@ fn load_failing(alloc: Global, kind: ErrorKind, sources: &[&str]) -> Result<Stri
 }
 
 // Each row: an error kind, the sources, and the wanted text. Opening `never.js` fails with this
-// kind. So does a read of `late.js` after its first byte. The text is the number of loaded files,
-// or the text of the error. After it come the contents of each source, or `none`.
+// kind. So does a read of `late.js` after its first byte. The wanted text begins with the number of
+// loaded files, or with the text of the error. The contents of each source follow, or `none`.
 static ROWS: [(ErrorKind, &[&str], &str); 6] = [
     (
         ErrorKind::Other,

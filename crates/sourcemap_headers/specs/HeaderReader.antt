@@ -73,8 +73,8 @@ Outputs remaining old new bytes =
     → (ys : List ℕ) × (remaining new.reader ≡ Some ys)
     × (remaining_in old.state xs ≡ option_map (λ later. bytes ++ later) (remaining_in new.state ys))
 
--- for some `state` with `IsInHeader state` and some `count` of at most the length of `buf`: if a reader is in this
--- `state` and the next bytes begin with the first `count` bytes of `buf`, the header is invalid
+-- some prefix of `buf` makes the header invalid for a reader in some `state` with `IsInHeader state`, whatever bytes
+-- follow the prefix
 abbrev pub ContainsInvalidHeader : List ℕ → Type 0
 ContainsInvalidHeader buf = (state : HeaderState) × (count : ℕ) × IsInHeader state × (count ≤ length buf)
     × ((later : List ℕ) → remaining_in state (take count buf ++ later) ≡ None)

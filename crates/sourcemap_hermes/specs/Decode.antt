@@ -8,10 +8,10 @@ use Rattle.sourcemap_hermes_scopes.specs.ScopeLists.{ScopeEntry}
 use Rattle.sourcemap_hermes_scopes.specs.SourceScopes.{AreOfEntries}
 use Rattle.sourcemap_hermes.specs.Map.{HermesValue, AreFewScopes}
 
--- the result of decoding a record with these scopes of its sources. If there are more than 4294967295 entries of
--- scopes, the result is the error `IncompatibleSourceMap`, even if the regular map cannot be decoded either. Otherwise
--- the errors are those of decoding the regular map. Without an error, the Hermes map has the decoded regular map, these
--- entries, and the function maps that the entries encode
+-- the result of decoding the record `r` with `entries` as the scopes of its sources. If there are more than 4294967295
+-- entries, the result is the error `IncompatibleSourceMap`, even if the regular map cannot be decoded either. Otherwise
+-- the errors are the errors of decoding the regular map. Without an error, the Hermes map has the decoded regular map,
+-- `entries`, and the function maps that `entries` encode
 abbrev pub EntriesDecode : Fields → List ScopeEntry → Result HermesValue Error → Type 0
 EntriesDecode r entries (Ok h) =
     AreFewScopes entries × RecordDecodes r (Ok h.map) × (h.scopes.entries ≡ entries) × AreOfEntries h.scopes

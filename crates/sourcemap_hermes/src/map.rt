@@ -45,10 +45,9 @@ impl SourceMapHermes {
     }
 
     /// The name of the function at a bytecode offset. The offset is a column of generated line 0.
-    /// The call finds the first token at this column, or else the last token before this column.
-    /// For this token, it returns the result of `get_scope_for_token`. `None` if there is no such
-    /// token, or if `get_scope_for_token` returns `None`. Requires functions of the token's source
-    /// sorted by where they start; otherwise the result is unspecified.
+    /// Returns the result of `get_scope_for_token` for the first token at this column, or else for
+    /// the last token before this column. `None` if there is no such token. If the functions of the
+    /// token's source are not sorted by start position, the result may be wrong.
     pub fn get_original_function_name(&self, bytecode_offset: u32) -> Option<&str>
         ensures { IfSome (lookup (hermes_value self.now).map (0, bytecode_offset))
             (λ t. IsInOrderAt (hermes_value self.now).scopes t.raw.src_id)

@@ -14,10 +14,11 @@ use std::rt::Files;
 
 impl SourceMapHermes {
     /// Rewrites the regular map as `SourceMap::rewrite` does: the result has only the sources and
-    /// names that tokens use, each once. Scopes are moved, not copied. If several old ids have the
-    /// same resolved source, this source gets the scopes of the old id that a token uses first. If
-    /// that old id has no scopes, the source has no scopes. If the map is well-formed, and no two
-    /// sources resolve against `sourceRoot` to the same text, each token keeps its scope.
+    /// names that tokens use, each once. Scopes are moved, not copied. Sources in use that resolve
+    /// to the same text become one new source, with the scopes of only one old source: the one
+    /// whose id comes first in the list of tokens. If this old source has no scopes, the new source
+    /// has no scopes. If the map is well-formed, and no two sources resolve against `sourceRoot` to
+    /// the same text, each token keeps its scope.
     ///
     /// With `load_local_source_contents`, missing contents are read from files, as by
     /// `SourceMap::rewrite`. Returns `Io` of kind `InvalidInput` if contents are to be loaded and

@@ -14,7 +14,8 @@ use std::alloc::Global;
 
 /// The scopes of sources, as a JSON record has them under `x_facebook_sources`. Item `n` is the
 /// list of the source with id `n`, or `None`. The function map and the function names of a source
-/// come from the first item of its list. Copies and comparisons include all items.
+/// come from the first item of its list. `copy_scope_lists` and `same_scope_lists` use all items of
+/// each list.
 pub type ScopeLists = Vec<Option<Vec<FacebookScopeMapping>>>;
 
 fn function_map_of(

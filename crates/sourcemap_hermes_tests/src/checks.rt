@@ -1,6 +1,6 @@
-// Prints the row and the result and ends the test, unless the result is the wanted text. Each test
-// crate that calls `check` has its own copy. A shared copy would be in a library, and `rt ci`
-// refuses a library that may abort the process.
+// Checks that the result is the wanted text. If not, prints the row and the result and ends the
+// test. Each test crate that calls `check` has its own copy. A shared copy would be in a library,
+// and `rt ci` refuses a library that may abort the process.
 use std::fmt::Debug;
 use std::process::Abort;
 use std::result;

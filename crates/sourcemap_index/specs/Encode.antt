@@ -1,6 +1,6 @@
--- The records that maps, sections and lists of sections are written as. In a record, the version, the source ids on the
--- ignore list, the numbers in `x_facebook_offsets`, and the lines and columns of section offsets are below 2^32. A
--- debug id has 16 bytes.
+-- Encoding of maps, sections and lists of sections as records. In a record, the version, the source ids on the ignore
+-- list, the numbers in `x_facebook_offsets`, and the lines and columns of section offsets are below 2^32. A debug id
+-- has 16 bytes.
 use Rattle.std.specs.Prelude.{◌≡◌, None, Some, MatchOption, Result, Ok, Err}
 use Rattle.sourcemap_errors.specs.declared.errors.Error.{Error}
 use Rattle.sourcemap_records.specs.Jsontypes.{Tree, Section, Sections, IsInRange, AreSectionsInRange, IsSectionInRange}

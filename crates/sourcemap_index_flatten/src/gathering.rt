@@ -87,8 +87,9 @@ impl<'a> Gathering<'a> {
         self.add_part(alloc, line, col, part)
     }
 
-    /// Adds `map` as one map. The tokens of `map` move by `line` and `col` as in `add`. The errors
-    /// are the same as in `add`. After an error, the contents of the gathering are unspecified.
+    /// Adds `map`, a concatenation, as `add` adds a single map. The tokens of `map` move by `line`
+    /// and `col` as in `add`. The errors are the same as in `add`. After an error, the contents of
+    /// the gathering are unspecified.
     pub fn add_flat(&mut self, alloc: Global, line: u32, col: u32, map: &FlatMap<'a>) -> Result<()>
         ensures ok { (before inner : List Piece) (file : Option (List ℕ))
             → Gathers before self.old → IsFlat inner map.now

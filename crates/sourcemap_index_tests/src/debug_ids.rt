@@ -91,9 +91,8 @@ fn set(alloc: Global, text: &str, id: Option<&str>) -> Result<String> {
     text_with(alloc, &mut *map_of(alloc, text)?, id)
 }
 
-// The text of an index map, and the debug id to set in the decoded map. `None` removes the debug id
-// that the map has from the text. Then the debug id of the map after the change, and the text that
-// the map is written as.
+// The text of an index map, the debug id to set in the decoded map (`None` to remove the debug id),
+// and the wanted result: the new debug id and the JSON text of the changed map.
 static SET: [(&str, Option<&str>, &str); 4] = [
     (
         r#"{"sections":[],"file":"test.js"}"#,

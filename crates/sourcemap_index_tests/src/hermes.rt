@@ -95,8 +95,8 @@ fn scopes_are_written_as_they_were_read(rt: HostRuntime) {
     }
 }
 
-// Removes the debug id of a map. Returns the old debug id, the new debug id, and the name of the
-// function at bytecode offset 0 after the removal.
+// Removes the debug id of a map. Returns the debug id before and after the removal (`none` if there
+// is no debug id), and the name of the function at bytecode offset 0 after the removal.
 fn ids_text(alloc: Global, map: &mut DecodedMap) -> Result<String> {
     let old = id_text(alloc, map)?;
     map.set_debug_id(None);

@@ -1,6 +1,6 @@
 //! Tests of index maps: decoding, construction, lookups, changes, flattening and writing. Also
-//! tests of Hermes maps, of reading and writing maps of each kind, and of splitting RAM bundles
-//! with index maps.
+//! tests of Hermes maps, of reading and writing maps of each kind, and of splitting a RAM bundle
+//! and its index map into modules.
 #![tactic(auto)]
 
 #[cfg(test)]

@@ -1,6 +1,6 @@
 // Maps of each kind are written to writers that take one byte a write. Some writers fail after a
-// number of bytes. Others are interrupted before each byte, and may take nothing after a number of
-// bytes. Maps are also written to buffers, which are consumed.
+// number of bytes. Other writers are interrupted before each byte. Some of the interrupted writers
+// take only a limited number of bytes in total. Maps are also written to buffers passed by value.
 use crate::checks::check;
 use crate::maps::map_of;
 use sourcemap::encoder::encode;

@@ -1,5 +1,5 @@
-//! An index that assigns a number to each text. It finds the number by the hash of the text, or in
-//! a tree if the text found no free slot.
+//! An index that assigns a number to each text. A hash table stores the numbers. If the hash table
+//! has no free slot for a new text, a tree stores the number of this text instead.
 ghost use Rattle.std.specs.Prelude.{◌≡◌, ◌<◌, ◌≤◌, ◌*◌, ◌++◌, ◌∷◌, ℕ, List, [], None, Some, cond, if◌then◌else◌, is_ok, length, map, vec_len, is_some, IfOk, OnOk, OnErr, IsOkUnless};
 ghost use Rattle.std.specs.Str.{bytes_eq};
 ghost use Rattle.sourcemap_interning.specs.Slots.{number_in_tree};
@@ -103,8 +103,8 @@ impl<'a> TextIndex<'a> {
         Ok(number)
     }
 
-    // A search can start at `mask` + 1 slots. Grows the table if the number of texts is at least
-    // half of `mask` + 1. The texts and their numbers stay the same, also after an error.
+    // Grows the table if the number of texts is at least half the number of slots at which a search
+    // can start. The texts and their numbers stay the same, also after an error.
     fn grow(&mut self) -> Result<(), AllocError>
         ensures { self.new ≡ self.old }
     {

@@ -91,9 +91,9 @@ fn unescape(buffer: &mut Vec<u8>, text: &[u8], start: usize) -> Result<(usize, u
     }
 }
 
-/// Extends the buffer by zeros if it has fewer than `SLACK` bytes from `to` on. `left` is how many
-/// bytes of the text remain. They decode to at most `left` bytes, so `left + 2 * SLACK` zeros are
-/// enough for the rest of the text. Appends this many zeros, or all of [`ZEROS`] if it has fewer.
+/// Extends the buffer by zeros if it has fewer than `SLACK` bytes from `to` on. The number of zeros
+/// is `left + 2 * SLACK`, but at most `ZEROS.len()`. `left` is the number of bytes of the text that
+/// are not decoded yet. Decoded, they take at most `left` bytes. The error is out of memory.
 #[inline(always)]
 fn extend_with_zeros(buffer: &mut Vec<u8>, to: usize, left: usize) -> Result<(), AllocError>
     requires { (to ≤ length buffer.old.items) × (left < 2 ^ 63) }

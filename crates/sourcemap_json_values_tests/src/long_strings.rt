@@ -6,7 +6,7 @@ use serde_json::Result;
 use std::alloc::Global;
 use std::process::Abort;
 
-// The inside of a string, and how it is written in compact JSON.
+// A JSON string that is read, and the same string in compact JSON, both without enclosing quotes.
 static SPELLED: [(&str, &str); 11] = [
     (r"\n", r"\n"),
     (r"\\", r"\\"),
@@ -25,11 +25,11 @@ static SPELLED: [(&str, &str); 11] = [
 static ERRORS: [&str; 6] = ["\t", r"\x", r"\u00g0", r"\ud83d\n", "\\\u{1}", r#"",,""#];
 
 // Ranges for the number of letters before an escape. The first range includes 64 and 128, the
-// lengths of one and two blocks. The second range includes 4096: the buffer is first extended to
-// this length.
+// lengths of one and two blocks. The second range includes 4096, the length of the buffer after its
+// first extension.
 static OFFSETS: [(usize, usize); 2] = [(0, 140), (3900, 4110)];
 
-// An array of two strings: `before` letters, `inner` and a letter, then a string of `rest` letters.
+// The JSON array `["a...a{inner}b","z...z"]`, with `before` letters `a` and `rest` letters `z`.
 fn surround(alloc: Global, before: usize, inner: &str, rest: usize) -> Result<String> {
     let first = "a".repeat(alloc, before)?;
     let last = "z".repeat(alloc, rest)?;

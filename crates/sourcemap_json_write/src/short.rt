@@ -15,9 +15,9 @@ use std::simd::Simd;
 // The length of the longest short string, in bytes.
 const SHORT: usize = 48;
 
-/// If at most this many bytes of a string are left to write, they are first tested as a whole. If
-/// none of them needs an escape, they are copied unchanged. If more bytes are left, they are
-/// escaped without this test.
+/// If at most `LONG` bytes of a string are left to write, the writer tests whether one of them
+/// needs an escape. If none does, the writer copies them unchanged. While more than `LONG` bytes
+/// are left, the writer escapes without this test.
 pub(crate) const LONG: usize = 1024;
 
 // A short string in quotes has at most 50 bytes, so these 64 zeros are enough for it. A vector is

@@ -57,9 +57,8 @@ impl From<AllocError> for Refusal {
 }
 
 /// Appends the compact JSON text of a value to `out`. The error is `Fraction` if the value holds a
-/// float, or `OutOfMemory`. This function is inlined into the loops of `put_items` and
-/// `put_members`. So only an array or an object needs a recursive call, of one of these two
-/// functions. Their stack frames are large.
+/// float, or `OutOfMemory`. This function is inlined into `put_items` and `put_members`, so only
+/// arrays and objects need a recursive call. Such a call takes a large stack frame.
 #[cycle(put)]
 #[inline(always)]
 fn put_value(out: &mut Vec<u8>, value: &Value) -> Result<(), Refusal>

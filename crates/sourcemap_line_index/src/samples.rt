@@ -104,9 +104,8 @@ pub(crate) fn first_by_samples<P: Probe>(
     let low = first.div_ceil(SPACING);
     let high = end.div_ceil(SPACING);
     let index = SPACING * first_sample(samples, low, high, probe);
-    // If `index` is 0, `first` is 0 too. Otherwise the token at `index - SPACING` is sampled. The
-    // index of this token is below `first`, or its column is before the probe's column. In both
-    // cases the index to return is greater than `index - SPACING`.
+    // If `index` is not 0, the returned index is greater than `index - SPACING`: that index is less
+    // than `first`, or the column of its token is before the probe's column.
     let from = first.max(index.saturating_sub(SPACING - 1));
     first_linear(tokens, from, end.min(index), probe)
 }

@@ -28,8 +28,9 @@ others_view others = record {
   contents = contents_in others.contents;
 }
 
--- `lists` contains the other lists, converted for a record. Names become JSON strings, and each source becomes `Some`.
--- The contents are truncated, or filled up with `None`, to one item for each source (`fitted`). The ids are unchanged
+-- `lists` holds these names, sources, contents and ignored ids, converted for a record. Names become JSON strings, and
+-- each source becomes `Some`. The list of contents is shortened or padded with `None` to the number of sources
+-- (`fitted`). The ids are unchanged
 pub record AreListsOf (name_texts source_texts : List (List ℕ)) (content_texts : List (Option (List ℕ))) (ignored : List ℕ) (lists : WrittenLists) : Type 0 where
   pub names : map view lists.names.items ≡ map string name_texts
   pub sources : map text_view lists.sources.items ≡ map Some source_texts

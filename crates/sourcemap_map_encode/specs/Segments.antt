@@ -25,9 +25,9 @@ pub record IsMappingsText (names : ℕ) (tokens : List RawToken) (text : List �
   pub back : (sources : ℕ) → sources < 2 ^ 32 → AllWithin sources names tokens → (ranges : Option (List ℕ)) → IsRangeText tokens ranges
       → MappingsAnswer text (option_map_or (λ bits. bits) ranges []) (record { sources = sources; names = names }) (Ok (reduced names tokens))
 
--- the text of the range bits of these tokens, without repeats, line by line; the text needs no escape in JSON. If no
--- token is a range token, `IsRangeText` holds only for `None`, but this definition holds for a text with an empty part
--- for each line
+-- the encoded range flags of these tokens: one part for each line (`LineByLine`). A token that equals the token before
+-- it has no flag. The text needs no escape in JSON. If no token is a range token, every part is empty, but
+-- `IsRangeText tokens` holds only for `None`
 pub record IsBitsText (tokens : List RawToken) (text : List ℕ) : Type 0 where
   pub written : LineByLine (IsRangeLine (without_repeats tokens)) tokens text
   pub is_plain : IsPlainText text

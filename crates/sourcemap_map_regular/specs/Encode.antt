@@ -10,7 +10,8 @@ use Rattle.sourcemap_map_regular.specs.MapStored.{parts_in}
 use Rattle.sourcemap_map_regular.specs.Decode.{RecordDecodes}
 pub use Rattle.sourcemap_map_conversions.specs.ToRecord.{written_contents, written_ids}
 
--- the record of a map. The fields `mappings` and `rangeMappings` of the record are these texts
+-- the record of the map `m`, with `mappings` as the field `mappings` and `ranges` as the field `rangeMappings`. The
+-- tokens of `m` are not used
 abbrev pub record_with : MapValue → List ℕ → Option (List ℕ) → Fields
 record_with m mappings ranges = parts_written (parts_in m) mappings ranges
 

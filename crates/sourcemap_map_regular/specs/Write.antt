@@ -17,7 +17,7 @@ pub record IsText (t : Tree) (text : List ℕ) : Type 0 where
   pub compact : has_float (written t) ≡ false → text ≡ compact_text (written t)
   pub reads_back : depth (written t) ≤ max_depth → IsJson text (written t)
 
--- for some record t, `Encodes` allows the result `Ok t`, and `IsText` allows this text as the JSON text of t
+-- `Encodes` allows a result `Ok t`, and `text` is the JSON text of this record `t` (`IsText`)
 abbrev pub IsEncoded : (Result Tree Error → Type 0) → List ℕ → Type 0
 IsEncoded Encodes text = (t : Tree) × Encodes (Ok t) × IsText t text
 

@@ -18,8 +18,9 @@ pub trait Encodable {
     ghost use Rattle.sourcemap_errors.specs.declared.errors.Error.{Error};
     ghost use Rattle.sourcemap_records.specs.Jsontypes.{Tree};
 
-    // `encodes v r` means that `as_raw_sourcemap` of `v` may return `r`. In `r` the record is given
-    // as its `Tree`. `as_raw_sourcemap` may always return the error `OutOfMemory` too.
+    // `encodes v` says which results `as_raw_sourcemap` of `v` may return. `encodes v (Ok t)`
+    // allows a record whose `Tree` is `t`, and `encodes v (Err e)` allows the error `e`. The error
+    // `OutOfMemory` is always allowed.
     ghost encodes: { Self → Result Tree Error → Type 0 };
 
     /// The record of the map.

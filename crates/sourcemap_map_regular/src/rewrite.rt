@@ -21,11 +21,10 @@ impl SourceMap {
     ghost use Rattle.sourcemap_map_regular.specs.Rewrite.{first_ids, LeavesMeaning, MeansLess, Rewrites, TokensMeanLess};
 
     /// Reduces the map to the sources and names that tokens use, each once, in the order of first
-    /// use. Sources are resolved against `sourceRoot`, and the result has no root. If tokens use
-    /// several sources that resolve to one text, the result has one source for them. It gets
-    /// contents if any of them has contents. If several of them have contents, the new source gets
-    /// the contents of the one that a token uses first. Sources without contents do not count here.
-    /// File and debug id are kept, and the ignore list is cleared. `options` says whether names and
+    /// use. Sources are resolved against `sourceRoot`, and the result has no root. Used sources
+    /// that resolve to one text become one source. If contents are kept, the new source gets
+    /// contents from the first of these sources, in the order of first use, that has contents. File
+    /// and debug id are kept, and the ignore list is cleared. `options` says whether names and
     /// contents are kept, and which prefixes are removed from sources.
     ///
     /// With `load_local_source_contents`, contents are loaded from files for sources without

@@ -55,10 +55,9 @@ pub fn encode<M: Encodable, W: Write + Drop>(alloc: Global, map: &M, mut writer:
 }
 
 impl SourceMap {
-    /// Writes the compact JSON text of the map. If a write fails, the error is `Io`, or
-    /// `OutOfMemory` if the write ran out of memory. The only other error is `OutOfMemory`. The
-    /// writer is consumed, so no clause says what it contains afterwards. [`encode_to`] borrows its
-    /// writer and has such a clause.
+    /// Writes the compact JSON text of the map. The errors are `OutOfMemory`, and `Io` if a write
+    /// fails for another reason. The writer is consumed, so no clause says what it contains
+    /// afterwards. [`encode_to`] borrows its writer and has such a clause.
     pub fn to_writer<W: Write + Drop>(&self, writer: W) -> Result<()>
         ensures encoded { OnOk result ((text : List ℕ) × IsEncoded (RecordAnswer self.now) text) }
         ensures error { IfErr result (λ e. UnlessMemory e (IsIo e)) }

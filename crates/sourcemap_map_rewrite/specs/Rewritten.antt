@@ -19,8 +19,8 @@ abbrev pub contents_among : List (List ℕ) → List (Option (List ℕ)) → Lis
 contents_among sources contents text t =
     option_and_then (λ source. cond (bytes_eq source text) (item_at contents t.src_id) None) (slice_get sources t.src_id)
 
--- the contents for the source `text`. The first token that meets two conditions decides: its source is `text`, and its
--- source id has contents. The result is the contents of this source id, or `None` if no token meets both conditions
+-- the contents for the source `text`. Take the first token whose source is `text` and whose source id has contents. The
+-- result is the contents of this source id, or `None` if there is no such token
 abbrev pub resulting_contents : List (List ℕ) → List (Option (List ℕ)) → List RawToken → List ℕ → Option (List ℕ)
 resulting_contents sources contents tokens text =
     slice_get (present (map (contents_among sources contents text) tokens)) 0

@@ -32,7 +32,7 @@ const EQUAL: [Row; 2] = [
     ((0, 5), (0, 2, 2), NONE, false),
 ];
 
-// A range token that starts at 0:0. `AFTER_START` moves the later position 0:10 to 5:0.
+// A range token that starts at 0:0. `AFTER_START` moves position 0:10 to 5:0.
 const RANGE: [Row; 1] = [((0, 0), (0, 0, 7), NONE, true)];
 
 // `FAR_RANGE` is a range token with an original column near the last column, 4294967295.
@@ -79,8 +79,8 @@ const A_LINE_DOWN: [Row; 3] = [
     ((3, 0), (0, 2, 0), NONE, false),
 ];
 
-// The tokens of the original map, then those of the adjustment. A position, and the text of the
-// token of the adjusted map that is closest to it.
+// The tokens of the original map, the tokens of the adjustment, and a generated position. Then the
+// text of the token that a lookup of this position finds in the adjusted map.
 static ADJUSTED: [(&[Row], &[Row], (u32, u32), &str); 13] = [
     (&APART, &TOGETHER, (0, 0), "o.js:1:1"),
     (&APART, &TOGETHER, (0, 3), "o.js:2:2"),
@@ -352,10 +352,10 @@ fn adjusted_maps_have_these_tokens_and_no_others(rt: HostRuntime) {
     }
 }
 
-// Label. The tokens of the original map, then those of the adjustment. The new position, then the
-// old position that the adjustment moves to it. The text that two lookups must give: of the new
-// position in the adjusted map, and of the old position in the original map. A `+` after the text
-// marks a range token.
+// Label. The tokens of the original map, then the tokens of the adjustment. The new position, then
+// the old position that the adjustment moves to it. The text of a token. A lookup of the new
+// position in the adjusted map must find a token with this text. So must a lookup of the old
+// position in the original map. A `+` at the end of the text marks a range token.
 static ALIKE: [(&str, [&[Row]; 2], [(u32, u32); 2], &str); 9] = [
     (
         "where a token was cut",

@@ -21,8 +21,8 @@ enum Getter {
     Raw,
 }
 
-// File and `sourceRoot`, sources, contents and names. The last source and the last name have an
-// index out of range. Source 1 has no contents, so the last contents are `None`.
+// File and `sourceRoot`, sources, contents and names. The map has no source with id 2 and no name
+// with id 1, so these two are `None`. Source 1 has no contents, so the last contents are `None`.
 fn parts_text(alloc: Global, map: &SourceMap) -> Result<String> {
     let head = (map.get_file(), map.get_source_root());
     let sources = (map.get_source(0), map.get_source(1), map.get_source(2));

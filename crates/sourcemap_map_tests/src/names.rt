@@ -52,8 +52,8 @@ fn map_of(alloc: Global, text: &str) -> Result<Box<DecodedMap>> {
     Ok(Box::new(alloc, map)?)
 }
 
-// A regular map in a box. The prover follows the drop of a `SourceMap` in one step also without a
-// box, because its `Drop` is written by hand.
+// A regular map in a box. Even without the box, the prover follows the drop of a `SourceMap` in one
+// step, because the `Drop` of `SourceMap` is written by hand.
 fn regular_of(alloc: Global, text: &str) -> Result<Box<SourceMap>> {
     let map = SourceMap::from_slice(alloc, text.as_bytes())?;
     Ok(Box::new(alloc, map)?)

@@ -1,5 +1,6 @@
 // Encoding in parts writes the same text as encoding at once. The tests also encode a token on a
-// far line. Some writers take one byte a write. Some of these are interrupted, or fail.
+// far line. Some writers take one byte a write. Some of these writers also interrupt every other
+// write, or stop after a number of bytes.
 use crate::checks::check;
 use crate::samples::{Made, NONE, make_map, mixed_map, range_map, readme};
 use crate::writing::{BARE, WRITTEN, cut_writing, outcome_text, regular};

@@ -118,7 +118,7 @@ static WALKS: [(&str, &[(u32, u32)], &str); 18] = [
         &[(0, 3), (0, 2), (0, 1), (0, 0)],
         " none none none [a]",
     ),
-    // A walk back over three lines, then a walk with columns past the end of the line.
+    // One walk goes back over three lines. The next walk has columns past the end of the line.
     (
         "abcd\nef\nabcd",
         &[(2, 2), (1, 2), (1, 1), (0, 3), (0, 1)],
@@ -165,10 +165,9 @@ fn walks_find_the_identifier_at_each_position(rt: HostRuntime) {
     }
 }
 
-// A walk back from the last token, for the text `function b(){}`. The number counts tokens without
-// a name on line 1, and the text has no line 1. The walk visits these tokens first, then the tokens
-// in the list. All tokens in the list are on line 0. The list has the column and the name of each
-// token.
+// The tokens of a walk back, for the text `function b(){}`. The first field is the number of tokens
+// on line 1. These tokens come first and have no names. The text has no line 1. The second field
+// has the column and the name of each token on line 0, in the order of the walk.
 type Walk = (u32, &'static [(u32, &'static str)]);
 
 // Label, a name in the generated text, a walk, and the name that is guessed.

@@ -46,8 +46,8 @@ pub record HasPartError (line : List ℕ) (e : Error) : Type 0 where
   pub error : HasError part e
 
 -- the error of a part, computed from the error of decoding a number of the part. The number is decoded from the rest of
--- the line. So if a `,` ends the part within the number, decoding returns `InvalidBase64` with `,`. The error of the
--- part is then `VlqLeftover`. Every other error stays the same
+-- the line, which may contain more parts. So the error `InvalidBase64` with `,` means that the part ends within the
+-- number. This error becomes `VlqLeftover`. Every other error stays the same
 abbrev pub error_in_part : Error → Error
 error_in_part (InvalidBase64 c) = if c == comma then VlqLeftover else InvalidBase64 c
 error_in_part e = e

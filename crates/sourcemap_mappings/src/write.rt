@@ -227,12 +227,12 @@ fn put_token(
 /// generated column of each line, is written as its difference to 0. A token equal to the token
 /// before it is not written. An empty list gives the empty text.
 ///
-/// `write_range_mappings` writes the range flags as a second text. An empty text stands for `None`.
-/// Decoding both texts with `names` and a count of sources below 2^32 gives the same tokens without
-/// repeats, with [`NO_ID`] for each name id that is not below `names`. This holds if each token is
-/// of one of two kinds. The first kind has a source id below the count of sources. The second kind
-/// has [`NO_ID`] as source id, original line and original column, and a name id that is not below
-/// `names`.
+/// `write_range_mappings` returns the range flags as a second text. `None` counts as an empty text.
+/// `parse_mappings`, with the same `names`, decodes both texts to `tokens` without repeats, or
+/// returns `OutOfMemory`. Each name id that is not below `names` becomes [`NO_ID`]. This holds if
+/// each token is of one of two kinds. The first kind has a source id below the number of sources
+/// given to `parse_mappings`. The second kind has [`NO_ID`] as source id, original line and
+/// original column, and a name id that is not below `names`.
 pub fn write_mappings(alloc: Global, tokens: &[RawToken], names: u32) -> Result<String>
     requires { AreInOrder tokens.now }
     ensures text { IfOk result (λ s. IsWritten names tokens.now (string_bytes s)) }

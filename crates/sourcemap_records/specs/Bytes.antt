@@ -1,6 +1,6 @@
--- The JSON value that bytes hold, and the record of this value. The errors if bytes hold no JSON value, or if their
--- JSON value is not a record. The results that the decoding of a JSON value, of bytes or of a data URL may have. A
--- parameter, `Decodes`, says which results the decoding of a record may have. What a call that reads bytes may return.
+-- The JSON value that bytes hold, and the record of this value. The errors for bytes without a JSON value, or without a
+-- record. The possible results of decoding a JSON value, bytes or a data URL. The parameter `Decodes` says which
+-- results are possible when a record is decoded. The possible results of a call that reads bytes from a reader.
 use Rattle.std.specs.Prelude.{◌≡◌, ◌⊎◌, ℕ, List, Option, Some, None, IfSome, MatchOption, Result, Ok, Err, IsErrAnd, IsUtf8}
 use Rattle.std.specs.IoError.{error_kind}
 use Rattle.std.specs.declared.io.Error.{Error as IoError}

@@ -83,8 +83,8 @@ pub struct RawSourceMap {
     pub debug_id: Option<DebugId>,
 }
 
-/// The version of a JSON object, and flags for seven of its other keys. These keys decide whether
-/// the object is a source map. Each flag says whether its key has a value other than null.
+/// The eight keys by which a JSON object is detected as a source map: the version, and a flag for
+/// each of the other seven keys. A flag says whether its key has a value other than null.
 #[derive(Clone, Copy, Debug, PartialEq)]
 pub struct MinimalRawSourceMap {
     /// The version of the format, or `None` if it is missing or null.

@@ -315,10 +315,9 @@ fn is_named(cursor: Option<Cursor<'_>>, col: u32, name: &str) -> bool
     }
 }
 
-// The first token of the walk that has the identifier `name` and is followed in the walk by a token
-// with the identifier `function`. `None` if there is no such token. The walk is over `token` and
-// the tokens before it, at most 128 in all. The walk tests whether an identifier is `name`, or
-// whether it is `function`. These tests do not search for the end of the identifier.
+// Walks back over `token` and the tokens before it, at most 128 in all. Returns the first token
+// with the identifier `name` whose next token in the walk has the identifier `function`, or `None`
+// if there is no such token. Identifiers are compared without a search for their ends.
 fn function_token<T: WalkedToken>(view: &SourceView, token: T, name: &str) -> Option<T>
     requires { is_identifier (chars name.now) ≡ true }
     ensures { option_map T.seen result ≡ function_token name.now

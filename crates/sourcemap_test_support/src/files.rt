@@ -16,7 +16,7 @@ pub fn unsupported_error<T>() -> io::Result<T>
 /// A file that is only read.
 #[derive(Drop)]
 pub struct FakeFile<'a> {
-    /// Each read of the file reads from this reader, and returns the same bytes or the same error.
+    /// Each read of the file returns the result of one read of this reader.
     pub reader: NarrowReader<'a>,
     /// The size in the metadata of the file. With `None`, reading the metadata is an error.
     pub size: Option<u64>,

@@ -40,8 +40,8 @@ fn after_first_prefix<'a, S: AsStr>(text: &'a str, prefixes: &[S]) -> Option<&'a
 /// Strips the first matching prefix from `current`, or from `text` if `current` is `None`. A prefix
 /// without a slash at its end matches only if a slash follows it. This slash is stripped too.
 ///
-/// Returns the remaining text, but `None` if `current` is `None` and no prefix matches: `text` is
-/// then unchanged. The only error is `OutOfMemory`.
+/// Returns the text after the prefix. If no prefix matches, returns a copy of `current`, or `None`
+/// if `current` is `None`. The only error is `OutOfMemory`.
 pub fn strip_text<S: AsStr>(
     alloc: Global,
     text: &str,

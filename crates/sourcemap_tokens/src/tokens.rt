@@ -10,8 +10,8 @@ ghost use Rattle.sourcemap_errors.specs.declared.errors.Error.TheVariants.{OutOf
 use sourcemap_errors::errors::Result;
 
 /// The id for no source and for no name. Decoding turns a segment with one number into a token with
-/// `NO_ID` as source id, name id, original line and original column. A token without a source that
-/// was not decoded can have an original line and column.
+/// `NO_ID` as source id, name id, original line and original column. A token that was not decoded
+/// can have any original line and column, even if its source id is `NO_ID`.
 pub const NO_ID: u32 = 4294967295;
 
 /// One decoded mapping: a generated position (`dst`), and the original position (`src`) and name
@@ -114,10 +114,10 @@ pub fn one_stable_order(tokens: &[RawToken], sorted: &[RawToken])
 {}
 
 /// A law about `reduced`. `reduced` removes each token that is equal to the token before it. If a
-/// name id is not below `names`, `reduced` replaces this id by [`NO_ID`]. The token closest to a
-/// generated position in the reduced list is the token closest to this position in `tokens`, with
-/// its name id replaced by the same rule. If `tokens` has no closest token, the reduced list has
-/// none. The tokens need not be sorted.
+/// name id is not below `names`, `reduced` replaces this id by [`NO_ID`]. The law compares two
+/// searches for the token closest to a generated position: in `tokens` and in the reduced list.
+/// Both searches find the same token, apart from the replaced name id, or both find none. The
+/// tokens need not be sorted.
 pub fn reduced_answers_alike(tokens: &[RawToken], names: u32, line: u32, col: u32)
     ensures { closest_item destination position_cmp (reduced names tokens.now) (line, col)
         ≡ option_map (with_valid_name names)

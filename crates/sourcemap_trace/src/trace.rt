@@ -26,10 +26,10 @@ use std::alloc::Global;
 /// returns, or `none` if there is no such token. The answer to any other line is `bad position`.
 /// This includes an empty line, and a line with a carriage return.
 ///
-/// These answers are specified for a regular map, a Hermes map, and an index map whose sections are
-/// in order at every level. A map that a decoding call returns is always one of these. But
-/// `SourceMapIndex::new` accepts sections in any order. If the sections of an index map are not in
-/// order, the answer to a position is the text of some token, or `none`.
+/// In an index map, the search for the closest token requires sections sorted by offset at every
+/// level. Decoding calls return only such index maps. But `SourceMapIndex::new` accepts sections in
+/// any order. If the sections at some level are not sorted, the answer to a position is the text of
+/// some token of the map, or `none`.
 pub fn trace_text(alloc: Global, map: &DecodedMap, positions: &[u8]) -> Result<String>
     ensures text { IsInOrder (map_tree map.now) → Gives string_bytes result
         (Ok (trace_of (meaning (map_tree map.now)) positions.now)) }

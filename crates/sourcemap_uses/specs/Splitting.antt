@@ -1,4 +1,4 @@
--- A position in the first module of a bundle, by the module's map and by the bundle's flattened map.
+-- The lookup of a position in the map of a bundle's first module, and in the flattened index map.
 use Rattle.std.specs.Prelude.{◌≡◌, ℕ, true, List, [], ◌∷◌, filter_map, Option, Some, None, Result, Ok, Err}
 use Rattle.sourcemap.specs.BundleModules.{ModuleValue}
 use Rattle.sourcemap.specs.Flat.{flat as flat_of}
@@ -18,14 +18,14 @@ abbrev pub printed : Option Meaning → List ℕ
 printed None = []
 printed (Some says) = token_text says
 
--- the text that the token at a position of the first module prints, by the map of this module; the error of the first
--- item if it is an error; the empty text if there are no items
+-- the text that `printed` returns for the meaning of `p` in the map of the first item. If the first item is an error,
+-- the result is this error. If there are no items, the result is the empty text
 abbrev pub first_text : ℕ × ℕ → List (Result ModuleParts Error) → Result (List ℕ) Error
 first_text p [] = Ok []
 first_text p (Ok parts ∷ _) = Ok (printed (meaning parts.map p))
 first_text p (Err e ∷ _) = Err e
 
--- the error of splitting the bundle, or the text for its first item
+-- `answer` is the error of splitting the bundle, or the `first_text` for `p` and the items of the split bundle
 abbrev pub TracesFirst : IndexValue → List (Result ModuleValue Error) → ℕ × ℕ → Result (List ℕ) Error → Type 0
 TracesFirst i modules p answer = Then (Splits i modules) (λ split a. a ≡ first_text p (dues_in split)) answer
 

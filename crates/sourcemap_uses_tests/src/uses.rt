@@ -255,8 +255,9 @@ fn a_data_url_holds_its_map(rt: HostRuntime) -> std::result::Result<(), Fail> {
 }
 
 // A generated text, and what `map_found` returns for this text. The path of the text is
-// `/out/a.js`. The result is `in the text` for an embedded map, the path of the map file,
-// `nowhere`, or the text of the error.
+// `/out/a.js`. For an embedded map, the result is `in the text`. For a map in a file, the result is
+// the path of this file. If no map is found, the result is `nowhere`. For an error, the result is
+// the text of the error.
 static FOUND: [(&str, &str); 4] = [
     (
         "x()\n//# sourceMappingURL=data:application/json;base64,eyJtYXBwaW5ncyI6IkFBQUEiLCJzb3VyY2VzIjpbImEuanMiXX0=\n",
