@@ -5,7 +5,7 @@ use Rattle.sourcemap.specs.Tokens.{no_id}
 use Rattle.sourcemap.specs.Trees.{MapTree, lookup}
 use Rattle.sourcemap.specs.Types.{MapValue}
 
--- a checksum with one more number
+-- the new checksum after `number` is added to the checksum `sum`
 abbrev pub mixed : ℕ → ℕ → ℕ
 mixed sum number = (31 * sum + number) % 2 ^ 32
 

@@ -13,11 +13,11 @@ use Rattle.sourcemap_bench.specs.Sums.{mixed, lookup_sum, token_sum}
 use Rattle.sourcemap_bench.specs.declared.work.Work.{Work}
 use Rattle.sourcemap_bench.specs.declared.work.Work.TheVariants.{Decode, DecodeReader, Lookup, Tokens, Encode, Rewrite, Flatten, Compose}
 
--- a checksum with one more count; a count above 4294967295 is taken as 4294967295
+-- the new checksum after `count` is added to the checksum `sum`. A count above 4294967295 is taken as 4294967295
 abbrev pub counted : ℕ → ℕ → ℕ
 counted sum count = mixed sum (min count 4294967295)
 
--- the number of tokens, or of sections of an index map
+-- the number of top-level sections if the map is an index map, otherwise the number of tokens
 abbrev pub size : MapTree → ℕ
 size (leaf l) = length (held l).tokens
 size (index _ sections) = length (section_list sections)

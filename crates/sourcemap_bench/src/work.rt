@@ -60,7 +60,8 @@ fn index_of(alloc: Global, bytes: Vec<u8>) -> Result<Box<SourceMapIndex>> {
     }
 }
 
-// Positions near tokens of the map; for an index map, of the flattened map.
+// The positions that `drawn_positions` draws from the map. If the map is an index map, the
+// positions are drawn from the flattened map.
 fn positions_in(alloc: Global, map: &DecodedMap) -> Result<Vec<(u32, u32)>> {
     match map {
         DecodedMap::Regular(map) => drawn_positions(alloc, map),
@@ -108,7 +109,8 @@ fn section_count(index: &SourceMapIndex) -> u32
     index.get_section_count()
 }
 
-// The number of tokens, or of sections of an index map.
+// The number of top-level sections if the map is an index map, otherwise the number of tokens.
+// Returns 4294967295 if there are more.
 fn size_of(map: &DecodedMap) -> u32
     ensures { result ≡ min (size (map_tree map.now)) 4294967295 }
 {

@@ -2,7 +2,7 @@
 use Rattle.std.specs.Prelude.{ℕ, ◌+◌, ◌*◌, ◌%◌, ◌^◌, length, min}
 use Rattle.sourcemap_bundle_split.specs.Split.{ModuleParts}
 
--- a checksum with one more number
+-- the new checksum after `number` is added to the checksum `sum`
 abbrev pub mixed : ℕ → ℕ → ℕ
 mixed sum number = (31 * sum + number) % 2 ^ 32
 

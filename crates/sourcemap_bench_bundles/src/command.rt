@@ -1,4 +1,4 @@
-//! Parses the words of a run.
+//! Parses the words on the command line.
 ghost use Rattle.std.specs.Prelude.{◌≡◌, IfSome, codes, map, string_bytes};
 ghost use Rattle.sourcemap_bench_bundles.specs.Command.{AskFor};
 
@@ -11,8 +11,8 @@ fn split_word(word: &str) -> Option<()>
     }
 }
 
-/// Parses `split` and the number of rounds, a decimal number below 2^32. Returns the number of
-/// rounds, or `None` for other words.
+/// Parses two words: `split` and the number of rounds. The number is decimal and below 2^32, with
+/// an optional leading `+`. Returns the number of rounds, or `None` for other words.
 pub fn parse_words(words: &[String]) -> Option<u32>
     ensures { IfSome result (λ rounds. AskFor (map string_bytes words.now) rounds) }
 {

@@ -1,5 +1,5 @@
-//! Splits a RAM bundle repeatedly, so that it can be timed. Standard input holds its index map on the
-//! first line; all bytes after that line are the indexed bundle.
+//! Splits an indexed RAM bundle repeatedly, so that the split can be timed. The first line of
+//! standard input is the index map of the bundle. All bytes after this line are the bundle.
 #![tactic(auto)]
 
 mod command;

@@ -82,8 +82,8 @@ fn add_tokens(alloc: Global, bytes: &[u8]) -> Result<usize> {
     token_count(builder)
 }
 
-// Adds each line as a source, and sets that source to the line again. Returns the byte count of all
-// sources.
+// Adds each line as a source, then replaces this source with the same line. Returns the byte count
+// of all sources.
 fn set_sources(alloc: Global, bytes: &[u8]) -> Result<usize> {
     let mut builder = SourceMapBuilder::new(alloc, None)?;
     for line in str::from_utf8(bytes)?.lines() {
@@ -124,7 +124,8 @@ fn set_root(alloc: Global, bytes: &[u8]) -> Result<usize> {
     Ok(source_size(&builder.into_sourcemap()?))
 }
 
-// Sets the debug id to each line in turn. Returns 1 if the last line is a debug id, else 0.
+// Each line that is a debug id becomes the builder's debug id. Any other line clears the debug id.
+// Returns 1 if the last line is a debug id, else 0.
 fn set_debug_ids(alloc: Global, bytes: &[u8]) -> Result<usize> {
     let mut builder = SourceMapBuilder::new(alloc, None)?;
     for line in str::from_utf8(bytes)?.lines() {

@@ -44,8 +44,8 @@ pub enum Call {
     Intern,
     /// `bundle`: all modules of an indexed RAM bundle.
     Bundle,
-    /// `bundle-path`: all modules of the RAM bundle at a path. The bundle is indexed or a file
-    /// bundle.
+    /// `bundle-path`: all modules of the RAM bundle at a path. The path leads to an indexed bundle
+    /// or to the startup code of a file bundle.
     BundlePath,
     /// `scopes`: `SourceMapHermes::get_scope_for_token` of each token.
     Scopes,
@@ -95,8 +95,9 @@ pub enum BuilderCall {
 /// A call on an index map.
 #[derive(Clone, Copy)]
 pub enum IndexCall {
-    /// `nest`: a lookup in nested index maps, which are then printed, copied, compared, read back
-    /// from their JSON value, flattened and dropped.
+    /// `nest`: builds nested index maps, and looks up a token in the outermost map. Then that map
+    /// is printed, compared with a copy, compared with the map read back from its JSON value,
+    /// flattened and dropped.
     Nest,
     /// `flatten-and-rewrite`: `SourceMapIndex::flatten_and_rewrite`.
     FlattenAndRewrite,

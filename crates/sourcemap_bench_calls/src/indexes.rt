@@ -1,4 +1,5 @@
-//! Index maps: nested deeper than the decoder allows, flattened and rewritten, made and changed.
+//! Makes, flattens, rewrites and changes index maps. `levels` can nest index maps deeper than the
+//! decoder allows.
 
 use crate::call::IndexCall;
 use crate::lines::{number_in, split_first_line};

@@ -62,8 +62,8 @@ fn read_back(alloc: Global, bytes: &[u8]) -> Result<usize> {
     Ok(usize::from(equals_read_back(alloc, &map)?))
 }
 
-// Rewrites the map on the first line, with each line after it as a prefix to strip. Returns the
-// byte count of the sources of the rewritten map.
+// Makes one rewrite of the regular map on the first line. `strip_prefixes` holds all lines after
+// the first. Returns the byte count of the sources of the rewritten map.
 fn rewrite_stripping<F: Files>(rt: &F, alloc: Global, bytes: &[u8]) -> Result<usize> {
     let (line, text) = split_first_line(bytes)?;
     let map = SourceMap::from_slice(alloc, line.as_bytes())?;

@@ -5,8 +5,10 @@ use sourcemap::utils::{find_common_prefix, make_relative_path};
 use std::alloc::Global;
 use std::str;
 
-/// The byte count of the relative path from the first line to the text after it. Without a `\n`,
-/// the whole text is both paths.
+/// The byte count of the relative path from a base to a target (see `make_relative_path`). The base
+/// is the first line, and the target is the text after that line. Without a `\n`, the base and the
+/// target are both the whole text. Returns `Utf8` if `bytes` are not UTF-8. The only other error is
+/// `OutOfMemory`.
 pub fn relative(alloc: Global, bytes: &[u8]) -> Result<usize> {
     let text = str::from_utf8(bytes)?;
     let (base, target) = text.split_once('\n').unwrap_or((text, text));

@@ -64,8 +64,9 @@ pub fn decode_url(alloc: Global, bytes: &[u8]) -> Result<usize> {
     Ok(1)
 }
 
-/// 1 if a reference is a data URL that holds a map, otherwise the error of decoding it. A reference
-/// that does not start with `data:` is `InvalidDataUrl`.
+/// 1 if a reference is a data URL that holds a map. Returns `Utf8` if the reference is not UTF-8.
+/// Returns `InvalidDataUrl` if a UTF-8 reference does not start with `data:`. The other errors are
+/// `OutOfMemory` and the errors of `decode_data_url`.
 pub fn decode_embedded(alloc: Global, bytes: &[u8]) -> Result<usize> {
     let url = String::from_str(alloc, str::from_utf8(bytes)?)?;
     match SourceMapRef::Ref(url).get_embedded_sourcemap()? {

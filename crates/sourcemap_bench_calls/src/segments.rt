@@ -14,8 +14,9 @@ pub fn segment_size(alloc: Global, bytes: &[u8]) -> Result<usize> {
     Ok(segment.len())
 }
 
-/// The byte count of the identifier at the start of a text, after white space. 0 if there is no
-/// identifier.
+/// The byte count of the longest identifier at the start of a text. Leading white space is skipped
+/// and not counted. Returns 0 if the rest of the text does not start with an identifier. The only
+/// error is `Utf8`, if `bytes` are not UTF-8.
 pub fn identifier_size(bytes: &[u8]) -> Result<usize> {
     let found = get_javascript_token(str::from_utf8(bytes)?);
     Ok(found.map_or(0, |name| name.len()))

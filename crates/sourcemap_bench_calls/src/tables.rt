@@ -31,8 +31,8 @@ pub fn modules(bytes: &[u8]) -> Result<usize> {
     Ok(module_size(&bundle))
 }
 
-/// The byte count of all modules of the bundle at a path, plus 1 for each invalid module. `bytes`
-/// is the path. The bundle is indexed or a file bundle.
+/// The byte count of all modules of a bundle, plus 1 for each invalid module. `bytes` is the path
+/// of an indexed bundle, or of the startup code of a file bundle.
 pub fn modules_at<F: Files>(rt: &F, alloc: Global, bytes: &[u8]) -> Result<usize> {
     let path = str::from_utf8(bytes)?.trim();
     let bundle = if is_unbundle_path(rt, alloc, path)? {

@@ -4,20 +4,21 @@ use Rattle.sourcemap.specs.Lines.{line_bodies}
 use Rattle.sourcemap.specs.TokenWalk.{function_name}
 use Rattle.sourcemap.specs.Types.{MapValue}
 
--- a checksum with one more number
+-- the new checksum after `number` is added to the checksum `sum`
 abbrev pub mixed : ℕ → ℕ → ℕ
 mixed sum number = (31 * sum + number) % 2 ^ 32
 
--- a checksum with one more count; a count above 4294967295 is taken as 4294967295
+-- the new checksum after `count` is added to the checksum `sum`. A count above 4294967295 is taken as 4294967295
 abbrev pub counted : ℕ → ℕ → ℕ
 counted sum count = mixed sum (min count 4294967295)
 
--- a checksum with the byte counts of these lines
+-- the result of adding the byte count of each of these lines to the checksum `sum`, in order. A byte count above
+-- 4294967295 is taken as 4294967295
 abbrev pub with_lengths : ℕ → List (List ℕ) → ℕ
 with_lengths sum lines = fold (λ sum line. counted sum (length line)) sum lines
 
--- the checksum `start` after the byte count of each line of the text `source` is added to it, in order. Lines after the
--- first 4294967296 lines are ignored. Line terminators are not counted. A byte count above 4294967295 is taken as
+-- the result of adding the byte count of each line of the text `source` to the checksum `start`, in order. Lines after
+-- the first 4294967296 lines are ignored. Line terminators are not counted. A byte count above 4294967295 is taken as
 -- 4294967295
 abbrev pub line_sum : List ℕ → ℕ → ℕ
 line_sum source start = with_lengths start (take 4294967296 (line_bodies source))

@@ -23,7 +23,8 @@ fn operation_of(word: &str) -> Option<Operation>
     }
 }
 
-/// Parses an operation and a number of rounds, a decimal number below 2^32. `None` for other words.
+/// Parses two words: an operation and the number of rounds. The number is decimal and below 2^32,
+/// with an optional leading `+`. Returns `None` for other words.
 pub fn parse_words(words: &[String]) -> Option<(Operation, u32)>
     ensures { IfSome result (λ asked. AskFor (map string_bytes words.now) asked.0 asked.1) }
 {

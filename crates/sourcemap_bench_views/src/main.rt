@@ -1,5 +1,6 @@
-//! Repeats one operation on views of texts, so that it can be timed. Standard input holds the text;
-//! for `names`, a map on the first line and the generated text after it.
+//! Repeats one operation on views of texts, so that the operation can be timed. For `lines`,
+//! standard input is the text. For `names`, the first line of standard input is a source map, and
+//! all text after this line is the generated text.
 #![tactic(auto)]
 
 mod command;

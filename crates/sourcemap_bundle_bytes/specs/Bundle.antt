@@ -24,7 +24,7 @@ range_of bytes start size =
     if nat_le (start + size) (length bytes) then Ok (take size (drop start bytes))
     else Err (Scroll (record { start = start; size = size; len = length bytes }))
 
--- the number of 32 bits at this byte offset, lowest byte first
+-- the number in the 4 bytes from this byte offset on, lowest byte first. A missing byte counts as 0
 abbrev pub u32_at : ℕ → List ℕ → ℕ
 u32_at offset bytes = little_number 4 (drop offset bytes)
 
@@ -40,8 +40,8 @@ header_of bytes = then_make (λ header. Ok (record {
   startup_code_size = u32_at 8 header;
 })) (range_of bytes 0 12)
 
--- the entry of the module `id`, as two numbers. Its 8 bytes follow the 12 bytes of the header and the `id` entries
--- before it. `Scroll` if the bytes end before the end of the entry
+-- the entry of the module `id`, as two numbers. The entries start after the 12 bytes of the header, and each entry has
+-- 8 bytes. `Scroll` if the bytes end before the end of the entry
 abbrev pub entry_of : List ℕ → ℕ → Result ModuleEntry Error
 entry_of bytes id = then_make (λ entry. Ok (record {
   offset = u32_at 0 entry;

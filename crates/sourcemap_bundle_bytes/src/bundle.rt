@@ -56,7 +56,7 @@ pub struct ModuleEntry {
 }
 
 impl ModuleEntry {
-    /// Returns the entry of the module `id`, whatever the header's count of modules. The error is
+    /// Returns the entry of the module `id`. Ignores the header's `module_count`. The error is
     /// `Scroll` if the bytes end before the end of the entry.
     pub fn read(bytes: &[u8], id: u32) -> Result<Self>
         ensures { result ≡ entry_of bytes.now id }

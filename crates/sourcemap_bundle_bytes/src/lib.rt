@@ -1,4 +1,4 @@
-//! Numbers and ranges of an indexed bundle, read from its bytes.
+//! Reads an indexed bundle: its header, the entries of its modules, and ranges of its bytes.
 #![tactic(auto)]
 
 pub mod bundle;

@@ -2,6 +2,6 @@
 use Rattle.std.specs.Prelude.{◌≡◌, ◌⊎◌, ℕ, ◌<◌}
 use Rattle.sourcemap_bundle_split.specs.declared.lines.Bound.{Bound}
 
--- the bound is this position, or both are past the lines of all tokens
+-- `bound` is the position `p`, or both have a line above 4294967295. No token has such a line
 abbrev pub IsBound : Bound → ℕ × ℕ → Type 0
 IsBound bound p = ((bound.line, bound.col) ≡ p) ⊎ ((4294967295 < bound.line) × (4294967295 < p.0))

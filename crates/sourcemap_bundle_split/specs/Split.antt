@@ -72,12 +72,14 @@ pub record SplitValue : Type 0 where
 abbrev pub dues_in : SplitValue → List (Result ModuleParts Error)
 dues_in split = dues_of split.flat split.offsets split.modules
 
--- the modules with the flat map and the list of first lines; `NotARamBundle` if the index map has no such list
+-- the split bundle with this flat map, these modules and this list of first lines; the error `NotARamBundle` if the
+-- list is `None`
 abbrev pub with_offsets : MapValue → List (Result ModuleValue Error) → Option (List (Option ℕ)) → Result SplitValue Error
 with_offsets flat modules None = Err NotARamBundle
 with_offsets flat modules (Some offsets) = Ok (record { flat = flat; offsets = offsets; modules = modules })
 
--- the bundle is split by its index map, which is flattened first: errors of flattening are errors of the split
+-- `answer` is the result of splitting a bundle by its index map `i`. If `i` cannot be flattened, the result is the
+-- error of flattening. Otherwise `with_offsets` determines the result
 abbrev pub Splits : IndexValue → List (Result ModuleValue Error) → Result SplitValue Error → Type 0
 Splits i modules answer =
     Then (FlatAnswer (index_tree i)) (λ flat a. a ≡ with_offsets flat modules i.parts.x_facebook_offsets) answer

@@ -9,7 +9,7 @@ use sourcemap_source_views::columns::units_in;
 use sourcemap_source_views::sourceview::SourceView;
 use sourcemap_tokens::tokens::RawToken;
 
-/// A line and a column. Either may be greater than that of any token.
+/// A generated position. Unlike in a token, its line and its column may be above 4294967295.
 #[derive(Clone, Copy)]
 pub(crate) struct Bound {
     line: u64,

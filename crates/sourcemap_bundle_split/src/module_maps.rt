@@ -67,8 +67,8 @@ impl ModuleMaps {
         })
     }
 
-    /// Returns the map of a module. `name` is its name, `view` is its text, and it begins at `line`
-    /// of the flat map. The only error is `OutOfMemory`.
+    /// Returns the map of the module with the name `name` and the text `view`. The module begins at
+    /// column 0 of `line` of the flat map. The only error is `OutOfMemory`.
     pub(crate) fn map_of(
         &mut self,
         alloc: Global,

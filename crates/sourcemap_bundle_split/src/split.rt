@@ -32,9 +32,9 @@ pub struct SplitRamBundleModuleIter<'a> {
 /// `flatten`. Otherwise the error is `NotARamBundle` if the index map has no `x_facebook_offsets`.
 /// Any other error is `OutOfMemory`.
 ///
-/// A module begins at the line that `x_facebook_offsets` has for its number, and takes as many
-/// lines as its text has. On its last line it ends at the length of this line in UTF-16 units. Its
-/// name is its number followed by `.js`. Its map has the tokens at or after the module's start
+/// A module begins at column 0 of the line that `x_facebook_offsets` has for its number, and takes
+/// as many lines as its text has. Its end column is the length of its last line in UTF-16 units.
+/// Its name is its number followed by `.js`. Its map has the tokens at or after the module's start
 /// and before the module's end. The map also has the sources that these tokens use, with their
 /// contents, and the names that these tokens use, both in the order of first use. Lines of the map
 /// count from the module's first line.

@@ -33,7 +33,9 @@ pub fn module_text(alloc: Global, answer: Result<RamBundleModule<'_>>) -> Result
     }
 }
 
-/// Returns all that a bundle answers: its type, count, startup code and modules in turn.
+/// Returns the type of the bundle, its `module_count`, the startup code in brackets, and the
+/// `module_text` of each item of `iter_modules`, separated by spaces. If the startup code cannot be
+/// read, the brackets contain the `error_text`. The only error is `OutOfMemory`.
 pub fn bundle_text(alloc: Global, bundle: &RamBundle<'_>) -> Result<String> {
     let kind = bundle.bundle_type();
     let count = bundle.module_count();

@@ -169,9 +169,9 @@ fn is_bundle_text(alloc: Global, disk: &Disk<'_>) -> Result<String> {
     }
 }
 
-// `names`, `step` and `path` are the fields of a `Disk`. `refused` is the wanted answer if the
-// `kind` of the `Disk` is `PermissionDenied`, and `no_memory` if it is `OutOfMemory`. An answer is
-// the result of `is_unbundle_path`, then the `bundle_text` of the bundle that
+// `names`, `step` and `path` are the fields of a `Disk`. `refused` is the wanted answer for the
+// `kind` `PermissionDenied`. `no_memory` is the wanted answer for the `kind` `OutOfMemory`. An
+// answer is the result of `is_unbundle_path`, then the `bundle_text` of the bundle that
 // `parse_unbundle_from_path` returns. If a call returns an error, the `error_text` of the error
 // replaces the result of that call.
 struct Row {

@@ -159,7 +159,8 @@ fn indexed_file<F: Files>(rt: &F, alloc: Global, path: &str) -> Result<String> {
     }
 }
 
-// The answer of an indexed bundle without modules, in a file.
+// Writes an indexed bundle without modules to a file and parses the file. Returns the `parsed_text`
+// of the result.
 fn written_and_asked<F: Files>(rt: &F, alloc: Global) -> Result<String> {
     let bytes = [0xe5u8, 0xd1, 0x0b, 0xfb, 0, 0, 0, 0, 0, 0, 0, 0];
     fs::write(rt, "bundle_file", bytes.as_slice())?;

@@ -14,7 +14,8 @@ static ONE: [u8; 26] = [
 
 // Each row: a length, the wanted text for the startup code, and the wanted text for module 0. The
 // bundle consists of the first bytes of `ONE`, as many as the length says. If the bundle cannot be
-// parsed, or the startup code or the module cannot be read, the text is the text of the error.
+// parsed, both texts are the text of the error. Otherwise the startup code and the module are read
+// separately. If one of these reads fails, the text of its error is wanted.
 static CUTS: [(usize, &str, &str); 27] = [
     (0, "parse error: 0+12 past 0", "parse error: 0+12 past 0"),
     (1, "parse error: 0+12 past 1", "parse error: 0+12 past 1"),
@@ -118,7 +119,9 @@ fn view_text(alloc: Global, bytes: &[u8]) -> Result<String> {
     }
 }
 
-// The numbers of a header and of its first entry, and the byte at 25.
+// Returns a text with these parts: whether the magic number is valid, the other fields of the
+// header, the fields of the entry of module 0, whether this entry is empty, and the byte at
+// offset 25.
 fn numbers(alloc: Global, bytes: &[u8]) -> Result<String> {
     let header = RamBundleHeader::read(bytes)?;
     let entry = ModuleEntry::read(bytes, 0)?;

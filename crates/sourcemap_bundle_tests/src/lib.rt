@@ -1,4 +1,6 @@
-//! Tests of RAM bundles, of bytes and of folders that the tests make.
+//! Tests of RAM bundles. Indexed bundles are parsed from bytes and from a file. File bundles are
+//! parsed from folders that the tests create, and from a fake file system in which an access may
+//! fail.
 #![tactic(auto)]
 
 #[cfg(test)]

@@ -59,8 +59,8 @@ impl<'a> RamBundle<'a> {
     ghost use Rattle.sourcemap_bundles.specs.Iterators.{modules_left};
 
     /// Returns the indexed bundle that these bytes are. The bundle borrows the bytes. Only the
-    /// header is read. The error is `Scroll` for fewer than 12 bytes, or `InvalidRamBundleMagic`
-    /// for another magic number.
+    /// header is read. The error is `Scroll` for fewer than 12 bytes. For 12 bytes or more, the
+    /// error is `InvalidRamBundleMagic` if the header's magic number is not `RAM_BUNDLE_MAGIC`.
     pub fn parse_indexed_from_slice(bytes: &'a [u8]) -> Result<Self>
         ensures { Returns (λ bundle. bundle) result (indexed_bundle bytes.now) }
     {
@@ -143,8 +143,8 @@ impl<'a> RamBundle<'a> {
         }
     }
 
-    /// Returns the startup code, or `Scroll` if it passes the end of the bytes of an indexed
-    /// bundle.
+    /// Returns the startup code. Only an indexed bundle has an error: `Scroll` if the startup code
+    /// passes the end of the bytes.
     pub fn startup_code(&self) -> Result<&[u8]>
         ensures { Returns (λ code. code.now) result (bundle_startup self.now) }
     {

@@ -1,4 +1,5 @@
-//! A file bundle: a folder with a file for each module, beside the file of the startup code.
+//! A file bundle: a file with the startup code, and the folder `js-modules` with a file for each
+//! module. Both are in the same folder.
 ghost use Rattle.std.specs.Prelude.{◌≡◌, ◌<◌, ◌≤◌, ◌+◌, ◌^◌, ℕ, None, Ok, Some, IfErr, IfOk, IfSome, IsOkUnless, OnOk, map, option_map, string_bytes};
 ghost use Rattle.std.specs.List.Sorted.{IsSorted};
 ghost use Rattle.std.specs.Option.{SomeIff};
@@ -109,9 +110,9 @@ impl UnbundleRamBundle {
     }
 }
 
-/// Whether `path` is the startup code of a file bundle: it is a file, and beside it
-/// `js-modules/UNBUNDLE` is a file that can be read and begins with the magic number of indexed
-/// bundles. The only error is `OutOfMemory`.
+/// Whether `path` is the startup code of a file bundle. The result is true if `path` is a file, and
+/// `js-modules/UNBUNDLE` in the same folder is a file that begins with the magic number of indexed
+/// bundles. The only error is `OutOfMemory`. For any other failure, the result is false.
 pub fn is_unbundle_path<F: Files>(rt: &F, alloc: Global, path: &str) -> Result<bool>
     ensures { IsOkUnless result OutOfMemory }
 {
@@ -123,7 +124,8 @@ pub fn is_unbundle_path<F: Files>(rt: &F, alloc: Global, path: &str) -> Result<b
     Ok(is_file(rt, marker.as_str())? && begins_with_magic(rt, marker.as_str())?)
 }
 
-/// Returns the folder of the modules, beside the startup code.
+/// Returns the path of `js-modules` in the parent folder of `path`. The only error is
+/// `OutOfMemory`.
 fn modules_folder(alloc: Global, path: &str) -> Result<PathBuf>
     ensures { IsOkUnless result OutOfMemory }
 {

@@ -51,7 +51,7 @@ abbrev pub IsNoPathIf : (given : Bool) → (paths : List (List ℕ)) → Failure
 IsNoPathIf true paths (Library e) = HasNoText paths e
 IsNoPathIf _ paths _ = ⊥
 
--- a given path is not UTF-8, or the failure is one that `Due` allows
+-- either `given` is true and the failure is that a path is not UTF-8, or `Due` allows the failure
 abbrev pub OrNoPath : (given : Bool) → (paths : List (List ℕ)) → (Failure → Type 0) → Failure → Type 0
 OrNoPath given paths Due failure = IsNoPathIf given paths failure ⊎ Due failure
 

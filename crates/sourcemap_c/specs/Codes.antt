@@ -31,13 +31,15 @@ abbrev pub OfLibrary : (Error → Type 0) → Failure → Type 0
 OfLibrary Due (Library e) = Due e
 OfLibrary Due _ = ⊥
 
--- the failure is an error of the library that `Due` allows, or `WrongKind` if `wrong` holds
+-- `Due` says which errors of the library are allowed. `WrongKind` is allowed if `wrong` holds. No other failure is
+-- allowed.
 abbrev pub OfLibraryOrKind : (Error → Type 0) → (wrong : Type 0) → Failure → Type 0
 OfLibraryOrKind Due wrong (Library e) = Due e
 OfLibraryOrKind Due wrong WrongKind = wrong
 OfLibraryOrKind Due wrong _ = ⊥
 
--- the failure is an error of the library that `Due` allows, `WrongKind` if `wrong` holds, or `Absent` if `absent` holds
+-- `Due` says which errors of the library are allowed. `WrongKind` is allowed if `wrong` holds. `Absent` is allowed if
+-- `absent` holds. No other failure is allowed.
 abbrev pub OfLibraryKindOrAbsent : (Error → Type 0) → (wrong absent : Type 0) → Failure → Type 0
 OfLibraryKindOrAbsent Due wrong absent (Library e) = Due e
 OfLibraryKindOrAbsent Due wrong absent WrongKind = wrong

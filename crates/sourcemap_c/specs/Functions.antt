@@ -20,8 +20,10 @@ IsTrace (Some t) positions held = (text : List ℕ) × (held ≡ Some text) × (
 abbrev pub Refuses : (due code : ℕ) → (old new : List ℕ) → Type 0
 Refuses due code old new = (code ≡ due) × (new ≡ old)
 
--- The name of a function, guessed from the generated text `source` and the minified name. The guess is specified for
--- maps in order. The code is `SM_UTF8` if the minified name is not UTF-8.
+-- The name of a function, guessed from the generated text `source` and the minified name. The call writes
+-- `function_name` and returns `SM_OK`, or returns `SM_ABSENT` if there is no such name. If `IsInOrderForName` does not
+-- hold, the call may return either code, and may write any name with `SM_OK`. If the minified name is not UTF-8, the
+-- call always returns `SM_UTF8`. The call writes nothing unless it returns `SM_OK`.
 abbrev pub Guesses : MapTree → (source minified : List ℕ) → ℕ × ℕ → ℕ → (old new : List ℕ) → Type 0
 Guesses t source minified p code old new = (¬ IsUtf8 minified → Refuses 2 code old new)
     × (IsUtf8 minified → IsAbsentUnlessOk code old new)
@@ -42,9 +44,10 @@ NamesIn None source minified p code old new = Refuses 33 code old new
 NamesIn (Some t) source minified p code old new = Names t source minified p code old new
 
 -- The name of the function at a bytecode offset of a Hermes map. The offset is a column of generated line 0. The call
--- writes `name_at_offset` and returns `SM_OK`, or returns `SM_ABSENT` if there is no such name. If the functions of the
--- closest token's source are unsorted, the call may return either code, and may write any name with `SM_OK`. Without a
--- Hermes map the call returns `SM_WRONG_KIND`. The call writes nothing unless it returns `SM_OK`.
+-- writes `name_at_offset` and returns `SM_OK`, or returns `SM_ABSENT` if there is no such name. If a lookup of the
+-- offset finds a token, and the functions of this token's source are unsorted, the call may return either code, and may
+-- write any name with `SM_OK`. Without a Hermes map the call returns `SM_WRONG_KIND`. The call writes nothing unless it
+-- returns `SM_OK`.
 abbrev pub NamesAt : Option MapTree → (offset : ℕ) → ℕ → (old new : List ℕ) → Type 0
 NamesAt (Some (leaf (hermes h))) offset code old new = IsAbsentUnlessOk code old new
     × (IfSome (lookup h.map (0, offset)) (λ t. IsInOrderAt h.scopes t.raw.src_id) → ReturnsValue (Some (name_at_offset h offset)) code old new)

@@ -13,8 +13,9 @@ use Rattle.sourcemap_c_handles.specs.declared.layout.Position.{Position}
 use Rattle.sourcemap_c.specs.Codes.{IsAbsentUnlessOk, ReturnsValue}
 use Rattle.sourcemap_c.specs.Getters.{as_u32}
 
--- The code and the value of a lookup. For a map that is not in order, they are specified in part: the code is `SM_OK`,
--- or `SM_ABSENT` with nothing written.
+-- The code and the value of a lookup. The call writes the value of `ask` and returns `SM_OK`, or returns `SM_ABSENT` if
+-- this value is `None`. If `IsInOrder` does not hold for the map, the call may return either code, and may write any
+-- value with `SM_OK`. Without a map the call returns `SM_WRONG_KIND`. The call writes only if it returns `SM_OK`.
 abbrev pub ReturnsLookup : {X : Type 0} → (MapTree → Option X) → Option MapTree → (code : ℕ) → (old new : X) → Type 0
 ReturnsLookup ask None code old new = ReturnsValue None code old new
 ReturnsLookup ask (Some t) code old new = IsAbsentUnlessOk code old new × (IsInOrder t → ReturnsValue (Some (ask t)) code old new)

@@ -13,6 +13,6 @@ removal with_names with_contents prefixes = record { with_names = with_names; wi
 abbrev pub HasNoText : List (List ℕ) → Error → Type 0
 HasNoText texts e = (bytes : List ℕ) × Contains texts bytes × IsNoText bytes e
 
--- a prefix is not UTF-8, or the failure is one that `Due` allows
+-- either the failure is that a prefix is not UTF-8, or `Due` allows the failure
 abbrev pub OrNoPrefix : List (List ℕ) → (Failure → Type 0) → Failure → Type 0
 OrNoPrefix prefixes Due failure = OfLibrary (HasNoText prefixes) failure ⊎ Due failure

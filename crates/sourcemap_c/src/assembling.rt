@@ -1,4 +1,4 @@
-//! Index maps that are made of sections.
+//! Calls that collect sections and make an index map from them.
 ghost use Rattle.std.specs.Prelude.{◌≡◌, ◌≢◌, ◌⊎◌, ◌++◌, ◌∷◌, [], IfSome, IsSomeAnd, MatchResult, None, Some, is_some, map as list_map, option_map, string_bytes};
 ghost use Rattle.std.specs.Option.{option_copied};
 ghost use Rattle.sourcemap_errors.specs.Answer.{Changes};
@@ -215,10 +215,12 @@ fn push(sections: &mut Vec<SourceMapSection>, section: SourceMapSection) -> Resu
     Ok(())
 }
 
-/// Fills `map` with the index map of the sections in `sections`. After success `sections` is empty.
-/// After `OutOfMemory` it is unchanged or empty. After other errors it is unchanged. If `sections`
-/// holds no list of sections, it is always unchanged. Item `n` of `offsets` is the line at which
-/// module `n` begins, or `SM_NONE` if there is no module `n`.
+/// Fills `map` with the index map of the sections in `sections`. Item `n` of `offsets` is the line
+/// at which module `n` begins, or `SM_NONE` if there is no module `n`. After success the handle
+/// `sections` is empty. The errors are `Utf8` if a given file name or path is not UTF-8,
+/// `WrongKind` if `sections` holds no list of sections, and `OutOfMemory`. After an error both
+/// handles are unchanged, with one exception: after `OutOfMemory` a handle `sections` that held a
+/// list of sections may be empty.
 #[unsafe(no_mangle)]
 pub extern "C" fn sm_sections_finish(
     alloc: Global,

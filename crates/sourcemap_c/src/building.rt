@@ -251,7 +251,9 @@ fn add_name_to(held: &mut Held, text: &str, id: &mut u32) -> Outcome<()>
     }
 }
 
-/// Borrows the stored text of the source with this id, which is not resolved against `sourceRoot`.
+/// Borrows the entry of `sources` with this id. The entry is not resolved against `sourceRoot`. The
+/// call returns `SM_ABSENT` if no source has this id, and `SM_WRONG_KIND` if the handle holds no
+/// builder.
 #[unsafe(no_mangle)]
 pub extern "C" fn sm_builder_source<'a>(
     builder: &'a mut Handle,
@@ -276,11 +278,11 @@ fn put_source<'a>(held: Option<&'a Held>, id: u32, text: &mut &'a [u8]) -> u32
     }
 }
 
-/// Sets the stored text of the source with this id to `source`. The call does not resolve `source`
-/// against `sourceRoot`. The builder remembers the text with which the source was added. If this
-/// text is added again, `sm_builder_add_source` writes the same id. The errors are `Utf8` if
-/// `source` is not UTF-8, `Absent` if no source has this id, `WrongKind` if the handle holds no
-/// builder, and `OutOfMemory`. After an error the value of the handle is unchanged.
+/// Sets the entry of `sources` with this id to `source`. The call does not resolve `source` against
+/// `sourceRoot`. The builder remembers the text with which the source was added. If this text is
+/// added again, `sm_builder_add_source` writes the same id. The errors are `Utf8` if `source` is
+/// not UTF-8, `Absent` if no source has this id, `WrongKind` if the handle holds no builder, and
+/// `OutOfMemory`. After an error the value of the handle is unchanged.
 #[unsafe(no_mangle)]
 pub extern "C" fn sm_builder_set_source(
     alloc: Global,

@@ -473,7 +473,10 @@ fn put_texts_of<'a>(
     }
 }
 
-/// Fills `to` with the map of an item, which both handles share.
+/// Fills `to` with the map of an item. The map is not copied: `split` and `to` share it. The errors
+/// are `InvalidRamBundleEntry` if the item holds an error, `Absent` if there is no such item,
+/// `WrongKind` if `split` holds no split bundle, and `OutOfMemory`. After an error `to` is
+/// unchanged.
 #[unsafe(no_mangle)]
 pub extern "C" fn sm_split_map(
     alloc: Global,

@@ -100,7 +100,8 @@ fn file_of(map: &DecodedMap) -> Option<&str>
     }
 }
 
-/// The map itself if it is regular, the regular map of a Hermes map, `None` for an index map.
+/// For a regular map, returns the map. For a Hermes map, returns the regular map in it. For an
+/// index map, returns `None`.
 pub(crate) fn leaf_in(map: &DecodedMap) -> Option<&SourceMap>
     ensures { option_copied result ≡ leaf_in (map_tree map.now) }
 {

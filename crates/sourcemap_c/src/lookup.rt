@@ -62,9 +62,10 @@ fn put_found(token: Option<Token<'_>>, found: &mut Found) -> u32
     }
 }
 
-/// Looks up the generated positions in turn and writes the answer to each of them to `found`. Stops
-/// at the end of the shorter array, `positions` or `found`. Returns the number of answers, which is
-/// 0 if the handle holds no map.
+/// Looks up each generated position `positions[i]`, and writes its closest token to `found[i]`.
+/// Without a closest token, `found[i].found` is false. Stops at the end of the shorter array.
+/// Returns the number of items written, which is 0 if the handle holds no map. If an index map has
+/// unsorted sections at any level, the items may be wrong.
 #[unsafe(no_mangle)]
 pub extern "C" fn sm_lookup_many(
     map: &mut Handle,

@@ -80,7 +80,8 @@ fn put_numbers(lines: &[Option<u32>], first: usize, offsets: &mut [u32]) -> usiz
     count
 }
 
-/// Borrows the path of the module with this id from the list of paths in an index map.
+/// Borrows the path of module `id`: item `id` of `x_metro_module_paths` in an index map. Returns
+/// `SM_ABSENT` if there is no such item, and `SM_WRONG_KIND` if `map` holds no index map.
 #[unsafe(no_mangle)]
 pub extern "C" fn sm_module_path<'a>(map: &'a mut Handle, id: u32, text: &mut &'a [u8]) -> u32
     ensures* after { sem 𝓛 (EndsAsBefore map.entry) }

@@ -72,7 +72,10 @@ fn flat(map: &DecodedMap) -> Outcome<DecodedMap>
     }
 }
 
-/// Adjusts the regular map in `map` by the regular map in `adjustment`.
+/// Adjusts the map in `map` to a later version of its generated text. `adjustment` holds the map
+/// from the later version to the current version. The error is `SM_WRONG_KIND` unless both handles
+/// hold regular maps. The error is `SM_INCOMPATIBLE` if a token would move past column 4294967295.
+/// The only other error is `SM_OUT_OF_MEMORY`.
 #[unsafe(no_mangle)]
 pub extern "C" fn sm_compose(
     alloc: Global,

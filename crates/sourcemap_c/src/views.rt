@@ -24,7 +24,8 @@ pub(crate) fn view_in<'a>(handle: &'a mut Handle) -> Option<&'a SourceView>
     }
 }
 
-/// Copies the text and fills the handle with its view.
+/// Copies `text` into a new view and fills the handle with this view. The errors are `Utf8` if
+/// `text` is not UTF-8, and `OutOfMemory`. After an error the value of the handle is unchanged.
 #[unsafe(no_mangle)]
 pub extern "C" fn sm_view_open(
     alloc: Global,

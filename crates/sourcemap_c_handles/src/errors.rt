@@ -236,7 +236,7 @@ impl ErrorReport {
     }
 }
 
-// Writes the report, and returns its code. Without memory for the text it reports `OutOfMemory`.
+// Writes the report, and returns its code. Reports `OutOfMemory` if the text cannot be allocated.
 fn report(alloc: Global, failure: &Failure, to: &mut ErrorReport) -> u32
     ensures { Reports failure.now result to.old to.new }
 {
@@ -262,7 +262,7 @@ pub fn finish(alloc: Global, outcome: Outcome<()>, to: &mut ErrorReport) -> u32
     }
 }
 
-/// The code of a call that writes no report.
+/// Returns 0 for success, otherwise the code of the failure. Writes no report.
 pub fn code_of(outcome: &Outcome<()>) -> u32
     ensures { result ≡ outcome_code outcome.now }
 {

@@ -86,7 +86,7 @@ abbrev pub rewritten_leaf : LeafMap → LeafMap
 rewritten_leaf (regular m) = regular (rewritten no_removal m)
 rewritten_leaf (hermes h) = hermes (hermes_rewritten no_removal h)
 
--- the answers to the positions in a file, or the error of reading it
+-- the output of `trace_of` for the positions in a file. If the file could not be read, the result is the read error
 abbrev pub traced : MapTree → (file : Result (List ℕ) Error) → Result (List ℕ) Error
 traced t (Ok positions) = Ok (trace_of (meaning t) positions)
 traced t (Err e) = Err e
@@ -159,7 +159,7 @@ Prints misused printed = printed ≡ usage_text
 abbrev pub IsReply : Ending → Reply → Type 0
 IsReply ending reply = Prints ending (string_bytes reply.text) × (reply.status ≡ status_of ending)
 
--- a reply to these words, with these bytes and this file
+-- the reply has the text and the status of an ending that `Ends` allows for these words, these bytes and this file
 abbrev pub IsReplyTo : List (List ℕ) → (bytes : List ℕ) → (file : Result (List ℕ) Error) → Reply → Type 0
 IsReplyTo words bytes file reply = (ending : Ending) × Ends words bytes file ending × IsReply ending reply
 
@@ -187,8 +187,8 @@ abbrev pub WithFile : Option (Result (List ℕ) Error) → (Result (List ℕ) Er
 WithFile (Some file) P = P file
 WithFile None P = (file : Result (List ℕ) Error) × MayBeRead file × P file
 
--- an error that a run may have instead of a reply: `OutOfMemory`, or an `Io` error of reading the input. The `Io` error
--- is allowed only if the words ask for a command, and its kind is never out of memory
+-- an error that a run may have instead of a reply. `OutOfMemory` is always allowed. If the words ask for a command, the
+-- input is read, so an `Io` error of any kind except `OutOfMemory` is allowed too
 abbrev pub IsCutShort : List (List ℕ) → Error → Type 0
 IsCutShort words e = UnlessMemory e ((command : Command) × AskFor words command × UnlessReadFails e ⊥)
 

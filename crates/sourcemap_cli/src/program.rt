@@ -135,7 +135,7 @@ pub fn reply_to<F: Files>(
     ensures answer { MatchResult result
         (IsReplyTo (map string_bytes words.now) bytes.items (file_read file))
         (λ e. e ≡ OutOfMemory) }
-    // No other reply is right.
+    // The reply is right for every ending that `Ends` allows, not just for one of them.
     ensures only { IfOk result (λ reply. (due : Ending)
         → Ends (map string_bytes words.now) bytes.items (file_read file) due
         → IsReply due reply) }
@@ -221,9 +221,9 @@ fn print_reply<W: Write>(alloc: Global, reply: Result<Reply>, output: &mut W) ->
 /// and file. Returns the status of this reply.
 ///
 /// The map is read from `input`, but only if the words are a command. The file of `Compose` or
-/// `Trace` is opened after the input is decoded. A read error and `OutOfMemory` are printed like
-/// the error of an invalid map, with status 1. The whole output is in memory before its first byte
-/// is written. The only error is one of the writer.
+/// `Trace` is opened after the input is decoded. If the input or the file cannot be read, or if
+/// memory runs out, the text of the error and a newline are printed, and the status is 1. The whole
+/// output is in memory before its first byte is written. The only error is one of the writer.
 pub fn run<F: Files, R: Read, W: Write>(
     rt: &F,
     alloc: Global,

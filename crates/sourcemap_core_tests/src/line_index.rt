@@ -128,7 +128,8 @@ fn tokens_on_many_lines(alloc: Global, a_line: u32) -> Result<TokenList> {
 
 // The number of tokens on a line, a position, and the index of the closest token.
 static ON_MANY_LINES: [(u32, (u32, u32), &str); 21] = [
-    // Short lines are searched linearly; odd lines have no tokens.
+    // These lines have at most 16 tokens and are searched linearly. Lines with odd numbers have no
+    // tokens.
     (5, (0, 0), "Some(0) true"),
     (5, (0, 10), "Some(1) true"),
     (5, (0, 15), "Some(2) true"),

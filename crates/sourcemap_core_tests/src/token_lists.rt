@@ -7,7 +7,8 @@ use sourcemap_core::utils::greatest_lower_bound;
 use sourcemap_line_index::token_list::TokenList;
 use std::alloc::Global;
 
-// Generated positions of tokens, which are identified by their original column: 0, 1, 2 and 3.
+// Generated positions of four tokens. The tests identify a token by its original column, which is
+// its index in this array.
 static POSITIONS: [(u32, u32); 4] = [(2, 5), (0, 3), (2, 5), (0, 3)];
 
 fn tokens(alloc: Global) -> Result<Vec<RawToken>> {
@@ -114,7 +115,8 @@ fn compares_and_ends(rt: HostRuntime) {
 
 static PAIRS: [(u32, u32); 5] = [(1, 10), (1, 11), (1, 12), (1, 13), (1, 14)];
 
-// The number of pairs searched, the key, and the pair found with its index.
+// The number of pairs searched, the key, and the result. If a pair is found, the result has its
+// index and the pair.
 static BOUNDS: [(usize, u32, &str); 15] = [
     (1, 0, "None"),
     (1, 1, "Some((0, (1, 10)))"),

@@ -96,7 +96,7 @@ fn writes_segments(rt: HostRuntime) {
     }
 }
 
-// The indexes of the bits that are set among twenty bits, and the text of these bits.
+// The indexes of the set bits among twenty bits, and the text that encodes all twenty bits.
 static BITS: [(&[usize], &str); 4] = [(&[12], "AAB"), (&[5], "g"), (&[0, 11], "Bg"), (&[], "")];
 
 fn bits(alloc: Global, positions: &[usize]) -> Result<Vec<bool>> {
@@ -119,7 +119,8 @@ fn writes_bits(rt: HostRuntime) {
     }
 }
 
-// A text, the indexes of the bits that are set among twenty, and the text with the bits appended.
+// A text, the indexes of the set bits among twenty bits, and the text with the encoding of all
+// twenty bits appended.
 static APPENDED: [(&str, &[usize], &str); 3] = [
     (";", &[12], ";AAB"),
     ("", &[5], "g"),
@@ -144,7 +145,8 @@ fn appends_bits_to_a_text(rt: HostRuntime) {
     }
 }
 
-// Label, a text, and the number of its bits with the indexes of the set ones, or its error.
+// A label, a text, and the result of decoding the text: either the number of bits and the indexes
+// of the set bits, or the error.
 static TEXTS: [(&str, &str, &str); 6] = [
     ("the lowest bit of the third digit", "AAB", "18: 12"),
     ("the highest bit of a digit", "g", "6: 5"),

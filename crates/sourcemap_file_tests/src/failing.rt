@@ -21,8 +21,8 @@ struct Broken {
 }
 
 // Returns a file with these bytes. Reads return one byte each. If `fails` is true, every read after
-// the last byte fails with `kind`. Otherwise no read fails. The metadata report `size`. If `size`
-// is `None`, reading the metadata is an error.
+// the last byte fails with `kind`. Otherwise no read fails. The size in the metadata is `size`. If
+// `size` is `None`, a request for the metadata fails with `Unsupported`.
 fn file(
     bytes: &'static [u8],
     fails: bool,

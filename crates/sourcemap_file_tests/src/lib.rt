@@ -1,5 +1,6 @@
-//! Tests of calls that load source contents from files, over the facade `sourcemap`. Each test writes
-//! to a folder of its own, which it removes before and after.
+//! Tests that load source contents from files through the facade `sourcemap`. The test in `failing`
+//! uses a fake file system. Every other test writes to its own folder. The test removes this folder
+//! first, and again after all checks pass.
 #![tactic(auto)]
 
 #[cfg(test)]

@@ -18,7 +18,7 @@ EntriesDecode r entries (Ok h) =
 EntriesDecode r entries (Err e) =
     ((¬ AreFewScopes entries) × (e ≡ IncompatibleSourceMap)) ⊎ (AreFewScopes entries × RecordDecodes r (Err e))
 
--- the result of decoding a record with these scopes of its sources; a record without scopes is an error
+-- as `EntriesDecode`, but if the entries are missing (`None`), the result is the error `IncompatibleSourceMap`
 abbrev pub DecodesWith : Fields → Option (List ScopeEntry) → Result HermesValue Error → Type 0
 DecodesWith r None answer = answer ≡ Err IncompatibleSourceMap
 DecodesWith r (Some entries) answer = EntriesDecode r entries answer

@@ -1,4 +1,4 @@
--- Equality of Hermes maps: of the regular maps, and of the scopes.
+-- Equality of Hermes maps: their regular maps are equal, and their scopes are equal.
 use Rattle.std.specs.Prelude.{Bool}
 use Rattle.std.specs.Ordering.{on, eq_of_both}
 use Rattle.std.specs.Cmp.{IsEquivalence}

@@ -32,6 +32,7 @@ token_scope scopes t = scope_at scopes t.raw.src_id ((says t).line, (says t).col
 abbrev pub function_name : HermesValue → ℕ → Option (List ℕ)
 function_name h offset = option_and_then (token_scope h.scopes) (lookup h.map (0, offset))
 
--- when the borrow ends, the regular map of the Hermes map has the value of the borrowed map; the scopes are unchanged
+-- when the borrow `result` ends, the regular map of `self` becomes the last value of `result`. The scopes of `self` are
+-- unchanged
 abbrev pub LendsMap : MutBor SourceMapHermes → MutBor MapValue → Fml
 LendsMap self result = Lends hermes_row map_row self result (λ m. record self.now { sm = m })

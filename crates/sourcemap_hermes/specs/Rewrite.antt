@@ -18,8 +18,9 @@ rewritten removal h = record {
   scopes = picked_scopes h.scopes (first_ids h.map);
 }
 
--- the result of `rewrite`: the rewritten regular map with the scopes of `rewritten`, or the error for a folder that is
--- not absolute
+-- the result of `rewrite`. If it is a map, its regular map is a result of `SourceMap::rewrite`, and its scopes are the
+-- scopes of the map `rewritten`. If it is an error, it is `Io` of kind `InvalidInput`: contents are to be loaded, but
+-- neither `base_path` nor `current_dir` is absolute
 abbrev pub Rewrites : RewriteOptions → HermesValue → Result HermesValue Error → Type 0
 Rewrites options h (Ok new) = MapRewrites options h.map (Ok new.map) × (new.scopes ≡ picked_scopes h.scopes (first_ids h.map))
 Rewrites options h (Err e) = LacksFolder options e
@@ -37,7 +38,8 @@ scope_at_distance h index extra_columns =
 abbrev pub IsInOrderOf : HermesValue → Option TokenValue → Type 0
 IsInOrderOf h token = IfSome token (λ t. IsInOrderAt h.scopes t.raw.src_id)
 
--- each token keeps its scope, each bytecode offset its function name, and sorted functions are still sorted
+-- `new` has the same scope as `old` for each token and any `extra_columns`, and the same function name at each bytecode
+-- offset. If the functions of a token's source are sorted in `old`, they are sorted in `new` too
 pub record KeepsScopes (old new : HermesValue) : Type 0 where
   pub scopes : (index extra_columns : ℕ) → scope_at_distance new index extra_columns ≡ scope_at_distance old index extra_columns
   pub names : (offset : ℕ) → function_name new offset ≡ function_name old offset

@@ -1,4 +1,5 @@
--- Rewriting a Hermes map without loading contents: the call returns the rewritten map, and no error but out of memory.
+-- Without `load_local_source_contents`, rewriting a Hermes map returns the map `rewritten`. The only error is
+-- `OutOfMemory`.
 use Rattle.std.specs.Prelude.{◌≡◌, false, Result, Ok, Err}
 use Rattle.std.proofs.Common.{ap, sym}
 use Rattle.sourcemap_errors.specs.Answer.{Gives, IsAnswer}

@@ -21,8 +21,9 @@ use std::io::Write;
 impl Encodable for SourceMapHermes {
     ghost encodes = { λ h. RecordAnswer (hermes_value h) };
 
-    /// The record of the regular map, with the scopes of its sources as they were decoded. The only
-    /// error is `OutOfMemory`.
+    /// The record of the regular map, with the scope entries of the Hermes map under the key
+    /// `x_facebook_sources`. All entries are copied unchanged, even invalid ones. The only error is
+    /// `OutOfMemory`.
     fn as_raw_sourcemap(&self) -> Result<RawSourceMap>
         ensures answer { IsAnswer tree (RecordAnswer (hermes_value self.now)) result }
         ensures fine { IfOk result (λ r. IsFine (tree r)) }

@@ -33,8 +33,8 @@ impl SourceMapHermes {
     /// The name of the function that contains a token's original position. The original column is
     /// the result of `get_src_col`: it includes the columns that a lookup adds for a range token.
     /// `None` if the source has no function map, if no function starts at or before the original
-    /// position, or if the function has no name. Requires functions of the source sorted by where
-    /// they start; otherwise the result is unspecified.
+    /// position, or if the function has no name. If the functions of the source are not sorted by
+    /// start position, the result may be wrong.
     pub fn get_scope_for_token(&self, token: Token<'_>) -> Option<&str>
         ensures { IsInOrderAt (hermes_value self.now).scopes (token_value token.entry).raw.src_id
             → option_copied result

@@ -21,8 +21,8 @@ offset_name offset = offset.name_index
 abbrev pub AreOffsetsInOrder : List HermesScopeOffset → Type 0
 AreOffsetsInOrder offsets = IsSortedByKey offset_position position_cmp offsets
 
--- the first offset at the original position `p`, otherwise the last offset before `p`, both in list order; `None` if
--- all offsets are after `p`. The line and the column of `p` count from 0
+-- the first offset at the original position `p`. If there is none, the last offset before `p`. `None` if all offsets
+-- are after `p`. First and last refer to the order of the list. The line and the column of `p` count from 0
 abbrev pub closest_offset : List HermesScopeOffset → ℕ × ℕ → Option HermesScopeOffset
 closest_offset offsets p = closest_item offset_position position_cmp offsets (p.0 + 1, p.1)
 

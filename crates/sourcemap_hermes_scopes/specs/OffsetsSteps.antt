@@ -4,14 +4,14 @@ use Rattle.sourcemap_mappings.specs.Segment.{Segment}
 use Rattle.sourcemap_hermes_scopes.specs.declared.offsets.HermesScopeOffset.{HermesScopeOffset}
 use Rattle.sourcemap_hermes_scopes.specs.Offsets.{segment_offset, line_offsets, SegmentsRead}
 
--- `last` has the line, the column and the index of the name after all segments so far. `before` are the segments of
--- earlier lines, and `here` are the segments so far of the current line. If `here` is not empty, `last` is the
--- offset of its last segment
+-- `last` has the values that the next segment of the line is relative to. `before` are all segments of earlier lines,
+-- and `here` are the segments of the current line so far. If `here` is empty, the column of `last` is 0. Otherwise
+-- `last` is the offset of the last segment of `here`
 abbrev pub IsLastOffset : (before here : List Segment) → HermesScopeOffset → Type 0
 IsLastOffset before here last = last ≡ segment_offset here (before ++ here)
 
--- `new` is `old` with the offsets of the next parts of a line appended. `last` has the line, the column and the index
--- of the name after these parts
+-- `parts` follow the segments `here` of the same line and decode to `segments`. `new` is `old` with the offsets of
+-- `segments` appended. `last` has the values that the next segment of the line is relative to
 pub record AddsOffsets (before here : List Segment) (parts : List (List ℕ)) (old new : List HermesScopeOffset) (last : HermesScopeOffset) : Type 0 where
   pub segments : List Segment
   pub read : SegmentsRead parts segments

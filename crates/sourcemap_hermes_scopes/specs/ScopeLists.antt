@@ -24,7 +24,8 @@ entry_in entry = option_map list_in entry
 abbrev pub entries_in : Vec (Option (Vec FacebookScopeMapping Global)) Global → List ScopeEntry
 entries_in entries = map entry_in entries.items
 
--- the first item of the list, the only item that is used; `None` if there is no list or the list is empty
+-- the first item of the list; `None` if there is no list or the list is empty. The function map and the function names
+-- of a source come from this item only
 abbrev pub first_scopes : ScopeEntry → Option Scopes
 first_scopes entry = option_and_then (λ list. slice_get list 0) entry
 

@@ -1,4 +1,4 @@
--- The value of `SourceScopes` from the values of its fields, and the invariant of the fields.
+-- Converts the fields of `SourceScopes` to a `SourceScopesValue`, and states the invariant of the fields.
 use Rattle.sourcemap_hermes_scopes.specs.ScopeLists.{entries_in}
 use Rattle.sourcemap_hermes_scopes.specs.SourceScopes.{SourceScopesValue, AreFewScopes, AreOfEntries}
 use Rattle.sourcemap_hermes_scopes.specs.declared.source_scopes.SourceScopes.TheInside.{Inside}

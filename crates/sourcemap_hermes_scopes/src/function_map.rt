@@ -1,5 +1,5 @@
-//! The functions of a source, by where they start. Finds the function that contains an original
-//! position.
+//! The function map of a source: the original positions where its functions start. A lookup finds
+//! the function that contains an original position.
 ghost use Rattle.std.specs.Prelude.{◌≡◌, Ok, IfOk, IfErr, option_map};
 ghost use Rattle.std.specs.Bool.{Decides};
 ghost use Rattle.std.specs.Cmp.{partial_equiv_from_equiv};

@@ -33,8 +33,8 @@ const START: HermesScopeOffset = HermesScopeOffset {
 
 // Returns the offset of a segment. Adds the first number of the segment to the column of `last`,
 // the second to the name index and the third to the line, each modulo 2^32. A missing number is 0.
-// `last` is the offset of the previous segment, or `START` for the first segment of the text. For
-// the first segment after a `;`, the column of `last` is 0.
+// `last` is the offset of the previous segment, or `START` if there is none. At the start of each
+// line, `add_parts` sets the column of `last` to 0.
 #[inline]
 fn next_offset(last: HermesScopeOffset, read: &Numbers) -> HermesScopeOffset
     ensures { (before here : List Segment) (s : Segment) → IsLastOffset before here last

@@ -72,7 +72,7 @@ const NO_TOKEN: &str =
 pub const NO_SOURCE: &str =
     r#"{"version":3,"sources":["a.js"],"mappings":"A","x_facebook_sources":[[{"names":["f"],"mappings":"AAA"}]]}"#;
 
-// Texts of maps that are decoded and then written unchanged.
+// Texts of maps. Decoding a text and encoding the map gives the same text.
 static WRITTEN: [&str; 4] = [SECOND_SOURCE, SHORT, LONG, BROKEN];
 
 // Maps whose lists of scopes are complete, too short, too long or invalid.

@@ -1,5 +1,5 @@
-// Lookups in scopes, their selection by id and their encoding. Expected values are worked out by
-// hand.
+// Tests of the scopes of sources: lookups, selection by source id, writing, copies and equality.
+// Expected values are worked out by hand.
 use crate::checks::check;
 use crate::maps::name_or_none;
 use serde_json::Value;
@@ -10,7 +10,8 @@ use sourcemap_hermes_scopes::source_scopes::SourceScopes;
 use sourcemap_records::jsontypes::RawSourceMap;
 use std::alloc::Global;
 
-// The lists of a record under `x_facebook_sources`.
+// Returns the lists of scopes that a record has under `x_facebook_sources`. If this key is missing
+// or null, the error is `IncompatibleSourceMap`.
 fn lists(alloc: Global, text: &str) -> Result<ScopeLists> {
     let mut record = RawSourceMap::from_owned(alloc, Value::from_str(alloc, text)?)?;
     record
@@ -40,8 +41,8 @@ fn name_at_position(alloc: Global, text: &str, source: u32, line: u32, col: u32)
     name_or_none(alloc, scopes.scope(source, line, col))
 }
 
-// A record with the scopes of two sources. The first source has the names a, b and c, and these
-// mappings. The second one has no scopes.
+// The text of a record with two entries in `x_facebook_sources`. The first entry has the function
+// names a, b and c and the scope mappings `mappings`. The second entry is null.
 fn with_mappings(alloc: Global, mappings: &str) -> Result<String> {
     let head = r#"{"x_facebook_sources":[[{"names":["a","b","c"],"mappings":""#;
     Ok(format!(in alloc; r#"{head}{mappings}"}}],null]}}"#)?)
@@ -66,7 +67,8 @@ static MAPPINGS: [(&str, u32, u32, &str); 31] = [
     ("K,KC", 0, 10, "b"),
     ("KCAAAA", 0, 4, "none"),
     ("KCAAAA", 0, 5, "b"),
-    // The column restarts on each line, the name and the line do not.
+    // In the first segment after a `;`, the column is relative to 0. The name index and the line
+    // are still relative to the previous segment.
     ("UAA;KCC", 1, 5, "b"),
     ("ACA;ACC", 1, 0, "c"),
     ("AAC;ACC", 1, 0, "a"),
@@ -102,7 +104,8 @@ fn names_of_functions(rt: HostRuntime) {
     }
 }
 
-// Unsorted offsets. A lookup gives any name of the source, or none.
+// Scope mappings with unsorted offsets. A lookup returns some name of the source or no name. The
+// contract does not say which.
 static UNORDERED: [&str; 3] = ["KAA,LCA,UCA", "AAE;ACD", "UAA,FCA,FCA,UDA"];
 
 fn is_some_name_or_none(alloc: Global, mappings: &str, col: u32) -> Result<bool> {
@@ -219,8 +222,8 @@ fn name_when_selected(alloc: Global, text: &str, ids: &[u32], source: u32) -> Re
     name_or_none(alloc, selected.scope(source, 0, 0))
 }
 
-// A label, a record with lists of scopes, and the ids to select. Then a source by its new id, and
-// the function name at its start.
+// A label, a record with lists of scopes, and the ids to select. Then the id that a source has
+// after the selection, and the function name at line 0, column 0 of this source.
 static MOVED: [(&str, &str, &[u32], u32, &str); 5] = [
     ("the selected one", SECOND, &[1], 0, "f"),
     ("the first of two that are turned", SECOND, &[1, 0], 0, "f"),
@@ -286,8 +289,8 @@ fn copies_are_equal(rt: HostRuntime) -> Result<()> {
     Ok(())
 }
 
-// Scope mappings, and an original line and column. Then the name index of the function there, and
-// whether a copy of the function map is equal; or that there is no function map.
+// Scope mappings, an original line and an original column. Then the text that `index_text` returns,
+// or `no functions` if the mappings are invalid.
 static FUNCTIONS: [(&str, u32, u32, &str); 5] = [
     ("AAA,KCC", 0, 0, "Some(0) true"),
     ("AAA,KCC", 1, 5, "Some(1) true"),

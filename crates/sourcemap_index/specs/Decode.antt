@@ -11,7 +11,8 @@ use Rattle.sourcemap_records.specs.Bytes.{ValueHasResult, BytesHaveResult, UrlHa
 use Rattle.sourcemap_index_model.specs.MapTree.{MapTree, MapSection, IndexParts, IndexValue}
 use Rattle.sourcemap_index_model.specs.Decode.{Then, TreeDecodes, SectionsDecode, count, by_offset, index_parts}
 
--- the section that a section of a record decodes to, or the first error of its map
+-- the section that `s`, a section of a record, decodes to. If the map of `s` cannot be decoded, the result is the error
+-- of `TreeDecodes` for this map
 abbrev pub SectionDecodes : Section → Result MapSection Error → Type 0
 SectionDecodes s answer = MatchOption s.map
     (answer ≡ Ok (record { head = s.head; map = None }))

@@ -1,4 +1,4 @@
--- A map of any kind, an index map and a section as contracts see them.
+-- `DecodedMap`, `SourceMapIndex` and `SourceMapSection` as contracts see them: `MapTree`, `IndexValue`, `MapSection`.
 use Rattle.std.specs.Prelude.{map, option_map, string_bytes}
 use Rattle.sourcemap_records.specs.Jsontypes.{text_view}
 use Rattle.sourcemap_hermes.specs.Map.{hermes_value}

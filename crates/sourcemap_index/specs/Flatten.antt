@@ -19,8 +19,7 @@ use Rattle.sourcemap_map_rewrite.specs.declared.options.RewriteOptions.{RewriteO
 abbrev pub map_added : List Piece → ℕ × ℕ → MapTree → Result (List Piece) (List ℕ)
 map_added before offset t = on_ok (flat t) (λ m. with_piece before (offset, m))
 
--- these pieces and one more, which is the flat map of the section's map at the section's offset; or the error. A
--- section without a map is an error
+-- the result of `map_added` for a section's map and offset. If the section has no map, the error is `unresolved`
 abbrev pub section_map_added : List Piece → SectionHead → Option MapTree → Result (List Piece) (List ℕ)
 section_map_added before head None = Err (unresolved head.url)
 section_map_added before head (Some t) = map_added before (offset_of head) t
@@ -28,7 +27,7 @@ section_map_added before head (Some t) = map_added before (offset_of head) t
 abbrev pub section_added : List Piece → MapSection → Result (List Piece) (List ℕ)
 section_added before s = section_map_added before s.head s.map
 
--- `due` is no error but a list of pieces, and exactly these are gathered
+-- `due` is a list of pieces, not an error. Exactly these pieces were added to `g`, in this order
 abbrev pub Gathered : Result (List Piece) (List ℕ) → Gathering → Type 0
 Gathered due g = (pieces : List Piece) × (due ≡ Ok pieces) × Gathers pieces g
 
@@ -36,8 +35,8 @@ Gathered due g = (pieces : List Piece) × (due ≡ Ok pieces) × Gathers pieces 
 abbrev pub IsFlatOf : Result (List Piece) (List ℕ) → FlatMap → Type 0
 IsFlatOf due flat = (pieces : List Piece) × (due ≡ Ok pieces) × IsFlat pieces flat
 
--- the section has no map, or the tokens in its map are sorted by generated position. In an index map, the tokens of
--- each regular map and each Hermes map are sorted, at every level
+-- the section has no map, or the tokens of its map are sorted by generated position. If its map is an index map, this
+-- holds for each regular map and each Hermes map inside of it, at every level
 abbrev pub IsSectionInOrder : MapSection → Type 0
 IsSectionInOrder s = IfSome s.map HasTokensInOrder
 
@@ -54,7 +53,8 @@ RewriteAnswer options t answer = Then (FlatAnswer t) (λ m a. Rewrites options m
 abbrev pub SaysFlatLess : Removal → MapTree → MapValue → Type 0
 SaysFlatLess removal t m = (whole : MapValue) × (flat t ≡ Ok whole) × SaysFlat t whole × TokensMeanLess removal whole m
 
--- at every position, `m` has the meaning that the flat map has, without what is removed
+-- `t` can be flattened. At every position, `m` means the same as the flat map, except for the parts that
+-- `without_removed` removes
 abbrev pub MeansFlatLess : Removal → MapTree → MapValue → Type 0
 MeansFlatLess removal t m = (whole : MapValue) × (flat t ≡ Ok whole) × MeansLess removal whole m
 

@@ -1,4 +1,4 @@
-//! Copies of a map of any kind, of an index map and of a section.
+//! Copies maps of any kind, index maps, and sections.
 ghost use Rattle.std.specs.Prelude.{Ok, map, option_map, string_bytes};
 ghost use Rattle.sourcemap_errors.specs.Answer.{Gives};
 ghost use Rattle.sourcemap_index.specs.Family.{index_value, map_tree, section_value};

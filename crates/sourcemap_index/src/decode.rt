@@ -1,5 +1,5 @@
-//! Decodes JSON values, bytes, readers and data URLs to maps of any kind, and bytes and readers to
-//! index maps.
+//! Decodes JSON values, bytes, readers and data URLs to maps of any kind. Decodes bytes and readers
+//! to index maps.
 ghost use Rattle.std.specs.Prelude.{◌≡◌, ℕ, List, Err, IfErr, IfOk, IfSome, Result};
 ghost use Rattle.serde_json.specs.Data.{Data};
 ghost use Rattle.serde_json.specs.View.{view};
@@ -49,10 +49,11 @@ fn decode_owned(alloc: Global, bytes: Vec<u8>) -> Result<DecodedMap>
     decode_map(alloc, raw)
 }
 
-/// Decodes the JSON in these bytes to a map. A junk header before the JSON is skipped. The record,
-/// which is the JSON object of the map, is an index map if it has sections; its own scopes are then
-/// ignored. Without sections, it is a Hermes map if it has scopes of sources, otherwise a regular
-/// map. The sections of an index map are sorted by offset.
+/// Decodes the JSON in these bytes to a map. A junk header before the JSON is skipped. The JSON
+/// object of a map is called a record. A record with sections is an index map, and its own
+/// `x_facebook_sources` are ignored. A record without sections is a Hermes map if it has
+/// `x_facebook_sources`, otherwise a regular map. The sections of an index map are sorted by
+/// offset.
 ///
 /// The errors are, in this order: `Io` of kind `InvalidData` for an invalid header;
 /// `BadJson(Parse)` for bytes that are not JSON; `BadJson(Shape)` for JSON that is not a record.
@@ -139,9 +140,9 @@ fn index_in_owned(alloc: Global, bytes: Vec<u8>) -> Result<SourceMapIndex>
 }
 
 impl SourceMapIndex {
-    /// Decodes the JSON in these bytes to an index map, as `decode_slice` does and with its errors.
-    /// A record without sections is `IncompatibleSourceMap`, and then its other keys are not
-    /// decoded.
+    /// Decodes the JSON in these bytes to an index map. A record without sections is
+    /// `IncompatibleSourceMap`, and then its other keys are not decoded. In all other cases, the
+    /// index map or the error is the same as from `decode_slice`.
     pub fn from_slice(alloc: Global, bytes: &[u8]) -> Result<Self>
         ensures answer { IsAnswer index_value (BytesHaveResult IndexDecodes bytes.now) result }
         // Unless memory runs out, the bytes determine the result. Of an `Io` error, they determine

@@ -1,4 +1,5 @@
-//! Decodes a record to a map of any kind, section by section.
+//! Decodes a record to a map of any kind. The map in each section of an index map is decoded in the
+//! same way.
 ghost use Rattle.std.specs.Prelude.{◌≡◌, Ok, OnOk, IfErr, IfOk, map};
 ghost use Rattle.sourcemap_errors.specs.Answer.{IsAnswer, Gives};
 ghost use Rattle.sourcemap_errors.specs.declared.errors.Error.TheVariants.{OutOfMemory};

@@ -1,4 +1,4 @@
-//! The record that a map of any kind is written as, section by section.
+//! Encodes maps of any kind as records. Writes index maps as compact JSON text.
 ghost use Rattle.std.specs.Prelude.{◌≡◌, ℕ, List, Ok, IfSome, IfOk, IfErr, OnOk, map, option_map, string_bytes};
 ghost use Rattle.std.specs.List.{AllByRecursion};
 ghost use Rattle.sourcemap_errors.specs.Answer.{IsAnswer, Gives, UnlessMemory};
@@ -27,10 +27,11 @@ use std::io::Write;
 impl Encodable for DecodedMap {
     ghost encodes = { λ m. RecordAnswer (map_tree m) };
 
-    /// The record of the map. For a Hermes map it contains the scopes of the sources as they were
-    /// decoded. For an index map it contains version 3 and the sections, each with its offset, its
-    /// URL and the record of its map. If the index map has a file, a debug id, `x_facebook_offsets`
-    /// or `x_metro_module_paths`, the record contains them too. The only error is `OutOfMemory`.
+    /// The record of the map. The record of a Hermes map is the record of its regular map, with the
+    /// entries of scopes in `x_facebook_sources`. The record of an index map contains version 3 and
+    /// the sections, each with its offset, its URL and the record of its map; a missing URL or map
+    /// is `None`. If the index map has a file, a debug id, `x_facebook_offsets` or
+    /// `x_metro_module_paths`, the record contains them too. The only error is `OutOfMemory`.
     fn as_raw_sourcemap(&self) -> Result<RawSourceMap>
         ensures answer { IsAnswer tree (RecordAnswer (map_tree self.now)) result }
         ensures fine { IfOk result (λ r. IsFine (tree r)) }
@@ -59,8 +60,8 @@ impl Encodable for SourceMapIndex {
 }
 
 impl SourceMapIndex {
-    /// Returns the record that `as_raw_sourcemap` returns, but consumes the index map and moves all
-    /// texts, also those of sections. The only error is `OutOfMemory`.
+    /// The record that `as_raw_sourcemap` returns. Consumes the index map. Its texts, and the texts
+    /// of its sections and of their maps, are moved, not copied. The only error is `OutOfMemory`.
     pub fn into_raw_sourcemap(self) -> Result<RawSourceMap>
         ensures { IsAnswer tree (RecordAnswer (index_tree (index_value self))) result }
     {

@@ -1,4 +1,4 @@
-//! Equality of maps of any kind, of index maps and of sections, by all that they hold.
+//! Equality (`PartialEq`) of the types `DecodedMap`, `SourceMapIndex` and `SourceMapSection`.
 ghost use Rattle.std.specs.Prelude.{◌≡◌, map, nat_eq, option_map, string_bytes};
 ghost use Rattle.std.specs.Bool.{Decides};
 ghost use Rattle.std.specs.Ordering.{on};

@@ -1,5 +1,5 @@
-//! The types of a map of any kind, of an index map and of a section. Values of each type may
-//! contain values of the others.
+//! The mutually recursive types `DecodedMap` (a map of any kind), `SourceMapIndex` (an index map)
+//! and `SourceMapSection` (a section of an index map).
 use sourcemap_hermes::map::SourceMapHermes;
 use sourcemap_map_regular::map::SourceMap;
 use sourcemap_records::jsontypes::DebugId;

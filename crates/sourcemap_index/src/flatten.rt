@@ -63,12 +63,13 @@ impl SourceMapIndex {
             (RewriteAnswer options.now (index_tree (index_value self))) result }
         ensures tokens { IfOk result
             (SaysFlatLess (removal_of options.now) (index_tree (index_value self))) }
-        // At every position the result has the meaning that the flat map has, without what the
-        // options remove. This also holds if sections are out of order.
+        // At every position the result has the meaning of the flat map, except that the options
+        // can remove the name and a prefix of the source. The sections can be in any order.
         ensures means { IfOk result
             (MeansFlatLess (removal_of options.now) (index_tree (index_value self))) }
-        // If no section reaches into the next one, each position with a meaning in the index map
-        // has the same meaning in the result, without what the options remove.
+        // If no section reaches into the next one (`IsOrderly`), each position with a meaning in
+        // the index map has this meaning in the result, except that the options can remove the name
+        // and a prefix of the source.
         ensures meaning { IfOk result (λ m. IsOrderly (index_tree (index_value self))
             → AnswersLess (removal_of options.now) (index_tree (index_value self)) m) }
         // Suppose that the options keep names and cut no prefix, and that no section reaches into

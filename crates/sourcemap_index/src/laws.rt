@@ -63,8 +63,9 @@ pub fn encoded_texts_are_compact()
     ensures { (t : MapTree) (text : List ℕ) → IsEncoded (RecordAnswer t) text → IsTextOf t text }
 {}
 
-/// A law: if index maps are nested at most 40 levels deep, the JSON of the map has at most 127
-/// levels. Decoding rejects JSON text of more than 127 levels, with `BadJson(Parse)`.
+/// A law: a map of any kind is written as JSON of at most 127 levels if its index maps are nested
+/// at most 40 deep (`levels`). Decoding rejects JSON text of more than 127 levels with
+/// `BadJson(Parse)`.
 pub fn maps_of_forty_levels_are_shallow()
     ensures { (t : MapTree) → levels t ≤ 40 → IsShallow t }
 {}

@@ -104,8 +104,9 @@ impl DecodedMap {
         }
     }
 
-    // The token that `lookup_token` returns, found without tables of lines. This is faster if the
-    // map is one of many, such as the maps of the sections of an index map.
+    // The token that `lookup_token` returns, found without a table of lines. If lookups alternate
+    // between many maps, for example between the maps of sections, this search is usually faster
+    // than a search with the table.
     #[cycle(lookup)]
     fn closest_among_many(&self, line: u32, col: u32) -> Option<Token<'_>>
         ensures value { IsInOrder (map_tree self.now)

@@ -18,8 +18,9 @@ impl SourceMapIndex {
     /// `lookup_token` returns, and goes back over the tokens of one map only, the map of this
     /// token. `view` is a view of the generated text. The search reads `view` at the generated
     /// position of each token. This is the position in the token's map: no section offset is added
-    /// to it. `None` if the search finds no token, if the token that it finds has no name, or if
-    /// `minified_name` is no identifier. Allocates no memory.
+    /// to it. `None` if `lookup_token` returns `None`, if no two tokens match, if the first token
+    /// of the first match has no name, or if `minified_name` is no identifier. If the sections are
+    /// not sorted by offset at every depth, the result may be wrong. Allocates no memory.
     pub fn get_original_function_name(
         &self,
         line: u32,

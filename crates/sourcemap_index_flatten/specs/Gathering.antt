@@ -44,12 +44,12 @@ pub record IsPartOf (m : MapValue) (part : Part) : Type 0 where
   pub sources : entry_values part.sources.now ≡ source_entries m
   pub names : entry_values part.names.now ≡ name_entries m
 
--- exactly the pieces in `before` were added, and then `piece`. `piece` can be added to `before` without an error
+-- the pieces in `before` were added, then `piece`, and no others. `with_piece before piece` is not an error
 pub record GathersMore (before : List Piece) (piece : Piece) (g : Gathering) : Type 0 where
   pub gathered : Gathers (before ++ piece ∷ []) g
   pub due : with_piece before piece ≡ Ok (before ++ piece ∷ [])
 
--- `due` is an error and `e` gives its reason, or `e` is `OutOfMemory`
+-- `due` is `Err reason` and `e` is `CannotFlatten` with the text `reason`, unless `e` is `OutOfMemory`
 abbrev pub RefusesFor : Result (List Piece) (List ℕ) → Error → Type 0
 RefusesFor due e = UnlessMemory e ((reason : List ℕ) × (due ≡ Err reason) × GivesReason reason e)
 

@@ -1,4 +1,4 @@
--- Texts that are entered with contents, and the table of these texts.
+-- What a table contains after texts were entered. A text is entered with its contents or without contents.
 use Rattle.std.specs.Prelude.{◌≡◌, ◌≤◌, ℕ, Bool, ◌&&◌, cond, nat_lt, List, [], ◌∷◌, ◌++◌, length, map, slice_set, Option, Some, is_some, option_and_then}
 use Rattle.std.specs.Option.{option_copied}
 use Rattle.std.specs.Str.{bytes_eq}
@@ -50,7 +50,8 @@ pub record IsEntered (entered : List TextEntry) (text : List ℕ) (number : ℕ)
   pub table : IsTable entered t
   pub text_id : id_of text (texts_entered entered) ≡ Some number
 
--- `t` is the table after all of `entered` were entered, and `numbers` are the numbers of `entries` in it
+-- `t` is the table after all of `entered` were entered. For each of `entries`, `numbers` has the index of its text in
+-- `t`, or `NO_ID` if `t` does not contain the text
 pub record AreEntered (entered entries : List TextEntry) (numbers : List ℕ) (t : Table) : Type 0 where
   pub table : IsTable entered t
   pub each : numbers ≡ numbers_among entered entries

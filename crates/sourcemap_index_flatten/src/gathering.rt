@@ -66,9 +66,10 @@ impl<'a> Gathering<'a> {
     }
 
     /// Adds the map with these lists. Its tokens move down by `line`, and those on its first line
-    /// also move right by `col`. Returns `CannotFlatten` if there would then be more than
-    /// 4294967295 sources or names, or else if a token would move past line or column 4294967295.
-    /// The only other error is `OutOfMemory`. After an error, the contents of the gathering are
+    /// also move right by `col`. Returns `CannotFlatten` if the gathering would then have more than
+    /// 4294967295 distinct sources or more than 4294967295 distinct names. Otherwise, returns
+    /// `CannotFlatten` if a token would move past line 4294967295 or past column 4294967295. The
+    /// only other error is `OutOfMemory`. After an error, the contents of the gathering are
     /// unspecified.
     pub fn add(&mut self, alloc: Global, line: u32, col: u32, map: &MapLists<'a>) -> Result<()>
         ensures ok { (before : List Piece) (m : MapValue) → Gathers before self.old

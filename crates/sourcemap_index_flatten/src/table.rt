@@ -11,7 +11,7 @@ use sourcemap_interning::text_index::TextIndex;
 use sourcemap_source_views::sourceview::SourceView;
 use std::alloc::Global;
 
-// The largest number of ids.
+// A table has at most this many texts, so that their ids are less than `NO_ID`.
 const MOST: usize = 4294967295;
 
 // A source with its contents, if it has any; or a name, which has no contents.
@@ -98,8 +98,8 @@ fn is_full(ids: &TextIndex<'_>, text: &str) -> bool
     !ids.contains(text)
 }
 
-// Appends `item` if `number` is new. Otherwise, if `item` has contents, `item` replaces the entry
-// that has this number.
+// Appends `item` if `number` is not an index of `entries`. Otherwise `item` replaces the entry at
+// the index `number`, but only if `item` has contents.
 fn push_or_replace<'a>(entries: &mut Vec<Entry<'a>>, number: usize, item: Entry<'a>) -> Result<()>
     ensures ok { OnOk result (entry_values entries.new.items
         ≡ put_at number (entry_value item.entry) (entry_values entries.old.items)) }

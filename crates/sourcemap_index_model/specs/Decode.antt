@@ -15,13 +15,14 @@ use Rattle.sourcemap_index_model.specs.MapTree.{regular, hermes, IndexParts, Map
 abbrev pub Then : {X Y : Type 0} → (Result X Error → Type 0) → (X → Result Y Error → Type 0) → Result Y Error → Type 0
 Then First Next answer = ((x : _) × First (Ok x) × Next x answer) ⊎ IsErrAnd answer (λ e. First (Err e))
 
--- what a record without sections decodes to: a regular map, or a Hermes map if it has scopes of sources
+-- the result of decoding a record without sections. A record with scopes (`Some`) decodes to a Hermes map or an error
+-- (`EntriesDecode`). A record without scopes (`None`) decodes to a regular map or an error (`RecordDecodes`)
 abbrev pub LeafDecodes : Fields → Option (List ScopeEntry) → Result MapTree Error → Type 0
 LeafDecodes fields None answer = Then (RecordDecodes fields) (λ m a. a ≡ Ok (leaf (regular m))) answer
 LeafDecodes fields (Some entries) answer =
     Then (EntriesDecode fields entries) (λ h a. a ≡ Ok (leaf (hermes h))) answer
 
--- the parts of an index map besides its sections; other keys of its record are ignored
+-- the `IndexParts` decoded from the keys of a record. Keys without a field in `IndexParts` are ignored
 abbrev pub index_parts : Fields → IndexParts
 index_parts fields = record {
   file = option_map file_read fields.file;

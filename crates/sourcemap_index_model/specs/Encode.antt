@@ -28,7 +28,9 @@ index_fields parts = record {
   debug_id = parts.debug_id;
 }
 
--- the map is written as this record; `IsOf l r` means that the regular or Hermes map `l` is written as the record `r`
+-- the map is written as the record. A regular or Hermes map `l` is written as the record `r` if `IsOf l r` holds. An
+-- index map is written as the keys `index_fields` and its sections in order. A section is written as its head and the
+-- record of its map. A section without a map is written as its head
 abbrev mutual
   pub IsWrittenBy : (LeafMap → Tree → Type 0) → MapTree → Tree → Type 0
   IsWrittenBy IsOf (leaf l) r = IsOf l r

@@ -93,7 +93,9 @@ abbrev pub on_ok : {X Y E : Type 0} → Result X E → (X → Result Y E) → Re
 on_ok (Ok x) next = next x
 on_ok (Err e) next = Err e
 
--- the flattened map: the map of each section is flattened first; the first error is returned
+-- the flattened map, or the text of the first error. A map without sections flattens to its regular map (`held`). In an
+-- index map, the map of each section is flattened and then added at the section's offset (`with_piece`), section by
+-- section. A section without a map is an error (`unresolved`)
 abbrev mutual
   pub flat : MapTree → Result MapValue (List ℕ)
   flat (leaf l) = Ok (held l)

@@ -68,7 +68,8 @@ pub record IndexValue : Type 0 where
 abbrev pub index_tree : IndexValue → MapTree
 index_tree i = index i.parts (sections_from i.sections)
 
--- at every depth, `OfMap` holds of each map without sections, and `OfSections` of the sections of each index map
+-- `OfMap` holds for each map without sections, and `OfSections` holds for the sections of each index map. Both hold at
+-- every depth
 abbrev mutual
   pub AtEachLevel : (LeafMap → Type 0) → (MapSections → Type 0) → MapTree → Type 0
   AtEachLevel OfMap OfSections (leaf l) = OfMap l

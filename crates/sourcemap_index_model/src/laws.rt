@@ -50,9 +50,9 @@ pub fn flat_maps_say_the_flat_list()
     ensures { (t : MapTree) (m : MapValue) → HasTokensInOrder t → flat t ≡ Ok m → SaysFlat t m }
 {}
 
-/// A law: if no section reaches into the next one at any level (`IsOrderly`), and the tokens of
-/// each map are sorted, each position with a meaning in the map has the same meaning in the
-/// flattened map.
+/// A law: each position with a meaning in a map has the same meaning in the flattened map.
+/// Premises: flattening returns no error, no sections overlap at any level (`IsOrderly`), and the
+/// tokens of each regular map and each Hermes map are sorted.
 pub fn flat_maps_answer_alike()
     ensures { (t : MapTree) (m : MapValue) → HasTokensInOrder t → IsOrderly t → flat t ≡ Ok m
         → AnswersLike t m }

@@ -1,4 +1,5 @@
-// Index maps made of parts, and changes of one part.
+// Tests of index maps that are constructed, not decoded. The tests change `file` or one section, or
+// write an index map and read it back.
 use crate::answers::lists_text;
 use crate::checks::check;
 use crate::decoding::sections_text;
@@ -16,7 +17,7 @@ use std::alloc::Global;
 enum Change {
     Nothing,
     File,
-    // the URL of the section of this number
+    // the section of this number gets the URL `u`
     Url(u32),
     // the map of the section of this number is removed
     Map(u32),
@@ -106,7 +107,8 @@ fn has_debug_id(section: Option<&SourceMapSection>) -> bool {
     }
 }
 
-// Makes a change. If out of memory, the index must be unchanged, and the change is repeated.
+// Makes a change. If the error is `OutOfMemory`, checks that `index` still equals `before`,
+// then makes the change a second time. If the check fails, the error is `IncompatibleSourceMap`.
 fn apply_beside(
     alloc: Global,
     index: &mut SourceMapIndex,

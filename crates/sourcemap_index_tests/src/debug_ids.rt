@@ -1,4 +1,5 @@
-// Debug ids of index maps: read under either key, set, removed and written.
+// Tests of the debug id of an index map. They decode the id from `debugId` or `debug_id`, set it,
+// remove it and write it.
 use crate::changes::index_of_file;
 use crate::checks::check;
 use crate::maps::{map_of, value_text};

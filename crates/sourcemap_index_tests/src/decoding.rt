@@ -17,7 +17,8 @@ fn section_text(alloc: Global, section: &SourceMapSection) -> Result<String> {
     Ok(format!(in alloc; "{line}:{col} {:?} {held};", section.get_url())?)
 }
 
-/// The position, the URL and the kind of the map of each section.
+/// Returns a text with the offset, the URL and the kind of map (or `no map`) of each section. The
+/// error is `OutOfMemory`.
 pub fn sections_text(alloc: Global, index: &SourceMapIndex) -> Result<String> {
     let mut out = String::new(alloc);
     for section in index.sections() {
@@ -53,13 +54,15 @@ static TEXTS: [(&str, &str); 19] = [
         r#"{"sections":[{"offset":{"line":0,"column":0},"url":"u","map":{"mappings":"A"}}]}"#,
         r#"0:0 Some("u") a map;"#,
     ),
-    // Beside `sections`, the keys of regular maps and Hermes maps are ignored.
+    // A map with `sections` is an index map, even if it also has `x_facebook_sources` or invalid
+    // mappings. If `sections` is null, it counts as missing.
     (
         r#"{"sections":[],"x_facebook_sources":[],"mappings":"!"}"#,
         "",
     ),
     (r#"{"sections":null,"mappings":"A"}"#, "a regular map"),
-    // A map with `x_facebook_sources` is a Hermes map, in a section, too.
+    // A map that has `x_facebook_sources` but no `sections` is decoded as a Hermes map. The same
+    // holds for the map of a section. A null value counts as missing.
     (
         r#"{"x_facebook_sources":[],"mappings":"A"}"#,
         "a Hermes map",
@@ -85,7 +88,8 @@ static TEXTS: [(&str, &str); 19] = [
         r#"{"x_facebook_sources":[[{"names":["f"],"mappings":"!"}]],"mappings":"A"}"#,
         "a Hermes map",
     ),
-    // Of two errors the first one of the text is returned, whatever the order of the offsets.
+    // If two sections have invalid mappings, decoding returns the error of the section that comes
+    // first in the text, whatever the offsets are.
     (
         r#"{"sections":[{"offset":{"line":9,"column":0},"map":{"mappings":"!"}},{"offset":{"line":0,"column":0},"map":{"mappings":"AAAAAA"}}]}"#,
         "invalid base64 character: !",
@@ -142,7 +146,7 @@ fn index_text(alloc: Global, answer: Result<SourceMapIndex>) -> Result<String> {
     }
 }
 
-// A text, and the sections of its index map, or why it is no index map.
+// A text to decode as an index map. Then the text of the sections, or the text of the error.
 static INDEXES: [(&str, &str); 8] = [
     (
         r#"{"sections":[{"offset":{"line":3,"column":0},"url":"p"},{"offset":{"line":1,"column":2},"map":{"mappings":"A"}}]}"#,
@@ -183,7 +187,7 @@ fn indexes_alone_are_read(rt: HostRuntime) {
     }
 }
 
-// A data URL, and the sections of its index or its error.
+// A data URL. Then the text of the sections of its index map, or the text of the error.
 static URLS: [(&str, &str); 2] = [
     (
         "data:application/json;base64,eyJzZWN0aW9ucyI6W3sib2Zmc2V0Ijp7ImxpbmUiOjEsImNvbHVtbiI6Mn0sInVybCI6InUifV19",

@@ -1,4 +1,4 @@
-// Hermes maps among maps of any kind, on their own and in sections.
+// Tests of Hermes maps. A Hermes map is decoded on its own or as the map of a section.
 use crate::checks::check;
 use crate::debug_ids::id_text;
 use crate::maps::{map_of, value_text};

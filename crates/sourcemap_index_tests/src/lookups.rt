@@ -28,7 +28,7 @@ const EQUAL: &str =
 const LINKED: &str =
     r#"{"sections":[{"offset":{"line":0,"column":0},"map":{"sources":["a.js"],"mappings":"AAAA"}},{"offset":{"line":1,"column":0},"url":"u"},{"offset":{"line":2,"column":0},"map":{"sources":["c.js"],"mappings":";AAAA"}}]}"#;
 
-// An index in a section of another.
+// One section, whose map is an index map.
 const NESTED: &str =
     r#"{"sections":[{"offset":{"line":2,"column":3},"map":{"sections":[{"offset":{"line":1,"column":0},"map":{"sources":["a.js"],"mappings":"AAAA"}}]}}]}"#;
 

@@ -1,4 +1,4 @@
-// Decoding of maps from texts, and their encoded texts.
+// Decodes JSON text to maps, and prints records and JSON values as text.
 use serde_json::Value;
 use sourcemap::decoder::decode_slice;
 use sourcemap::errors::{Error, Result};
@@ -12,7 +12,8 @@ pub fn map_of(alloc: Global, text: &str) -> Result<Box<DecodedMap>> {
     box_result(alloc, decode_slice(alloc, text.as_bytes()))
 }
 
-/// The index of a text.
+/// The index map decoded from a text. The errors are those of `decode_slice`, and
+/// `IncompatibleSourceMap` if the text is a regular map or a Hermes map.
 pub fn index_of(alloc: Global, text: &str) -> Result<Box<SourceMapIndex>> {
     box_result(alloc, index_in(decode_slice(alloc, text.as_bytes())?))
 }
@@ -24,12 +25,14 @@ fn index_in(map: DecodedMap) -> Result<SourceMapIndex> {
     }
 }
 
-/// The text of a record, or its error.
+/// The JSON text of a record. Returns the error of `record` if there is one. The only other error
+/// is out of memory.
 pub fn record_text(alloc: Global, record: Result<RawSourceMap>) -> Result<String> {
     value_text(alloc, record?.into_value(alloc))
 }
 
-/// The text of a value, or its error.
+/// The JSON text of a value. If `value` is an error, returns the text of the error instead. Out of
+/// memory stays an error.
 pub fn value_text(alloc: Global, value: Result<Value>) -> Result<String> {
     match value {
         Ok(value) => Ok(value.to_string(alloc)?),

@@ -1,4 +1,4 @@
-// Nested index maps, made in memory and decoded.
+// Nested index maps. Some are constructed in memory, others are decoded from text or JSON values.
 use crate::checks::check;
 use crate::lookups::{flat_token_text, token_text};
 use crate::maps::map_of;
@@ -15,7 +15,7 @@ const OPENED: &str = r#"{"sections":[{"offset":{"line":0,"column":0},"map":"#;
 
 const CLOSED: &str = "}]}";
 
-// An index of one section, with this map.
+// An index map with one section. The section starts at 0:0 and contains `map`.
 fn wrap_map(alloc: Global, map: DecodedMap) -> Result<DecodedMap> {
     let mut sections = Vec::new(alloc);
     sections.push(SourceMapSection::new(alloc, (0, 0), None, Some(map))?)?;
@@ -88,7 +88,7 @@ fn flatten_nested(alloc: Global, depth: usize) -> Result<String> {
     again(|| flat_looked_up(alloc, &*map))
 }
 
-// The text of the token at 0:0 in a map that was made from another, and whether both are equal.
+// The text of the token at 0:0 of `made`, and whether `made` equals `map`.
 fn text_beside(alloc: Global, map: &DecodedMap, made: &DecodedMap) -> Result<String> {
     let token = token_text(alloc, made.lookup_token(0, 0))?;
     Ok(format!(in alloc; "{token} {}", *made == *map)?)

@@ -8,8 +8,8 @@ use sourcemap::types::{SourceMap, SourceMapIndex};
 use sourcemap_test_support::results::error_of;
 use std::alloc::Global;
 
-// `ONE` has one module, `xyz`, after the startup code `ab`. `CUT` lacks its last two bytes. In
-// `LINES` the module has two lines, `xy` and `z`.
+// `ONE` has one module, `xyz`, after the startup code `ab`. `CUT` is `ONE` without the last two
+// bytes. In `LINES` the module has two lines, `xy` and `z`.
 const ONE: &[u8] = b"\xe5\xd1\x0b\xfb\x01\0\0\0\x02\0\0\0\x02\0\0\0\x04\0\0\0abxyz\0";
 
 const CUT: &[u8] = b"\xe5\xd1\x0b\xfb\x01\0\0\0\x02\0\0\0\x02\0\0\0\x04\0\0\0abxy";

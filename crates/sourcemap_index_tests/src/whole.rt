@@ -92,7 +92,8 @@ static FLAT: [(&str, &str); 13] = [
         r#"{"sections":[{"offset":{"line":2,"column":3},"map":{"sections":[{"offset":{"line":1,"column":0},"map":{"sources":["a.js"],"mappings":"AAAA"}}]}}]}"#,
         r#"{"mappings":";;;AAAA","names":[],"sources":["a.js"],"version":3}"#,
     ),
-    // Of two errors the first is returned, which is that of a nested index map.
+    // Neither section can be flattened. The error returned is from the nested index map of the
+    // first section.
     (
         r#"{"sections":[{"offset":{"line":0,"column":0},"map":{"sections":[{"offset":{"line":0,"column":0},"url":"inner"}]}},{"offset":{"line":1,"column":0},"url":"outer"}]}"#,
         "cannot flatten the indexed sourcemap: Section has an unresolved sourcemap: inner",
@@ -161,7 +162,8 @@ static REWRITTEN: [(&str, bool, bool, &str); 6] = [
         false,
         r#"{"file":"f","mappings":";;IAAA;AAAA","names":[],"sources":["r/a.js"],"sourcesContent":["x"],"version":3}"#,
     ),
-    // The error of flattening comes before that of the options.
+    // The index map cannot be flattened, and the options are invalid. The error of flattening is
+    // returned.
     (
         LINKED,
         true,
@@ -210,8 +212,8 @@ const TWO_ROWS: &str =
 const FOUR_ROWS: &str =
     r#"{"sections":[{"offset":{"line":0,"column":0}},{"offset":{"line":10,"column":0}},{"offset":{"line":20,"column":0}},{"offset":{"line":4294967295,"column":0}}]}"#;
 
-// An index map, and by how many rows its sections move down. Then whether they can, and the
-// sections afterwards.
+// An index map, and the number of rows to move its sections down. Then whether the sections can
+// move, and the sections after the call.
 static MOVED: [(&str, u32, &str); 8] = [
     (TWO_ROWS, 0, "true 0:0 None no map;10:0 None no map;"),
     (
@@ -437,7 +439,7 @@ fn copies_are_equal(rt: HostRuntime) {
     }
 }
 
-// Whether copies of an index and of its first section equal what they were made of.
+// An index map and its first section are copied, and each copy is compared with its original.
 
 fn index_equals_copy(alloc: Global, index: &SourceMapIndex) -> Result<bool> {
     Ok(*box_result(alloc, index.clone())? == *index)

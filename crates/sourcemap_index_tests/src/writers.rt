@@ -19,7 +19,7 @@ static WRITTEN: [&str; 3] = [
     r#"{"sections":[{"map":null,"offset":{"column":4,"line":1},"url":"u"}],"sources":null,"version":3}"#,
 ];
 
-// No text of these tests has more bytes.
+// No text that these tests write has more than `LONGEST` bytes.
 const LONGEST: usize = 1 << 12;
 
 // The writer that a map is written to.
@@ -85,8 +85,8 @@ fn encode_buffered(alloc: Global, map: &DecodedMap, writer: &mut NarrowWriter) -
     encode(alloc, map, BufWriter::new(alloc, writer)?)
 }
 
-// A buffer that is dropped discards the error of its last write. So the writer allocates enough
-// memory first.
+// A dropped `BufWriter` writes its remaining bytes and ignores errors. `NarrowWriter` gets enough
+// memory beforehand, so these writes cannot run out of memory.
 fn by_buffer(alloc: Global, map: &DecodedMap, is_any: bool) -> Result<String> {
     let mut writer = NarrowWriter {
         held: Vec::with_capacity(alloc, LONGEST)?,

@@ -1,4 +1,5 @@
-// Whether bytes hold a map: in slices, and in readers that give one byte a read or fail.
+// Detection of source maps in slices and in readers. Each reader returns at most one byte per read.
+// Some readers are interrupted or fail.
 use crate::checks::check;
 use crate::headers::OneByOne;
 use sourcemap_errors::errors::{Error, Result};

@@ -1,5 +1,5 @@
-//! Tests of headers, data URLs, records, references and detection, by the public names of
-//! `sourcemap_json`.
+//! Tests of junk headers, data URLs, records, references and the detection of source maps. The
+//! tests call the public functions of `sourcemap_json`.
 #![tactic(auto)]
 
 #[cfg(test)]

@@ -9,8 +9,8 @@ fn read(alloc: Global, text: &str) -> Result<RawSourceMap> {
     RawSourceMap::from_owned(alloc, Value::from_str(alloc, text)?)
 }
 
-// Each text has one value of the wrong type, an invalid number or debug id, or lacks a required
-// key.
+// In each text a value has the wrong type, a number is not a `u32`, a debug id is invalid, or a
+// required key is missing.
 static WRONG_SHAPE: [&str; 15] = [
     r#"[]"#,
     r#"null"#,

@@ -20,8 +20,8 @@ static BYTES: [(&[u8], &str); 23] = [
     (b"\xff", "none"),
     (b"[1]\x80", "none"),
     (b"[1\x00]", "none"),
-    // Bytes past ASCII outside of strings; invalid bytes in a key, and in a value that a duplicate
-    // key replaces.
+    // Four texts have a non-ASCII character outside of strings. One text has an invalid byte in a
+    // key. One has an invalid byte in a value, and a duplicate key replaces this value.
     (b"\xef\xbb\xbf1", "none"),
     (b"[\xc2\xa01]", "none"),
     (b"[1,\xc3\xa9]", "none"),

@@ -1,4 +1,5 @@
-// Texts with a few bytes changed, which our reader must read as the kit's does.
+// JSON texts in which up to two bytes are overwritten. Our reader and the reader of the kit's
+// `serde_json` must return the same value for such a text, or both must fail.
 use crate::answers::{answer, kit_answer};
 use crate::checks::check;
 use serde_json::Result;

@@ -55,8 +55,8 @@ fn escapes_at_each_index_of_a_block_are_read(rt: HostRuntime) -> Result<()> {
     Ok(())
 }
 
-// Whole blocks are decoded only far enough from the end of the text. The lengths of `rest` are
-// around this distance.
+// The reader decodes blocks of 64 bytes only while more than 128 bytes of the text are left. The
+// test tries lengths of `rest` below and above this limit.
 #[test]
 fn escapes_before_each_length_of_rest_are_read(rt: HostRuntime) -> Result<()> {
     for (spelled, written) in SPELLED.iter() {

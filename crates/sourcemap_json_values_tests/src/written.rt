@@ -168,9 +168,10 @@ fn escapes_between_runs_of_each_length_are_written(rt: HostRuntime) -> Result<()
     Ok(())
 }
 
-// The writer tests a short string in blocks that may overlap. If no byte needs an escape, the
-// writer copies the string in the same blocks. So the test tries strings of each length up to 70:
-// with one byte that needs an escape, at each index in turn, and without such a byte.
+// The writer checks a short string block by block for bytes that need an escape. Blocks may
+// overlap. If no byte needs an escape, the writer copies the string in the same blocks. So the test
+// tries strings of each length up to 70: with one byte that needs an escape, at each index in turn,
+// and without such a byte.
 #[test]
 fn an_escape_at_each_index_of_a_short_string_is_written(rt: HostRuntime) -> Result<()> {
     for len in 0..71u8 {

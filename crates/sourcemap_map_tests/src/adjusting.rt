@@ -63,7 +63,8 @@ const TOGETHER: [Row; 2] = [
 ];
 
 // The map of a text of three lines, each of which was edited. Five columns were inserted at column
-// 4 of the first line. Columns 2 to 4 of the second line and 0 to 2 of the third were removed.
+// 4 of the first line. Columns 2, 3 and 4 of the second line were removed. Columns 0, 1 and 2 of
+// the third line were removed.
 const EDITED: [Row; 5] = [
     ((0, 0), (0, 0, 0), NONE, false),
     ((0, 9), (0, 0, 4), NONE, false),
@@ -352,10 +353,10 @@ fn adjusted_maps_have_these_tokens_and_no_others(rt: HostRuntime) {
     }
 }
 
-// Label. The tokens of the original map, then the tokens of the adjustment. The new position, then
-// the old position that the adjustment moves to it. The text of a token. A lookup of the new
-// position in the adjusted map must find a token with this text. So must a lookup of the old
-// position in the original map. A `+` at the end of the text marks a range token.
+// Label. The tokens of the original map, then the tokens of the adjustment. A new position, then an
+// old position. The adjustment moves the old position to the new position. The text of a token. A
+// lookup of the new position in the adjusted map must find a token with this text. So must a lookup
+// of the old position in the original map. A `+` at the end of the text marks a range token.
 static ALIKE: [(&str, [&[Row]; 2], [(u32, u32); 2], &str); 9] = [
     (
         "where a token was cut",

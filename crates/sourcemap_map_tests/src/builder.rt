@@ -7,7 +7,8 @@ use sourcemap::jsontypes::DebugId;
 use sourcemap::types::{RawToken, SourceMap};
 use std::alloc::Global;
 
-// A call of a builder. A comment names the call where the variant does not.
+// A call of a builder method. If the name of a variant does not suggest the method, a comment names
+// the method.
 #[derive(Clone, Copy)]
 enum Step<'a> {
     File(&'a str),
@@ -132,8 +133,8 @@ fn state(alloc: Global, builder: &SourceMapBuilder) -> Result<String> {
     Ok(out)
 }
 
-// Whether a failed step left the builder unchanged. `add` and `add_token` may have added the source
-// of the token.
+// Whether a failed step left the text of `state` unchanged. A failed `add` or `add_token` may have
+// appended to this text, because these calls can add the token's source and then fail.
 fn is_as_before(step: &Step<'_>, before: &str, after: &str) -> bool {
     match step {
         Step::Token(_, _, _, _) => after.starts_with(before),
@@ -392,7 +393,7 @@ fn sources_are_resolved_against_the_root(rt: HostRuntime) {
     );
 }
 
-// Label, prefixes, a source, and what is left of it.
+// Label, prefixes, a source, and the source after `strip_prefixes` was called with the prefixes.
 static PREFIXES: [(&str, &[&str], &str, &str); 9] = [
     ("with its slash", &["/a/"], "/a/x.js", "x.js"),
     ("no whole part", &["/a"], "/ab/x.js", "/ab/x.js"),

@@ -31,8 +31,9 @@ static CHANGES: [Change<'static>; 10] = [
     Change::NoNames,
 ];
 
-// For each of `CHANGES`, `+` if it changes the map, else `=`. The map has no debug id to remove.
-// The last `Ignore` adds id 3, which is already in the ignore list.
+// For each of `CHANGES`, `+` if it changes the map, else `=`. `NoDebugId` changes nothing, because
+// the map has no debug id. The last `Ignore` changes nothing, because id 3 is already in the ignore
+// list.
 const MARKS: &str = "+=++++++=+";
 
 fn make(map: &mut SourceMap, change: &Change<'_>) -> Result<()> {
@@ -177,7 +178,7 @@ fn lists_of(alloc: Global, map: Made) -> Result<String> {
     lists_text(alloc, &*map?)
 }
 
-// A `sourceRoot`, and the lists of the map once it is set.
+// A `sourceRoot`, and what `lists_of` returns for `mixed_map` with this `sourceRoot`.
 static ROOTS: [(&str, &str); 3] = [
     (
         "root",

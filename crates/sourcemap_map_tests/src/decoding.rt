@@ -11,7 +11,8 @@ use std::alloc::Global;
 const README: &str =
     r#"{"version":3,"sources":["coolstuff.js"],"names":["x","alert"],"mappings":"AAAA,GAAIA,GAAI,EACR,IAAIA,GAAK,EAAG,CACVC,MAAM"}"#;
 
-// Label, a text, and how many tokens its regular map has, or its error.
+// Label and a text to decode as a regular map. Then the number of tokens of the decoded map, or the
+// text of the decoding error.
 static REGULAR: [(&str, &str, &str); 7] = [
     ("the map of the documentation", README, "9"),
     (
@@ -84,7 +85,8 @@ fn regular_maps_are_read_alone(rt: HostRuntime) -> Result<()> {
     Ok(())
 }
 
-// Label, a text, and what its map prints for position 0:0, or its error.
+// Label and a text to decode. Then the text of the token closest to position 0:0 in the decoded
+// map, or the text of the decoding error.
 static ANY_KIND: [(&str, &str, &str); 5] = [
     ("the map of the documentation", README, "coolstuff.js:0:0"),
     (
@@ -186,7 +188,8 @@ fn of_two_debug_ids_the_newer_key_wins(rt: HostRuntime) {
 
 const WRITTEN: &str = r#"{"mappings":"A","names":[],"sources":[],"version":3}"#;
 
-// Label, a data URL, and what its map is written as, or its error.
+// Label and a data URL to decode. Then the JSON text that encodes the decoded map, or the text of
+// the decoding error.
 static URLS: [(&str, &str, &str); 3] = [
     (
         "no charset",

@@ -19,8 +19,8 @@ static README: [Lookup; 6] = [
     (u32::MAX, u32::MAX, "coolstuff.js:2:8"),
 ];
 
-// On its own line, a range token adds the distance in columns to the original column. On later
-// lines it adds nothing.
+// For a range token on the line of the position, the number of columns from the token to the
+// position is added to the original column. For a range token on an earlier line, nothing is added.
 static RANGED: [Lookup; 3] = [
     (0, 4, "coolstuff.js:0:0"),
     (0, 9, "coolstuff.js:0:9"),

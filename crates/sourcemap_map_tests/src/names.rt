@@ -52,8 +52,8 @@ fn map_of(alloc: Global, text: &str) -> Result<Box<DecodedMap>> {
     Ok(Box::new(alloc, map)?)
 }
 
-// A regular map in a box. Even without the box, the prover follows the drop of a `SourceMap` in one
-// step, because the `Drop` of `SourceMap` is written by hand.
+// A regular map in a box. The box saves the prover no steps. `SourceMap` has a hand-written `Drop`,
+// and the prover follows such a drop in one step.
 fn regular_of(alloc: Global, text: &str) -> Result<Box<SourceMap>> {
     let map = SourceMap::from_slice(alloc, text.as_bytes())?;
     Ok(Box::new(alloc, map)?)
@@ -146,8 +146,8 @@ fn each_kind_of_map_names_functions(rt: HostRuntime) {
     check(&rt, "hermes", name_by_kind(rt.alloc(), HERMES, (0, 7)), "f");
 }
 
-// A column, and the name of `b` at this column of the second line. Each column of that line, up to
-// this one, has a token without a source.
+// The column of the last token of the second line, and the name that a search for the function `b`
+// finds from this token. `with_second_line` makes the map.
 static FAR: [(u32, &str); 4] = [(0, "foo"), (99, "foo"), (125, "foo"), (126, "none")];
 
 // `MAP` with a second generated line. This line has one token at each column from 0 to `last`. None

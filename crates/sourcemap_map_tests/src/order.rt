@@ -1,4 +1,4 @@
-// Tokens in their order: compared, sought and printed.
+// Tests of tokens: `==` and `<`, `TokenIter::seek`, and printing.
 use crate::checks::check;
 use crate::samples::{Made, mixed_map};
 use sourcemap::errors::Result;

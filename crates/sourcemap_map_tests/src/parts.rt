@@ -78,8 +78,9 @@ fn far_lines_take_little_memory(rt: HostRuntime) {
     check(&rt, "a far line", far_text(rt.alloc()), want);
 }
 
-// What a writer holds at the end, and the error if there is one. The writer takes one byte a write,
-// and at most `left` bytes.
+// The text that `encode_in_parts` writes, followed by the text of its error, if any. Out of memory
+// is returned as an error. The writer takes one byte in each write, and at most `left` bytes in
+// total. `None` is no limit.
 fn held_text(alloc: Global, map: &SourceMap, left: Option<usize>) -> Result<String> {
     let mut writer = NarrowWriter {
         held: Vec::new(alloc),

@@ -64,7 +64,7 @@ const PATHS: &str = r#"{"mappings":"AAAA,CCAA","sources":["/a/b/x.js","/a/b/y.js
 
 const UNDER_ROOT: &str = r#"{"mappings":"AAAA","sourceRoot":"/r","sources":["x.js"]}"#;
 
-// Label, a map, the prefixes to be cut, and what it is written as.
+// Label, the JSON of a map, and the prefixes to remove. Then the JSON of the rewritten map.
 static CUT: [(&str, &str, &[&str], &str); 6] = [
     (
         "what the paths have in common",
@@ -119,7 +119,8 @@ fn prefixes_are_cut(rt: HostRuntime) {
 const TWO_NAMES: &str =
     r#"{"debug_id":"11111111-1111-1111-1111-111111111111","mappings":"ACAAA,CDAAC","names":["m","n"],"sources":["a.js","b.js"],"sourcesContent":["x","y"]}"#;
 
-// Label, a map, whether names and contents are kept, and what it is written as.
+// Label, the JSON of a map, and the options `with_names` and `with_source_contents`. Then the JSON
+// of the rewritten map.
 static LESS: [(&str, &str, (bool, bool), &str); 4] = [
     (
         "names go, and the debug id stays",

@@ -1,4 +1,4 @@
-// Maps made of parts, and their encoded texts.
+// Makes sample maps from tokens, names and sources. Writes maps, records and JSON values as text.
 ghost use Rattle.std.specs.Prelude.{◌≤◌, IfOk, vec_len};
 
 use serde_json::Value;
@@ -48,7 +48,7 @@ static MIXED: [Row; 4] = [
     ((1, 4), (NONE, NONE, NONE), NONE, false),
 ];
 
-// A range token, and a token before it. Neither has a source.
+// A range token, then a token with an earlier generated position. Neither has a source.
 static BARE: [Row; 2] = [
     ((1, 0), (NONE, NONE, NONE), NONE, true),
     ((0, 0), (NONE, NONE, NONE), NONE, false),
@@ -128,7 +128,8 @@ pub fn record_of(map: Made) -> Result<RawSourceMap> {
     map?.as_raw_sourcemap()
 }
 
-/// The text of a map, by the record that `into_raw_sourcemap` makes of it.
+/// The JSON text of the record that `into_raw_sourcemap` returns for the map. Returns the error of
+/// `map` if there is one. The only other error is out of memory.
 pub fn map_text(alloc: Global, map: Made) -> Result<String> {
     record_written(alloc, Box::into_inner(map?).into_raw_sourcemap())
 }

@@ -1,4 +1,4 @@
-//! Views: their lines, slices of them, copies, and how they are printed.
+//! Tests of source views: lines, slices of lines, copies, `Debug` text, and source map references.
 use crate::checks::check;
 use sourcemap::Result;
 use sourcemap::sourceview::SourceView;
@@ -25,7 +25,7 @@ static SLICES: [(&str, (u32, u32, u32), &str); 49] = [
     (SMILES, (0, 4, 1), "[]"),
     (SMILES, (0, 4, 2), "[d]"),
     (SMILES, (0, 5, 0), "[]"),
-    // At the end of the line, and after it.
+    // Slices that start or end at the end of the line, or one unit past the end.
     (SMILES, (0, 8, 0), "[]"),
     (SMILES, (0, 9, 0), "none"),
     (SMILES, (0, 5, 3), "[def]"),
@@ -41,7 +41,7 @@ static SLICES: [(&str, (u32, u32, u32), &str); 49] = [
     (MIXED, (0, 0, 1), "none"),
     (MIXED, (1, 0, 0), "[]"),
     (MIXED, (1, 1, 0), "none"),
-    // A character of two bytes and one unit, and pairs side by side.
+    // In this line, `é` has two UTF-8 bytes but one UTF-16 unit. Two surrogate pairs follow.
     (MIXED, (2, 0, 6), "[é👌👌x]"),
     (MIXED, (2, 0, 7), "none"),
     (MIXED, (2, 1, 1), "[👌]"),
@@ -56,7 +56,7 @@ static SLICES: [(&str, (u32, u32, u32), &str); 49] = [
     (MIXED, (4, 0, 0), "[]"),
     (MIXED, (4, 0, 1), "none"),
     (MIXED, (5, 0, 0), "none"),
-    // A pair alone.
+    // The text is one surrogate pair.
     ("👌", (0, 0, 1), "[👌]"),
     ("👌", (0, 1, 0), "[]"),
     ("👌", (0, 2, 0), "[]"),

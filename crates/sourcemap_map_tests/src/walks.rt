@@ -1,4 +1,4 @@
-//! Walks back along tokens, and the function names found by them.
+//! Tests of walks back along tokens: `rev_token_iter` and `get_original_function_name`.
 use crate::checks::check;
 use sourcemap::Result;
 use sourcemap::sourceview::{SourceView, WalkedToken};
@@ -80,7 +80,7 @@ static WALKS: [(&str, &[(u32, u32)], &str); 18] = [
     ),
     ("éa=b", &[(0, 3), (0, 1), (0, 0)], " [b] [a] [éa]"),
     ("", &[(0, 0)], " none"),
-    // Every column of a text, and the same column twice.
+    // Two walks visit every column of a text. The next walk visits two columns twice.
     (
         "a1b1",
         &[(0, 4), (0, 3), (0, 2), (0, 1), (0, 0)],
@@ -107,7 +107,8 @@ static WALKS: [(&str, &[(u32, u32)], &str); 18] = [
         &[(0, 2), (0, 1), (0, 0)],
         " [b] none [a\u{200c}b]",
     ),
-    // White space of one and of three bytes, before a word and at the end.
+    // One text has white space of one byte and of three bytes before a word. The next text ends
+    // with spaces.
     (
         "a \u{3000} b",
         &[(0, 5), (0, 4), (0, 3), (0, 2), (0, 1), (0, 0)],

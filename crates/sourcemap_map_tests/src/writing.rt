@@ -246,8 +246,8 @@ fn bytes_are_written_one_by_one(rt: HostRuntime) {
     }
 }
 
-// Writes a map to a writer that needs no more memory. If memory runs out, the writer must still be
-// empty, and the call is repeated.
+// Writes a map to a writer. The buffer of the writer has capacity for the whole text, so no write
+// allocates. If memory runs out, the writer must still be empty, and the call is repeated.
 fn encode_again<M: Encodable>(alloc: Global, map: &M, writer: &mut NarrowWriter) -> Result<String> {
     let mut outcome = encode_to(alloc, map, writer);
     if matches!(outcome, Err(Error::OutOfMemory)) {
@@ -284,7 +284,8 @@ fn nothing_is_written_without_memory(rt: HostRuntime) {
     }
 }
 
-/// What a writer holds if it fails after `most` characters of this text, and the error.
+/// The expected `outcome_text` if the writer takes `most` characters of this text and then fails
+/// with a broken pipe. The only error is out of memory.
 pub fn cut_writing(alloc: Global, text: &str, most: usize) -> Result<String> {
     let mut out = String::new(alloc);
     for letter in text.chars().take(most) {

@@ -31,8 +31,9 @@ impl Read for NarrowReader<'_> {
     }
 }
 
-/// Returns one byte a read and is interrupted before each. Fails with `kind` after `reads` reads
-/// that were not interrupted.
+/// A read returns `Interrupted` unless the read before it was interrupted. Any other read returns
+/// one byte, or none if `rest` or the buffer is empty. Once `reads` such reads have succeeded, each
+/// further one fails with `kind`.
 #[derive(Drop)]
 pub struct HaltingReader<'a> {
     /// The bytes not read yet.

@@ -36,7 +36,8 @@ fn slow(left: Option<usize>) -> NarrowReader<'static> {
     }
 }
 
-// Whether a run prints the error of a reader that fails after `left` bytes, with status 1.
+// Whether a run prints `broken pipe` and a newline, and ends with status 1. The reader of the map
+// fails after `left` bytes.
 fn is_refused(rt: &HostRuntime, words: &[String], left: usize) -> Result<bool, Fail> {
     let mut output = Vec::new(rt.alloc());
     let status = run(rt, rt.alloc(), words, &mut slow(Some(left)), &mut output)?;
@@ -72,10 +73,10 @@ fn a_reader_that_fails_is_not_decoded(rt: HostRuntime) -> Result<(), Fail> {
     Ok(())
 }
 
-// Whether a run prints `want` on a writer that takes one byte per write. More runs use writers that
-// fail after `left` calls of `write` and `flush`, for each `left` from 0 to `want.len()`. Each of
-// these runs must return `Io` and write exactly the first `left` bytes of `want`. The only error is
-// out of memory.
+// Whether a run prints `want` on a writer that takes one byte per write. Then, for each `left` from
+// 0 to `want.len()`, a run uses a writer that fails after `left` calls. Calls of `write` and of
+// `flush` both count. Each of these runs must return `Io` and write exactly the first `left` bytes
+// of `want`. The only error is out of memory.
 fn is_written(rt: &HostRuntime, words: &[String], want: &[u8]) -> Result<bool, Fail> {
     let mut output = narrow(rt, None);
     let status = run(rt, rt.alloc(), words, &mut slow(None), &mut output)?;
@@ -116,7 +117,8 @@ fn is_write_zero(error: &Error) -> bool {
     matches!(error, Error::Io(cause) if cause.kind() == ErrorKind::WriteZero)
 }
 
-// Whether a run fails on a writer that takes nothing after `left` bytes of `LOOKED_UP`.
+// Whether a run writes exactly the first `left` bytes of `LOOKED_UP` and then returns `Io` of kind
+// `WriteZero`. The writer takes only `left` bytes.
 fn is_cut_off(rt: &HostRuntime, words: &[String], left: usize) -> Result<bool, Fail> {
     let mut output = halting(rt, Some(left));
     let ended = run(rt, rt.alloc(), words, &mut slow(None), &mut output);
@@ -138,8 +140,9 @@ fn a_writer_that_takes_nothing_ends_the_run(rt: HostRuntime) -> Result<(), Fail>
     Ok(())
 }
 
-// Whether the report of an error is `want`. On each writer that accepts fewer bytes, the report
-// must fail after a prefix of `want`.
+// Whether `report_error` writes exactly `want`. For each `left` less than `want.len()`, a further
+// call uses a writer that accepts `left` bytes. This call must write exactly the first `left` bytes
+// of `want` and return an error.
 fn is_reported_as(rt: &HostRuntime, error: &Error, want: &[u8]) -> Result<bool, Fail> {
     let mut output = narrow(rt, None);
     report_error(error, &mut output)?;
@@ -167,8 +170,8 @@ fn errors_are_reported_unless_the_reader_is_gone(rt: HostRuntime) -> Result<(), 
 
 const FULL: &[u8] = b"no storage space\n";
 
-// Whether the report of an error is `want` on a writer that is interrupted before each byte and
-// takes nothing after `left` bytes.
+// Whether `report_error` writes exactly `want` to the writer `halting(rt, left)`. Returns the
+// errors of `report_error`.
 fn is_reported_when_interrupted(
     rt: &HostRuntime,
     error: &Error,
@@ -180,7 +183,8 @@ fn is_reported_when_interrupted(
     Ok(output.held.as_slice() == want)
 }
 
-// Whether the report of an error fails on a writer that takes nothing after `left` bytes of `FULL`.
+// Whether `report_error` writes exactly the first `left` bytes of `FULL` and then returns `Io` of
+// kind `WriteZero`. The writer takes only `left` bytes.
 fn is_report_cut_off(rt: &HostRuntime, error: &Error, left: usize) -> Result<bool, Fail> {
     let mut output = halting(rt, Some(left));
     match report_error(error, &mut output) {

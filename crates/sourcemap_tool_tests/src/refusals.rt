@@ -53,7 +53,7 @@ fn nested_text(alloc: Global, depth: usize) -> Result<String, Error> {
     Ok(format!(in alloc; "{head}{INNERMOST}{tail}")?)
 }
 
-// The depth of nested index maps, words, the status and the output of the run.
+// A depth for `nested_text`, then the words, the status and the output of a run.
 static NESTED: [(usize, &str, u8, &str); 4] = [
     (20, "lookup 0 0", 0, "a.js:0:0\n"),
     (20, "flatten", 0, FLAT),
@@ -126,8 +126,8 @@ fn failing_reads_are_reported(rt: HostRuntime) -> Result<(), Fail> {
     Ok(())
 }
 
-// A label, and the words of the run. For the file: its bytes, after how many of them a read fails,
-// the kind of the error, and whether opening fails already. Then the status and output of the run.
+// A label and the words of the run. The next four values are `bytes`, `left`, `kind` and
+// `fails_on_open` of `FakeFiles`. The last value is the status and the output of the run.
 type Row = (
     &'static str,
     &'static str,

@@ -22,7 +22,7 @@ without_empty_last (part ∷ next ∷ parts) = part ∷ without_empty_last (next
 abbrev pub lines_of : List ℕ → List (List ℕ)
 lines_of text = without_empty_last (slice_split is_newline text)
 
--- whether a text is one or more ASCII digits of a number below 2^32; leading zeros are allowed
+-- whether a text consists of one or more ASCII digits and its value is below 2^32; leading zeros are allowed
 abbrev pub is_number : List ℕ → Bool
 is_number text =
     nat_lt 0 (length text) && (list_all is_ascii_digit text && nat_le (digits_value 10 text) 4294967295)

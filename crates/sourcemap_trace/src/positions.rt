@@ -16,8 +16,8 @@ fn without_first(lines: &[u8]) -> &[u8]
 }
 
 // The number before the first byte `mark`, and the bytes after that byte. Without such a byte, all
-// bytes belong to the number. `None` if there is no number, or if it is above 4294967295. In the
-// latter case further digits are not read.
+// bytes belong to the number. `None` if there is no number, or if it is above 4294967295. The loop
+// returns as soon as `value` exceeds this limit, so `value` cannot overflow.
 fn number_before(bytes: &[u8], mark: u8) -> Option<(u32, &[u8])>
     ensures number { option_map (λ found. found.0) result
         ≡ number_of (before_first (λ byte. byte == mark) bytes.now) }

@@ -94,9 +94,10 @@ pub fn maps_read_back_answer_alike()
     answers_are_determined();
 }
 
-/// A law: the flat map of an orderly index map answers each line as the index map does, except
-/// lines to which the index map answers `none`. `SourceMapIndex::flatten` promises `AnswersLike`
-/// for an orderly index map.
+/// A law: if `AnswersLike t m` holds, `t` and `m` give the same answer to each line of a list of
+/// positions, unless the answer of `t` is `none`. `SourceMapIndex::flatten` promises `AnswersLike`
+/// for an index map and its flat map, if no section reaches into the next one at any level
+/// (`IsOrderly`).
 pub fn flat_maps_answer_alike()
     ensures { (t : MapTree) (m : MapValue) (line : List ℕ) → AnswersLike t m
         → answer_to (meaning t) line ≢ codes "none"

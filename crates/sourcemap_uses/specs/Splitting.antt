@@ -25,7 +25,8 @@ first_text p [] = Ok []
 first_text p (Ok parts ∷ _) = Ok (printed (meaning parts.map p))
 first_text p (Err e ∷ _) = Err e
 
--- `answer` is the error of splitting the bundle, or the `first_text` for `p` and the items of the split bundle
+-- `answer` is the error that `Splits` gives if the bundle cannot be split. If the bundle can be split, `answer` is
+-- `first_text p items`, where `items` are the items of the split bundle
 abbrev pub TracesFirst : IndexValue → List (Result ModuleValue Error) → ℕ × ℕ → Result (List ℕ) Error → Type 0
 TracesFirst i modules p answer = Then (Splits i modules) (λ split a. a ≡ first_text p (dues_in split)) answer
 

@@ -44,8 +44,9 @@ pub struct OriginalPosition {
 /// - `map` is well-formed.
 /// - No two tokens of `map` have the same generated position.
 /// - A lookup of `p` in `map` finds a token on the line of `p`.
-/// - Take the tokens of the adjusted map whose generated position is at or after the moved start of
-///   this stretch, and at or before `line`, `col`. All of them come from this stretch.
+/// - Let `s` be the position to which the start of this stretch moves. All tokens of the adjusted
+///   map with a generated position from `s` to `line`, `col` (both included) come from this
+///   stretch.
 pub fn lookup_adjusted(
     alloc: Global,
     mut map: SourceMap,

@@ -7,8 +7,8 @@ ghost use Rattle.sourcemap_uses.specs.DataUrls.{InlineAnswer};
 use sourcemap::{DecodedMap, Error, Result, decode_data_url};
 use std::alloc::Global;
 
-/// Decodes a reference that is a data URL of a map. Returns `None` for any other text, such as the
-/// path of a file. Returns the errors of `decode_slice` for the payload.
+/// Decodes a reference that is a valid data URL (see `data_url_bytes`). Returns `None` for any
+/// other text, such as the path of a file. Returns the errors of `decode_slice` for the payload.
 pub fn inline_map(alloc: Global, reference: &str) -> Result<Option<DecodedMap>>
     ensures { IsAnswer (option_map map_tree) (InlineAnswer reference.now) result }
 {

@@ -44,10 +44,10 @@ fn name_at(alloc: Global, map: &SourceMapHermes, offset: u32) -> Result<Option<S
     }
 }
 
-/// Returns a copy that is rewritten with default options: without unused sources and names. If the
-/// regular map in `map` is well-formed, and no two sources resolve to the same text, then each
-/// token keeps its scope, and each bytecode offset its function name. The only error is
-/// `OutOfMemory`.
+/// Returns a copy that is rewritten with default options: without unused sources and names. The
+/// copy has the same scope for each token, and the same function name for each bytecode offset, if
+/// the regular map in `map` is well-formed and no two of its sources resolve to the same text. The
+/// only error is `OutOfMemory`.
 pub fn shrink_copy<F: Files>(rt: &F, map: &SourceMapHermes) -> Result<SourceMapHermes>
     ensures value { Gives hermes_value result (Ok (rewritten no_removal (hermes_value map.now))) }
     ensures scopes { IsWellFormed (hermes_value map.now).map

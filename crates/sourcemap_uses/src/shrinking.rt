@@ -31,8 +31,9 @@ pub fn shrink<F: Files>(rt: &F, map: SourceMap) -> Result<SourceMap>
     map.rewrite(rt, &RewriteOptions::default())
 }
 
-/// Shrinks a map and looks up a position in the shrunk map. The result is what `map` gives for the
-/// position: `None` if no token is at or before the position. The only error is `OutOfMemory`.
+/// Shrinks a map and looks up a position in the shrunk map. Returns the same original position as a
+/// lookup in `map`, or `None` if no token is at or before the position. The only error is
+/// `OutOfMemory`.
 pub fn lookup_once_shrunk<F: Files>(
     rt: &F,
     alloc: Global,

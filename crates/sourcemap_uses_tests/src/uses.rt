@@ -173,7 +173,7 @@ fn a_hermes_map_is_shrunk(rt: HostRuntime) -> std::result::Result<(), Fail> {
     Ok(())
 }
 
-// Maps line 3 of a later text to column 18 of the generated text of `MAP`.
+// Maps position 3:0 of a later text to position 0:18 of the generated text of `MAP`.
 const LATER: &str = r#"{"version":3,"sources":["mid.js"],"mappings":";;;AAAkB"}"#;
 
 // A map with one range token. `RANGED_LATER` maps column 2 of a later text to column 10 of the
@@ -182,9 +182,10 @@ const RANGED: &str = r#"{"sources":["a.js"],"mappings":"AAAO","rangeMappings":"B
 
 const RANGED_LATER: &str = r#"{"sources":["t.js"],"mappings":"EAAU"}"#;
 
-// A map, an adjustment, a position of the later text, and its original position. `LATER` maps 3:0
-// and 3:1 to 0:18 and 0:19 of `MAP`. `RANGED_LATER` maps 0:5 to 0:13 of `RANGED`. Positions before
-// the first mapped position have no original position.
+// A map, an adjustment, a position of the later text, and its original position. `LATER` moves the
+// generated positions 0:18 and 0:19 of `MAP` to 3:0 and 3:1. `RANGED_LATER` moves the generated
+// position 0:13 of `RANGED` to 0:5. Positions before the first mapped position have no original
+// position.
 static ADJUSTED_LOOKUPS: [(&str, &str, (u32, u32), &str); 5] = [
     (
         MAP,
@@ -395,8 +396,8 @@ static KEPT: [(&str, u32, u32, bool); 9] = [
     (MIXED, 0, 9, false),
     (ONE_SOURCE, 0, 9, false),
     (ONE_NAMED, 0, 9, false),
-    // true at 0:9 and 3:7, since the index map has no token for them; at 3:7 the flattened map has
-    // one, of the first section. At 4:0 both maps return the token of b.js.
+    // The index map has no token for 0:9 or 3:7, so both results are true. For 3:7, the flattened
+    // map returns the token of a.js. For 4:0, both maps return the token of b.js.
     (LATE, 0, 9, true),
     (LATE, 3, 7, true),
     (LATE, 4, 0, true),
