@@ -7,16 +7,18 @@
 ** Lines and columns count from 0. Columns count UTF-16 units. Texts are UTF-8
 ** bytes with a length; none ends with a zero byte unless this page says so.
 **
-** A handle is a small struct in the caller's memory. It begins as zeros
-** (SM_EMPTY), which hold nothing. A call that fills a handle drops what the handle
-** held before. A handle owns the memory of what it holds until another call fills or
-** empties it, or sm_close() closes it. Never copy a handle: pass its address.
+** A handle is a small struct in the caller's memory. The caller sets a new handle
+** to zeros (SM_EMPTY). A handle of zeros holds nothing. A call that fills a handle
+** drops what the handle held before. A handle owns the memory of what it holds until
+** another call fills or empties it, or sm_close() closes it. Never copy a handle: pass
+** its address.
 **
 ** Most calls return a code: SM_OK, or why they failed. A call that takes an
 ** sm_error also writes the code, the numbers and the printed text of the error
 ** there. On success the sm_error is as it was. A call that takes an sm_error may
 ** fail with SM_OUT_OF_MEMORY; no other call does. If several errors apply, a call
-** returns one of them. It is unspecified which, unless its comment says so.
+** returns one of them. Which one is unspecified, unless the comment of the call says
+** which.
 **
 ** A call that fails writes nothing but its sm_error, and leaves each handle as it
 ** was. So the same call may be made again after SM_OUT_OF_MEMORY. There are three
@@ -32,12 +34,12 @@
 **
 ** WHAT THE CALLER OWES
 **
-** The calls are proved for arguments that are what their types say:
+** The proofs hold only if the caller keeps these rules:
 **
 **   - A pointer is not null, even if the length beside it is 0. It points to as
 **     many initialised values as the length says, or to one if there is no length.
-**     This holds for what the call writes too. Before the first call that writes
-**     it, an sm_text is SM_TEXT_EMPTY, and any other struct is zeros.
+**     Both rules also hold for memory that a call only writes. Such an sm_text
+**     begins as SM_TEXT_EMPTY, and any other such struct as zeros.
 **   - What two arguments of one call point to does not overlap.
 **   - A handle is used by one call at a time. It may be handed to another
 **     thread, with the synchronisation that the platform asks for. Two handles are
@@ -58,19 +60,22 @@
 extern "C" {
 #endif
 
-/* SM_VERSION is the release of the Rust crate whose names and answers this library
-** has. SM_INTERFACE is the version of this interface: sm_interface() returns that of
-** the linked library. */
+/* SM_VERSION is a release of the Rust crate `sourcemap`. Names and answers of this
+** library follow that release, except for the differences in docs/DIFFERENCES.md.
+** SM_INTERFACE is the version of this interface: sm_interface() returns that of the
+** linked library. */
 #define SM_VERSION "9.3.2"
 #define SM_INTERFACE 1u
 
-/* The id that names nothing, and the line or column of no original position. */
+/* SM_NONE is the id of no source and of no name. In a map that was opened, SM_NONE is
+** also the original line and column of a token without a source. In a list of the
+** lines of modules, SM_NONE stands for a number without a module. */
 #define SM_NONE UINT32_MAX
 
 /*
 ** CODES
 **
-** A code is one of these. Those from 32 on are of this interface alone.
+** A code is one of these. The codes from 32 on exist only in this C interface.
 */
 typedef uint32_t sm_code;
 
@@ -97,7 +102,7 @@ typedef uint32_t sm_code;
 #define SM_OUT_OF_MEMORY 20u        /* memory ran out */
 
 #define SM_ABSENT 32u               /* there is none: no token, text, id or module */
-#define SM_WRONG_KIND 33u           /* the handle is empty, or what it holds has no such call */
+#define SM_WRONG_KIND 33u           /* the handle is empty, or holds something that the call does not take */
 #define SM_PAST_LIMIT 34u           /* a line would pass 4294967295 */
 
 /* What a handle holds, as sm_kind() returns it. */
@@ -251,18 +256,21 @@ sm_code sm_open_url(sm_map *map, const uint8_t *url, size_t length, sm_error *er
 ** by the other. Returns SM_OK, or SM_WRONG_KIND if `map` holds no map. */
 sm_code sm_share(sm_map *map, sm_map *other, sm_error *error);
 
-/* Writes to `answer` whether the bytes hold a source map. Looks only at `version`, and
-** at which keys of the JSON value are there and not null; so sm_open() may still refuse
-** the bytes. Returns SM_OK, also if the bytes hold no source map: then `answer` is
-** false. No error but SM_OUT_OF_MEMORY. */
+/* Writes to `answer` whether the bytes hold a source map. The call checks that the
+** bytes hold a JSON object, and which of its keys are present and not null. The only
+** value that the call checks is `version`: null, or a whole number below 2^32. So
+** sm_open() may still refuse the bytes. Returns SM_OK, also if the bytes hold no source
+** map: then `answer` is false. No error but SM_OUT_OF_MEMORY. */
 sm_code sm_is_source_map(const uint8_t *bytes, size_t length, bool *answer, sm_error *error);
 
 /* Writes to `answer` whether both maps are of one kind and equal in all that they
 ** hold. Sources are compared as the maps have them, before they are resolved. The
-** order of each list counts. So does the length of the list of contents, although
-** maps that differ only in this length are written alike.
+** order of each list counts. The length of the list of contents counts too. Maps that
+** differ only in nulls at the end of this list are not equal, but sm_write() writes
+** the same text for both.
 ** SM_WRONG_KIND if one of the handles holds no map; then `answer` is as it was.
-** Allocates nothing. Pass two different handles; a map equals itself. */
+** Allocates nothing. `map` and `other` must be different handles. A map always equals
+** itself. */
 sm_code sm_equal(sm_map *map, sm_map *other, bool *answer);
 
 /* Fills `regular` with a copy of the regular map in a Hermes map, without the
@@ -316,35 +324,37 @@ sm_code sm_name(sm_map *map, uint32_t id, sm_text *text);
 ** handle holds no map. A map may have contents past its last source. */
 sm_code sm_contents(sm_map *map, uint32_t id, sm_text *text);
 
-/* Writes the ids of the ignore list, in rising order, from index `first` of this list
-** on, as many as there are and fit. Returns how many it wrote: 0 of an index map, and
-** of a handle without a map. An id may name no source. The rest of `ids` is as it
-** was. */
+/* Writes the ids of the ignore list to `ids`, in rising order, from index `first` of
+** the list on. The call stops at the end of the list or of `ids`. Returns how many it
+** wrote: 0 of an index map, and of a handle without a map. An id may name no source.
+** The rest of `ids` is as it was. */
 size_t sm_ignore_list(sm_map *map, uint32_t first, uint32_t *ids, size_t length);
 
-/* Writes the tokens of a map in order, from token `first` on, as many as there
-** are and fit. Returns how many it wrote: 0 of an index map, and of a handle without
-** a map. The rest of `tokens` is as it was. */
+/* Writes the tokens of a map to `tokens`, in the order of their generated positions,
+** from index `first` on. The call stops after the last token of the map or at the end
+** of `tokens`. Returns how many it wrote: 0 of an index map, and of a handle without a
+** map. The rest of `tokens` is as it was. */
 size_t sm_tokens(sm_map *map, uint32_t first, sm_token *tokens, size_t length);
 
-/* Fills `text` with the text of a token, by its number among the tokens of a map:
-** SOURCE:LINE:COLUMN of its original position, and ` name=NAME` if it has a name.
+/* Fills `text` with the text of the token at index `index` of the map. The text is the
+** original position as SOURCE:LINE:COLUMN, and ` name=NAME` if the token has a name.
 ** SOURCE is resolved against `sourceRoot`, and `<unknown>` if the token has none. An
 ** id that names nothing counts as none. Allocates the text, and may return
 ** SM_OUT_OF_MEMORY. Returns SM_OK; SM_ABSENT if there is no such token; SM_WRONG_KIND
 ** of an index map, and if the handle holds no map. sm_bytes_text() reads the text. */
 sm_code sm_token_text(sm_map *map, uint32_t index, sm_bytes *text, sm_error *error);
 
-/* Of the index map of a RAM bundle: writes a line for each module number from `first`
-** on, as many as there are and fit. It is the generated line at which the module
-** begins, or SM_NONE if no module has the number. Writes to `written` how many lines
-** it wrote. SM_ABSENT if the map has no list of these lines, SM_WRONG_KIND if the
-** handle holds no index map; then nothing is written. */
+/* For the index map of a RAM bundle: writes to `offsets` a line for each module number
+** from `first` on. The line is the generated line at which the module begins, or
+** SM_NONE if no module has the number. The call stops at the end of the map's list of
+** these lines, or at the end of `offsets`. Writes to `written` how many lines it wrote.
+** SM_ABSENT if the map has no list of these lines, SM_WRONG_KIND if the handle holds no
+** index map; then nothing is written. */
 sm_code sm_module_offsets(sm_map *map, uint32_t first, uint32_t *offsets, size_t length, size_t *written);
 
 /* Of the index map of a RAM bundle: the path of a module. The text is borrowed from
-** `map`. SM_ABSENT if the map has no such list or no such module, SM_WRONG_KIND if
-** the handle holds no index map. */
+** `map`. SM_ABSENT if the map has no list of paths, or this list has no item `id`.
+** SM_WRONG_KIND if the handle holds no index map. */
 sm_code sm_module_path(sm_map *map, uint32_t id, sm_text *text);
 
 /*
@@ -373,11 +383,11 @@ size_t sm_lookup_many(sm_map *map, const sm_position *positions, size_t count, s
 
 /* Writes the closest token, as sm_lookup() does, and to `until` the generated
 ** position of the token after it, or line and column 4294967295 if no token follows.
-** The span begins at the position looked up, and ends before `until`. The same token
-** is closest to all its positions, so a caller who looks up positions in order may
-** keep the token within the span. Only the `original_column` of a range token differs
-** from position to position. If several tokens stand at the position looked up,
-** `until` is that position, and the span is empty.
+** The span begins at the position looked up, and ends before `until`. One token is the
+** closest to every position of the span. So a caller who looks up positions in order
+** may keep this token until the span ends. Only the `original_column` of a range token
+** differs from position to position. If several tokens stand at the position looked
+** up, `until` is that position, and the span is empty.
 ** SM_ABSENT if there is no token; SM_WRONG_KIND of an index map, and if the handle
 ** holds no map. Then `found` and `until` are as they were. Allocates nothing. */
 sm_code sm_lookup_span(sm_map *map, uint32_t line, uint32_t column, sm_found *found, sm_position *until);
@@ -388,9 +398,10 @@ sm_code sm_lookup_span(sm_map *map, uint32_t line, uint32_t column, sm_found *fo
 ** `index` is as it was. Allocates nothing. */
 sm_code sm_lookup_index(sm_map *map, uint32_t line, uint32_t column, uint32_t *index);
 
-/* The source of the closest token, resolved against `sourceRoot`, of a map of any
-** kind. The text is borrowed from `map`. SM_ABSENT if there is no token, or it has
-** no source; SM_WRONG_KIND if the handle holds no map. Then `text` is as it was. */
+/* The source of the closest token. The source is resolved against the `sourceRoot` of
+** the token's map. `map` may be of any kind. The text is borrowed from `map`.
+** SM_ABSENT if there is no token, or it has no source; SM_WRONG_KIND if the handle
+** holds no map. Then `text` is as it was. */
 sm_code sm_lookup_source(sm_map *map, uint32_t line, uint32_t column, sm_text *text);
 
 /* The name of the closest token, of a map of any kind. The text is borrowed from
@@ -398,9 +409,9 @@ sm_code sm_lookup_source(sm_map *map, uint32_t line, uint32_t column, sm_text *t
 ** handle holds no map. Then `text` is as it was. */
 sm_code sm_lookup_name(sm_map *map, uint32_t line, uint32_t column, sm_text *text);
 
-/* Fills `text` with the text of the closest token, of a map of any kind, as
-** sm_token_text() prints one. The column of a range token is the `original_column`
-** that sm_lookup() writes. Returns SM_OK; SM_ABSENT if there is no token;
+/* Fills `text` with the text of the closest token, in the form that sm_token_text()
+** writes. `map` may be of any kind. COLUMN is the `original_column` that sm_lookup()
+** writes, also for a range token. Returns SM_OK; SM_ABSENT if there is no token;
 ** SM_WRONG_KIND if the handle holds no map. sm_bytes_text() reads the text. */
 sm_code sm_lookup_text(sm_map *map, uint32_t line, uint32_t column, sm_bytes *text, sm_error *error);
 
@@ -419,18 +430,19 @@ sm_code sm_trace(sm_map *map, const uint8_t *positions, size_t length, sm_bytes 
 ** neither `minified` nor `view`. If the functions of the source that the position
 ** leads to are not in order, the name is unspecified.
 ** For other maps the name is guessed from the tokens, the generated text in `view`, and
-** the minified name of the function. In an index map only the tokens of the map with
-** the closest token are used, also if that is a Hermes map.
-** SM_WRONG_KIND if `map` holds no map, or if it holds a regular map or an index map
-** and `view` holds no view. SM_UTF8 if the name is to be guessed and `minified` is not
-** UTF-8. */
+** the minified name of the function. In an index map the name is guessed from the
+** tokens of one map: the map that contains the closest token. The name is guessed even
+** if that map is a Hermes map.
+** SM_WRONG_KIND if `map` holds no map, or if `view` holds no view and the map is not a
+** Hermes map. SM_UTF8 if the name is to be guessed and `minified` is not UTF-8. */
 sm_code sm_function_name(sm_map *map, uint32_t line, uint32_t column, const uint8_t *minified, size_t length,
                          sm_view *view, sm_text *text);
 
-/* The name of the function at an offset of the bytecode, of a Hermes map. The offset is
-** a generated column of line 0. The text is borrowed from `map`. SM_ABSENT if there is
-** no name; SM_WRONG_KIND if the handle holds no Hermes map. If the functions of the
-** source that the offset leads to are not in order, the name is unspecified. */
+/* Writes to `text` the function name that a Hermes map has for an offset of the
+** bytecode. The offset is a generated column of line 0. The text is borrowed from
+** `map`. SM_ABSENT if there is no name; SM_WRONG_KIND if the handle holds no Hermes
+** map. If the functions of the source that the offset leads to are not in order, the
+** name is unspecified. */
 sm_code sm_hermes_function_name(sm_map *map, uint32_t offset, sm_text *text);
 
 /*
@@ -446,15 +458,16 @@ sm_code sm_hermes_function_name(sm_map *map, uint32_t offset, sm_text *text);
 ** and the contents of these sources. The sources are resolved against `sourceRoot`.
 ** Then the root is removed, and so is the ignore list. Removes the names if
 ** `with_names` is false, the contents if `with_contents` is false. Cuts from each
-** source the first of the `count` texts in `prefixes` that it begins with; a `/` is
-** added to a prefix that does not end with one. The prefix `~` is tried last. It means
-** the longest path of whole parts with which each source that is an absolute path
-** begins. For this the sources are taken as the map has them, before they are resolved.
-** If only one source is an absolute path, this path is the whole source. If the path
-** is empty or `/`, `~` cuts nothing. A Hermes map keeps its scopes. If several sources
-** resolve to one text, it keeps those of the source that a token uses first. SM_UTF8
-** if a prefix is not UTF-8; SM_WRONG_KIND of an index map, and if the handle holds no
-** map. */
+** source the first of the `count` texts in `prefixes` with which the source begins.
+** Before that, a `/` is added to each prefix that does not end with `/`. The prefix `~`
+** is tried last. It stands for the common path of the sources that are absolute paths:
+** the longest path of whole parts with which each of these sources begins. These are
+** the sources before they are resolved, also the unused ones. If only one source is an
+** absolute path, the common path is this whole source. If the common path is empty or
+** `/`, `~` cuts nothing. A Hermes map keeps its scopes. If several sources resolve to
+** one text, only one of them keeps its scopes: the source of the first token that uses
+** one of these sources. SM_UTF8 if a prefix is not UTF-8; SM_WRONG_KIND of an index
+** map, and if the handle holds no map. */
 sm_code sm_rewrite(sm_map *map, bool with_names, bool with_contents, const sm_text *prefixes, size_t count,
                    sm_error *error);
 
@@ -488,17 +501,17 @@ sm_code sm_shift(sm_map *map, uint32_t lines, sm_error *error);
 sm_code sm_set_file(sm_map *map, bool present, const uint8_t *text, size_t length, sm_error *error);
 
 /* Sets or removes the `sourceRoot`. Afterwards sources are resolved against the new
-** one, and are as the map has them if it is removed. SM_UTF8 if the text is not UTF-8;
-** SM_WRONG_KIND of an index map, and if the handle holds no map. */
+** root. Without a root each source stays as the map has it. SM_UTF8 if the text is not
+** UTF-8; SM_WRONG_KIND of an index map, and if the handle holds no map. */
 sm_code sm_set_source_root(sm_map *map, bool present, const uint8_t *text, size_t length, sm_error *error);
 
 /* Sets or removes the debug id, of a map of any kind. `id` is not null, also if
 ** `present` is false. SM_WRONG_KIND if the handle holds no map. */
 sm_code sm_set_debug_id(sm_map *map, bool present, const sm_debug_id *id, sm_error *error);
 
-/* Sets the text of a source, before it is resolved against `sourceRoot`. SM_UTF8 if
-** the text is not UTF-8; SM_ABSENT if there is no source of that id; SM_WRONG_KIND
-** of an index map, and if the handle holds no map. */
+/* Sets the text that the map has for a source. sm_source() resolves this text against
+** `sourceRoot`. SM_UTF8 if the text is not UTF-8; SM_ABSENT if there is no source of
+** that id; SM_WRONG_KIND of an index map, and if the handle holds no map. */
 sm_code sm_set_source(sm_map *map, uint32_t id, const uint8_t *text, size_t length, sm_error *error);
 
 /* Sets or removes the contents of a source. SM_UTF8 if the text is not UTF-8;
@@ -573,12 +586,13 @@ sm_code sm_sections_add(sm_sections *sections, uint32_t line, uint32_t column, b
 
 /* Fills `map` with the index map of these sections, and changes `sections`: this handle
 ** is empty afterwards. `file` is the name of the generated file. `offsets` and `paths`
-** are the lists of a RAM bundle: the generated line at which each module begins, or
-** SM_NONE if no module has the number, and the path of each module. All three are
-** optional: if `has_file`, `has_offsets` or `has_paths` is false, the index map has no
-** such part. SM_UTF8 if the file or a path is not UTF-8; SM_WRONG_KIND if `sections`
-** holds no list of sections. On SM_OUT_OF_MEMORY `sections` is as it was, or empty. A
-** handle that held no list of sections is as it was, whatever the call returns. */
+** are for a RAM bundle. Item N of `offsets` is the generated line at which module N
+** begins, or SM_NONE if there is no such module. Item N of `paths` is the path of
+** module N. All three are optional: if `has_file`, `has_offsets` or `has_paths` is
+** false, the index map has no such part. SM_UTF8 if the file or a path is not UTF-8;
+** SM_WRONG_KIND if `sections` holds no list of sections. On SM_OUT_OF_MEMORY `sections`
+** is as it was, or empty. If `sections` held no list of sections, `sections` is as it
+** was, whatever the call returns. */
 sm_code sm_sections_finish(sm_sections *sections, sm_map *map, bool has_file, const uint8_t *file, size_t length,
                            bool has_offsets, const uint32_t *offsets, size_t offset_count, bool has_paths,
                            const sm_text *paths, size_t path_count, sm_error *error);
@@ -586,10 +600,10 @@ sm_code sm_sections_finish(sm_sections *sections, sm_map *map, bool has_file, co
 /*
 ** BUILD
 **
-** Each call but sm_builder_source() changes `builder`. A call that succeeds returns
-** SM_OK. Each call but sm_builder_new() returns SM_WRONG_KIND if the handle holds no
-** builder. sm_builder_add_tokens() returns a count instead of a code. The library
-** copies the texts. Ids count from 0.
+** Each call but sm_builder_source() changes `builder`. sm_builder_add_tokens() returns
+** a count, and writes a code to `error` if it fails. Each other call returns a code,
+** SM_OK if it succeeds. If the handle holds no builder, the code of each call but
+** sm_builder_new() is SM_WRONG_KIND. The library copies the texts. Ids count from 0.
 */
 
 /* Fills `builder` with a builder that has no items yet. `has_file` says whether
@@ -623,18 +637,19 @@ sm_code sm_builder_add_name(sm_builder *builder, const uint8_t *text, size_t len
 ** if the handle holds no builder. */
 sm_code sm_builder_source(sm_builder *builder, uint32_t id, sm_text *text);
 
-/* Sets the text of a source, before it is resolved against `sourceRoot`. The builder
-** remembers the text with which the source was added. If that text is added again,
-** sm_builder_add_source() writes the same id. SM_UTF8 if the text is not UTF-8;
-** SM_ABSENT if there is no source of that id; SM_WRONG_KIND if the handle holds no
-** builder. */
+/* Sets the text that the builder has for a source. sm_source() of the built map
+** resolves this text against `sourceRoot`. The builder remembers the text with which
+** the source was added. If that text is added again, sm_builder_add_source() writes the
+** same id. SM_UTF8 if the text is not UTF-8; SM_ABSENT if there is no source of that
+** id; SM_WRONG_KIND if the handle holds no builder. */
 sm_code sm_builder_set_source(sm_builder *builder, uint32_t id, const uint8_t *source, size_t length, sm_error *error);
 
-/* Cuts from each source the first of the `count` texts in `prefixes` that it begins
-** with; a `/` is added to a prefix that does not end with one. The prefix `~` has no
-** special meaning. The builder remembers the text with which each source was added.
-** If such a text is added again, sm_builder_add_source() writes the same id. SM_UTF8 if
-** a prefix is not UTF-8; SM_WRONG_KIND if the handle holds no builder. */
+/* Cuts from each source the first of the `count` texts in `prefixes` with which the
+** source begins. Before that, a `/` is added to each prefix that does not end with `/`.
+** The prefix `~` has no special meaning. The builder remembers the text with which each
+** source was added. If such a text is added again, sm_builder_add_source() writes the
+** same id. SM_UTF8 if a prefix is not UTF-8; SM_WRONG_KIND if the handle holds no
+** builder. */
 sm_code sm_builder_strip_prefixes(sm_builder *builder, const sm_text *prefixes, size_t count, sm_error *error);
 
 /* Sets or removes the contents of a source. SM_UTF8 if `present` is true and the
@@ -702,16 +717,17 @@ sm_code sm_locate_reference(const uint8_t *text, size_t length, sm_bytes *url, b
 /* Fills `result` with the URL that the reference `url` is resolved to. `base` is the
 ** URL of the generated text. Returns SM_OK; SM_ABSENT if `url` is a `data:` URL, if
 ** `base` is no URL, or if `url` cannot be resolved against it; SM_UTF8 if either is not
-** UTF-8. It may also return SM_ABSENT if `base` has 2^28 bytes or more, or if the
-** parsed `base` and `url` together have. */
+** UTF-8. The call may also return SM_ABSENT if `base` has 2^28 bytes or more, or if
+** `url` and the parsed `base` together have 2^28 bytes or more. */
 sm_code sm_resolve(const uint8_t *url, size_t length, const uint8_t *base, size_t base_length, sm_bytes *result,
                    sm_error *error);
 
 /* Fills `result` with the path that the reference `url` is resolved to. `base` is the
 ** path of the generated text. Returns SM_OK; SM_ABSENT if `url` is a `data:` URL, if
 ** `base` does not begin with `/`, or if `url` leads to no path of a file; SM_UTF8 if
-** either is not UTF-8. It may also return SM_ABSENT if the `file:` URL of `base` has
-** 2^28 bytes or more, or if this URL, parsed, and `url` together have. */
+** either is not UTF-8. The call may also return SM_ABSENT if the `file:` URL of `base`
+** has 2^28 bytes or more, or if `url` and the parsed `file:` URL together have 2^28
+** bytes or more. */
 sm_code sm_resolve_path(const uint8_t *url, size_t length, const uint8_t *base, size_t base_length, sm_bytes *result,
                         sm_error *error);
 
@@ -724,23 +740,25 @@ sm_code sm_relative_path(const uint8_t *base, size_t base_length, const uint8_t 
 ** SEGMENTS
 **
 ** A segment of `mappings` is a list of numbers, each of one or more digits. sm_open()
-** and sm_write() read and write those of a map; these calls are for a single one.
+** reads all segments of a map, and sm_write() writes them. Each call below works on one
+** segment.
 */
 
-/* Writes the numbers of a segment, the first `capacity` if it has more, and to
-** `count` how many it has: with a capacity of 0 it counts them. A segment has no more
-** numbers than bytes. The rest of `numbers` is as it was. Returns SM_OK; SM_UTF8 if
-** the segment is not UTF-8; else the first error from the left: SM_INVALID_BASE64 of
-** a byte that is no digit, SM_VLQ_OVERFLOW if the magnitude of a number is 2^62 or
-** more or it has a fourteenth digit, SM_VLQ_LEFTOVER if the segment ends within a
-** number, SM_VLQ_NO_VALUES if it is empty. Then `numbers` and `count` are as they
-** were. */
+/* Writes the numbers of a segment to `numbers`, but at most the first `capacity`.
+** Writes to `count` how many numbers the segment has. So with a `capacity` of 0 the
+** call only counts. A segment has no more numbers than bytes. The rest of `numbers` is
+** as it was. Returns SM_UTF8 if the segment is not UTF-8. Otherwise returns SM_OK, or
+** the first error from the left: SM_INVALID_BASE64 if a byte is no digit,
+** SM_VLQ_OVERFLOW if a number has a magnitude of 2^62 or more, or more than 13 digits,
+** SM_VLQ_LEFTOVER if the segment ends within a number, SM_VLQ_NO_VALUES if the segment
+** is empty. On each error `numbers` and `count` are as they were. */
 sm_code sm_parse_segment(const uint8_t *segment, size_t length, int64_t *numbers, size_t capacity, size_t *count,
                          sm_error *error);
 
-/* Fills `text` with the segment of these numbers, each with its shortest digits; of
-** no numbers it is the empty text. Returns SM_OK, or SM_VLQ_OVERFLOW if the magnitude
-** of a number is 2^62 or more. sm_bytes_text() reads the segment. */
+/* Fills `text` with the segment of these numbers. Each number has as few digits as
+** possible. If `count` is 0, the segment is the empty text. Returns SM_OK, or
+** SM_VLQ_OVERFLOW if the magnitude of a number is 2^62 or more. sm_bytes_text() reads
+** the segment. */
 sm_code sm_write_segment(const int64_t *numbers, size_t count, sm_bytes *text, sm_error *error);
 
 /*
@@ -781,18 +799,19 @@ sm_code sm_bundle_startup(sm_bundle *bundle, sm_text *bytes, sm_error *error);
 ** holds no bundle. On each of these `bytes` is as it was. */
 sm_code sm_bundle_module(sm_bundle *bundle, size_t id, sm_text *bytes, sm_error *error);
 
-/* Fills `split` with the modules of a bundle, each with its name, its text and
-** its map. `index` is the index map of the bundle. The split keeps nothing of the two
-** other handles. Items count from 0, and are not numbered as modules are. A missing
-** module has no item. A module that sm_bundle_module() can read has none either if its
-** line in the index map is SM_NONE. Each other module has an item. For an invalid
-** module sm_split_item() and sm_split_map() fail. A module is invalid if
-** sm_bundle_module() returns SM_RANGE or SM_INVALID_BUNDLE_ENTRY for it, if its text is
-** not UTF-8, if the list of lines in the index map ends before its number, or if the
-** flattened index map has no token at the start of the module's first line or before
-** it. Returns SM_OK; SM_NOT_A_BUNDLE if the index map has no list of lines;
-** SM_CANNOT_FLATTEN if sm_flatten() would return it for `index`; SM_WRONG_KIND if
-** `bundle` holds no bundle, or `index` no index map.
+/* Fills `split` with the modules of a bundle, each with its name, its text and its map.
+** `index` is the index map of the bundle. The split keeps nothing of the two other
+** handles. Items count from 0, and are not numbered as modules are. A missing module
+** has no item. A module that sm_bundle_module() can read has no item if the index map
+** has null instead of the module's line. sm_sections_finish() and sm_module_offsets()
+** use SM_NONE for null. Each other module has an item. For an invalid module
+** sm_split_item() and sm_split_map() fail. A module is invalid if sm_bundle_module()
+** returns SM_RANGE or SM_INVALID_BUNDLE_ENTRY for it, or if its text is not UTF-8. A
+** module is also invalid if its number is past the end of the list of lines in the
+** index map, or if all tokens of the flattened index map are after the start of the
+** module's first line. Returns SM_OK; SM_NOT_A_BUNDLE if the index map has no list of
+** lines; SM_CANNOT_FLATTEN if sm_flatten() would return it for `index`; SM_WRONG_KIND
+** if `bundle` holds no bundle, or `index` no index map.
 ** Twelve bytes may claim 4294967295 modules: look at sm_bundle_count() before you split
 ** a bundle from an untrusted origin. */
 sm_code sm_bundle_split(sm_bundle *bundle, sm_map *index, sm_split *split, sm_error *error);
