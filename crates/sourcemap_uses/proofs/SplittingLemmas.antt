@@ -59,8 +59,8 @@ module _ (i : IndexValue) (modules : List (Result ModuleValue Error)) (p : ℕ �
       (λ same. first_traced (Err e ∷ others) (is ∙ ap (λ d. d ∷ others) same)) h
 
   -- the text for the first module, unless memory runs out
-  pub text_traced : (parts : ModuleParts) (others : List (Result ModuleParts Error)) (r : Result (String Global) Error)
-      → dues_in split ≡ Ok parts ∷ others → IfOk r (λ text. string_bytes text ≡ printed (meaning parts.map p)) → IsOkUnless r OutOfMemory
+  pub text_traced : (due : Result ModuleParts Error) (others : List (Result ModuleParts Error)) (parts : ModuleParts) (r : Result (String Global) Error)
+      → dues_in split ≡ due ∷ others → due ≡ Ok parts → IfOk r (λ text. string_bytes text ≡ printed (meaning parts.map p)) → IsOkUnless r OutOfMemory
       → IsAnswer string_bytes (TracesFirst i modules p) r
-  text_traced parts others (Ok text) is same memory = rw same (first_traced (Ok parts ∷ others) is)
-  text_traced parts others (Err e) is same memory = rw memory tt
+  text_traced due others parts (Ok text) is gives same memory = rw same (first_traced (Ok parts ∷ others) (is ∙ ap (λ d. d ∷ others) gives))
+  text_traced due others parts (Err e) is gives same memory = rw memory tt

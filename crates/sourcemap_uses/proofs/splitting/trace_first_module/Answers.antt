@@ -18,14 +18,15 @@ returns-in_err-modules-clause-answer c =
 
 pub returns-in-None-clause-answer : goal.returns-in-None-clause-answer
 returns-in-None-clause-answer c =
-    none_traced (index_value c.args.map.now) (modules_of c.args.bundle.now) (c.args.line, c.args.col) (split_value c.in_ok-modules.modules)
-    c.in_ok-modules.ensures.answer c.in-None.ensures.steps.0
+    rw c.new.ensures.bytes (none_traced (index_value c.args.map.now) (modules_of c.args.bundle.now) (c.args.line, c.args.col)
+    (split_value c.in_ok-modules.modules) c.in_ok-modules.ensures.answer c.in-None.ensures.steps.0)
 
 pub returns-in-Some-Err-clause-answer : goal.returns-in-Some-Err-clause-answer
 returns-in-Some-Err-clause-answer c =
     let steps = c.in-Some-Err.ensures.steps in
+    let gives = subst (λ r. Gives parts_value r steps.0) c.in-Some-Err.field-0-is steps.2 in
     item_refused (index_value c.args.map.now) (modules_of c.args.bundle.now) (c.args.line, c.args.col) (split_value c.in_ok-modules.modules)
-    c.in_ok-modules.ensures.answer steps.0 _ c.in-Some-Err.error steps.1 steps.2
+    c.in_ok-modules.ensures.answer steps.0 _ c.in-Some-Err.error steps.1 gives
 
 pub returns-clause-answer : goal.returns-clause-answer
 returns-clause-answer c =
@@ -33,7 +34,7 @@ returns-clause-answer c =
     let parts : ModuleParts = parts_value (c.in-Some-Ok.field-0-0-0, c.in-Some-Ok.field-0-0-1, c.in-Some-Ok.map) in
     let gives : steps.0 ≡ Ok parts = subst (λ r. Gives parts_value r steps.0) c.in-Some-Ok.field-0-is steps.2 in
     text_traced (index_value c.args.map.now) (modules_of c.args.bundle.now) (c.args.line, c.args.col) (split_value c.in_ok-modules.modules)
-    c.in_ok-modules.ensures.answer parts _ c.text_at.result (steps.1 ∙ ap (λ due. due ∷ _) gives) c.text_at.ensures.text c.text_at.ensures.memory
+    c.in_ok-modules.ensures.answer steps.0 _ parts c.text_at.result steps.1 gives c.text_at.ensures.text c.text_at.ensures.memory
 
 pub returns-in-None-clause-flat : goal.returns-in-None-clause-flat
 returns-in-None-clause-flat c = λ flat found first is_first on_lines.
