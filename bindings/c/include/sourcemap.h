@@ -808,7 +808,7 @@ sm_code sm_bundle_module(sm_bundle *bundle, size_t id, sm_text *bytes, sm_error 
 ** sm_split_item() and sm_split_map() fail. A module is invalid if sm_bundle_module()
 ** returns SM_RANGE or SM_INVALID_BUNDLE_ENTRY for it, or if its text is not UTF-8. A
 ** module is also invalid if its number is past the end of the list of lines in the
-** index map, or if all tokens of the flattened index map are after the start of the
+** index map, or if the flattened index map has no token at or before the start of the
 ** module's first line. Returns SM_OK; SM_NOT_A_BUNDLE if the index map has no list of
 ** lines; SM_CANNOT_FLATTEN if sm_flatten() would return it for `index`; SM_WRONG_KIND
 ** if `bundle` holds no bundle, or `index` no index map.
