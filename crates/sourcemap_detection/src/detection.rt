@@ -70,9 +70,9 @@ fn read_is_map(alloc: Global, read: Result<Vec<u8>>) -> Result<bool>
     }
 }
 
-/// Reads a reader to its end. Returns whether the bytes are a source map, by the rules of
-/// `is_sourcemap_slice`. The only error is `OutOfMemory`, if memory runs out in a read or
-/// elsewhere. If a read fails for another reason, returns false.
+/// Reads a reader to its end. Interrupted reads are retried. Returns whether the bytes are a source
+/// map, by the rules of `is_sourcemap_slice`. The only error is `OutOfMemory`, if memory runs out
+/// in a read or elsewhere. If a read fails for any other reason, returns false.
 pub fn is_sourcemap<R: Read + Drop>(alloc: Global, reader: R) -> Result<bool>
     // If the bytes of the reader are known, `true` means that they are a source map. The clause
     // says nothing about `false`: a read may have failed, and no clause of `Read` says when a read

@@ -98,8 +98,8 @@ static FLAT: [(&str, &str); 13] = [
         r#"{"sections":[{"offset":{"line":0,"column":0},"map":{"sections":[{"offset":{"line":0,"column":0},"url":"inner"}]}},{"offset":{"line":1,"column":0},"url":"outer"}]}"#,
         "cannot flatten the indexed sourcemap: Section has an unresolved sourcemap: inner",
     ),
-    // The nested index map has a token on line 4294967295. Flattening moves this token down by one
-    // line.
+    // The nested index map has a token on line 4294967295, the last line. Flattening would move
+    // this token down by one line, so it returns an error.
     (
         r#"{"sections":[{"offset":{"line":1,"column":0},"map":{"sections":[{"offset":{"line":4294967295,"column":0},"map":{"sources":["a.js"],"mappings":"AAAA"}}]}}]}"#,
         "cannot flatten the indexed sourcemap: a position passes 4294967295",

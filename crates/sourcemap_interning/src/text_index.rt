@@ -1,5 +1,5 @@
-//! An index that assigns a number to each text. A hash table stores the numbers. If the hash table
-//! has no free slot for a new text, a tree stores the number of this text instead.
+//! An index that assigns a number to each text. A hash table stores the numbers. The search for a
+//! text reads 32 slots. If a new text finds all of them taken, a tree stores its number instead.
 ghost use Rattle.std.specs.Prelude.{◌≡◌, ◌<◌, ◌≤◌, ◌*◌, ◌++◌, ◌∷◌, ℕ, List, [], None, Some, cond, if◌then◌else◌, is_ok, length, map, vec_len, is_some, IfOk, OnOk, OnErr, IsOkUnless};
 ghost use Rattle.std.specs.Str.{bytes_eq};
 ghost use Rattle.sourcemap_interning.specs.Slots.{number_in_tree};

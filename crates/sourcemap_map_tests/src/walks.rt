@@ -13,8 +13,8 @@ struct ChainToken {
     name: Option<&'static str>,
 }
 
-// The token `here`, and all tokens before it in a map. The list `earlier` is in the order of the
-// walk, the closest token first.
+// The token `here`, and the tokens that a walk back visits after it, in the order of the walk.
+// There is no map, and the tokens need not be sorted as in a map.
 #[derive(Clone, Copy)]
 struct Chain<'a> {
     here: ChainToken,
