@@ -101,9 +101,10 @@ IsViewOf text (Err OutOfMemory) = Unit {0}
 IsViewOf text (Err (Utf8 _)) = ¬ IsUtf8 text
 IsViewOf text (Err _) = ⊥
 
--- the result of reading a file: `indexed_bundle` of some bytes, `Io` for a failed read, or out of memory
-abbrev pub IsOfFile : Result BundleValue Error → Type 0
-IsOfFile (Ok bundle) = (bytes : List ℕ) × (indexed_bundle bytes ≡ Ok bundle)
-IsOfFile (Err OutOfMemory) = Unit {0}
-IsOfFile (Err (Io cause)) = FromIo cause (Io cause)
-IsOfFile (Err e) = (bytes : List ℕ) × (indexed_bundle bytes ≡ Err e)
+-- the result of reading an indexed bundle from a file: the bundle or the error of `indexed_bundle` for some bytes,
+-- `Io` for a failed read, or out of memory
+abbrev pub ReadsIndexedBundle : Result BundleValue Error → Type 0
+ReadsIndexedBundle (Ok bundle) = (bytes : List ℕ) × (indexed_bundle bytes ≡ Ok bundle)
+ReadsIndexedBundle (Err OutOfMemory) = Unit {0}
+ReadsIndexedBundle (Err (Io cause)) = FromIo cause (Io cause)
+ReadsIndexedBundle (Err e) = (bytes : List ℕ) × (indexed_bundle bytes ≡ Err e)

@@ -2,7 +2,7 @@
 ghost use Rattle.std.specs.Prelude.{◌≡◌, ◌≤◌, ◌↔◌, IfErr, IfOk, IsTrue, Ok, length, option_map};
 ghost use Rattle.sourcemap_errors.specs.Answer.{Gives};
 ghost use Rattle.sourcemap_bundle_bytes.specs.Bundle.{Returns};
-ghost use Rattle.sourcemap_bundles.specs.Modules.{HasBundleHeader, IsOfFile, bundle_count, bundle_module, bundle_startup, indexed_bundle, modules_of};
+ghost use Rattle.sourcemap_bundles.specs.Modules.{HasBundleHeader, ReadsIndexedBundle, bundle_count, bundle_module, bundle_startup, indexed_bundle, modules_of};
 ghost use Rattle.sourcemap_bundles.specs.Folder.{IsFileBundle, IsFileError};
 ghost use Rattle.sourcemap_bundles.specs.Stored.{module_value, type_of};
 
@@ -84,7 +84,7 @@ impl<'a> RamBundle<'a> {
     /// error is `Io`, or `OutOfMemory` if memory ran out. Any other error is an error of
     /// `parse_indexed_from_slice`.
     pub fn parse_indexed_from_path<F: Files>(rt: &F, alloc: Global, path: &str) -> Result<Self>
-        ensures { IsOfFile result }
+        ensures { ReadsIndexedBundle result }
     {
         RamBundle::parse_indexed_from_vec(fs::read(&(rt, alloc), path)?)
     }

@@ -1,6 +1,6 @@
 -- The original position that a list of tokens gives to a generated position. Also `IsMovedAlone`, a premise of the law
--- `moved_positions_answer_as_before`. The law says that the original position stays the same when the adjustment moves
--- a generated position.
+-- `moved_positions_answer_as_before`. The law: if the adjustment moves position `q` to position `p`, the composition
+-- gives `p` the original position that the original map gives `q`.
 use Rattle.std.specs.Prelude.{◌≡◌, ℕ, ◌+◌, ◌-◌, min, Bool, ◌&&◌, ◌==◌, true, false, if◌then◌else◌, List, Option, Some, option_map, slice_get}
 use Rattle.std.specs.List.{Contains}
 use Rattle.sourcemap_tokens.specs.Search.{closest_item}
@@ -52,8 +52,8 @@ abbrev pub ClosestIsOnLine : List RawToken → ℕ × ℕ → Type 0
 ClosestIsOnLine tokens q =
     (t : RawToken) × (closest_item destination position_cmp tokens q ≡ Some t) × (t.dst_line ≡ q.0)
 
--- let `b` of `adjustments` and `o` of `originals` overlap. If the generated position of their composed token is at or
--- after `moved a a.start`, and at or before `p`, then `b` is `a`
+-- a stretch of `adjustments` and a stretch of `originals` give a composed token if they overlap. No stretch of
+-- `adjustments` other than `a` gives a token at a generated position from `moved a a.start` to `p`, both included
 abbrev pub IsAloneUpTo : ℕ × ℕ → Stretch → (adjustments originals : List Stretch) → Type 0
 IsAloneUpTo p a adjustments originals =
     (b o : Stretch) → Contains adjustments b → Contains originals o → overlap b o ≡ true

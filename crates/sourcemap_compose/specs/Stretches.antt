@@ -13,8 +13,8 @@ use Rattle.sourcemap_compose.specs.declared.stretches.Stretch.{Stretch}
 abbrev pub source : RawToken → ℕ × ℕ
 source token = (token.src_line, token.src_col)
 
--- the position of a token in the intermediate text, which is the generated text of the original and the source text of
--- the adjustment
+-- the position of a token in the intermediate text, see `Side`: the generated position for a token of the original map,
+-- the original position for a token of the adjustment map
 abbrev pub position_by : Side → RawToken → ℕ × ℕ
 position_by Original = destination
 position_by Adjustment = source
@@ -29,8 +29,8 @@ earlier p q = cond (is_before p q) p q
 abbrev pub line_end : ℕ × ℕ → ℕ × ℕ
 line_end p = (p.0, 4294967295)
 
--- the end of a token's stretch: the position of the next token, or the end of the line if that comes first or there is
--- no next token
+-- the end of a token's stretch: the next token's position or the end of the token's line, whichever comes first. If
+-- there is no next token, the stretch ends at the end of the line
 abbrev pub end_before : (RawToken → ℕ × ℕ) → RawToken → Option RawToken → ℕ × ℕ
 end_before position token None = line_end (position token)
 end_before position token (Some next) = earlier (position next) (line_end (position token))

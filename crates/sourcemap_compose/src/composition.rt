@@ -13,14 +13,15 @@ use sourcemap_errors::errors::{Error, Result};
 use sourcemap_tokens::tokens::{NO_ID, RawToken};
 use std::alloc::Global;
 
-/// Returns the tokens of `original`, adjusted by those of `adjustment`. The generated text of the
-/// original is the source text of the adjustment. Both lists may be in any order.
+/// Returns the tokens of `original`, adjusted by the tokens of `adjustment`. The intermediate text
+/// is the generated text of the original and the source text of the adjustment. Both lists may be
+/// in any order.
 ///
-/// Each token covers a part of that text. For a token of `original`, the part begins at its
-/// generated position; for a token of `adjustment`, at its original position. With each list sorted
-/// by these positions, a part ends where the part of the next token begins, or at column 4294967295
-/// of its line, whichever comes first. Two tokens overlap if the part of each begins before the
-/// part of the other ends.
+/// Each token covers a part of the intermediate text. For a token of `original`, the part begins at
+/// the generated position of the token. For a token of `adjustment`, the part begins at the
+/// original position of the token. With each list stably sorted by these positions, a part ends
+/// where the part of the next token begins, or at column 4294967295 of its line, whichever comes
+/// first. Two tokens overlap if the part of each begins before the part of the other ends.
 ///
 /// Each overlapping pair gives one new token. Its generated position is the position to which the
 /// adjustment moves the start of the overlap. Its original position, source, name and range flag
@@ -28,9 +29,10 @@ use std::alloc::Global;
 /// from its generated position to the start of the overlap are added to the original column, up to
 /// column 4294967295.
 ///
-/// The new tokens are sorted by generated position, and there are at most as many as in both lists
-/// together. Sources and names of the adjustment are ignored. The errors are
-/// `IncompatibleSourceMap` if a generated column exceeds 4294967295, and out of memory.
+/// The new tokens are sorted by generated position. There are at most
+/// `original.len() + adjustment.len()` new tokens. Sources and names of the adjustment are ignored.
+/// The errors are `IncompatibleSourceMap` if a generated column exceeds 4294967295, and out of
+/// memory.
 pub fn compose(
     alloc: Global,
     original: &[RawToken],
@@ -66,8 +68,7 @@ fn walk(alloc: Global, adjustments: &[RawToken], originals: &[RawToken]) -> Resu
     ensures few { IfOk result (λ tokens. length tokens.items
         ≤ length originals.now + length adjustments.now) }
 {
-    // if both lists cover the same text, the count of tokens is between the longer length and the
-    // sum of both lengths, and the buffer grows at most once
+    // the result is at most twice as long as the longer list, so the buffer grows at most once
     let mut tokens = Vec::with_capacity(alloc, adjustments.len().max(originals.len()))?;
     let mut at_adjustment = 0;
     let mut at_original = 0;
@@ -75,7 +76,8 @@ fn walk(alloc: Global, adjustments: &[RawToken], originals: &[RawToken]) -> Resu
     let mut original = stretch_at(Side::Original, originals, at_original);
     while let (Some(a), Some(o)) = (adjustment, original) {
         push_pair(&mut tokens, a, o)?;
-        // the next stretch of the original starts at the end of this one, or later
+        // if `o.end` is before `a.end`, no later stretch of the adjustment overlaps `o`: each
+        // starts at `a.end` or later
         if is_before(o.end, a.end) {
             at_original += 1;
             original = stretch_at(Side::Original, originals, at_original);

@@ -22,7 +22,7 @@ pub fn composed_tokens_stay_within()
 ///   generated position.
 /// - The tokens of the original are within some counts of sources and names, see `AllWithin`. The
 ///   count of sources is at most 4294967295.
-/// - In the original, the token closest to `q` is on the line of `q`.
+/// - The original has a token on the line of `q`, at or before `q`.
 /// - A stretch `a` of the adjustment covers `q`. No other stretch of the adjustment gives a
 ///   composed token at a generated position from `moved a a.start` to `moved a q`, both included.
 pub fn moved_positions_answer_as_before()

@@ -27,8 +27,8 @@ pub struct Stretch {
     pub token: RawToken,
     /// The token's position.
     pub start: (u32, u32),
-    /// The next token's position, or column 4294967295 of the line of `start` if that comes first
-    /// or there is no next token.
+    /// The next token's position or column 4294967295 of the line of `start`, whichever comes
+    /// first. If there is no next token, column 4294967295 of that line.
     pub end: (u32, u32),
 }
 

@@ -2,7 +2,7 @@
 //! module names below. The items cover errors, tokens, interned strings, base64 digits, the text of
 //! mappings, composition of tokens, the line index, lines and identifiers of source texts, search
 //! in sorted lists, paths and URLs of files, and the bytes of indexed bundles. The crates that
-//! define these items do not depend on the crates of records and maps.
+//! define these items do not depend on `sourcemap_records` or on a crate that defines a map type.
 #![tactic(auto)]
 
 pub mod compose;

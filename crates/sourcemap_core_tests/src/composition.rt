@@ -11,7 +11,8 @@ use std::alloc::Global;
 type Way = ((u32, u32), (u32, u32));
 
 // Label, original tokens, adjustment tokens, result. Original tokens have source 3 and name 4,
-// adjustment tokens source 9 and name 8. (NO_ID, NO_ID) is no original position.
+// adjustment tokens source 9 and name 8. If the original position is (NO_ID, NO_ID), the token has
+// no original position, no source and no name.
 static COMPOSED: [(&str, &[Way], &[Way], &str); 21] = [
     (
         "one cut and one whole",

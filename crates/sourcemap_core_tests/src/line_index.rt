@@ -128,8 +128,8 @@ fn tokens_on_many_lines(alloc: Global, a_line: u32) -> Result<TokenList> {
 
 // The number of tokens on a line, a position, and the index of the closest token.
 static ON_MANY_LINES: [(u32, (u32, u32), &str); 21] = [
-    // These lines have at most 16 tokens and are searched linearly. Lines with odd numbers have no
-    // tokens.
+    // In these lists, a line has at most 16 tokens and is searched linearly. Lines with odd numbers
+    // have no tokens.
     (5, (0, 0), "Some(0) true"),
     (5, (0, 10), "Some(1) true"),
     (5, (0, 15), "Some(2) true"),
@@ -143,12 +143,14 @@ static ON_MANY_LINES: [(u32, (u32, u32), &str); 21] = [
     (16, (8, 139), "Some(78) true"),
     (16, (8, 140), "Some(79) true"),
     (16, (9, 0), "Some(79) true"),
-    // These lines have 17 tokens and are searched by bisection. A linear search is for at most 16.
+    // In this list, line 8 has 17 tokens and is searched by bisection. Only lines of at most 16
+    // tokens are searched linearly.
     (17, (8, 10), "Some(69) true"),
     (17, (8, 149), "Some(83) true"),
     (17, (8, 150), "Some(84) true"),
-    // These lists have long lines, so they also have column samples. `closest_steps` searches the
-    // samples on line 4. Line 5 has no tokens. Line 14 has seven tokens, one too few for samples.
+    // These lists have long lines, and therefore column samples. `closest_steps` searches the
+    // samples on line 4. Line 5 has no tokens. In the list with 9999 tokens on a line, the last
+    // line is line 14. Line 14 has seven tokens, one too few for a search of the samples.
     (1000, (4, 10), "Some(2001) true"),
     (1000, (4, 5005), "Some(2501) true"),
     (1000, (5, 0), "Some(2999) true"),
@@ -161,8 +163,9 @@ fn on_many_lines(alloc: Global, a_line: u32, position: (u32, u32)) -> Result<Str
     closest_text(alloc, &list, position, 1, 36)
 }
 
-// As `on_many_lines`, but with the lookup `closest_steps` of the list. If the list has column
-// samples, and the line has at least eight tokens, this lookup searches the samples first.
+// As `on_many_lines`, but with the lookup `closest_steps` of the list. This lookup searches the
+// column samples before the tokens if the list has samples and the line of `position` has at least
+// eight tokens.
 fn in_list_of_many_lines(alloc: Global, a_line: u32, position: (u32, u32)) -> Result<String> {
     let list = tokens_on_many_lines(alloc, a_line)?;
     let (found, steps) = list.closest_steps(position.0, position.1);

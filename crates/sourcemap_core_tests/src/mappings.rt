@@ -116,8 +116,8 @@ static READ: [(&str, Texts, &str); 20] = [
     ),
 ];
 
-// As `0:18=0:2:2#1+`: generated position, source with original position, name, `+` for a range
-// token.
+// Appends a space and the token, for example `0:18=0:2:2#1+`: generated position, source with
+// original position, name, and `+` for a range token. Leaves out a missing source or name.
 fn push_token(out: &mut String, token: &RawToken) -> Result<()> {
     write!(out, " {}:{}", token.dst_line, token.dst_col)?;
     if token.src_id != NO_ID {

@@ -46,7 +46,7 @@ static PATHS: [(&str, &str); 11] = [
     ("data:a", "none"),
 ];
 
-// Two files, and the path from the first to the second.
+// Two files, and the path from the folder of the first file to the second file.
 static RELATIVE: [(&str, &str, &str); 14] = [
     ("/foo/bar/baz.js", "/foo/baz.map", "../baz.map"),
     ("/a/x.js", "/a/b/c.map", "b/c.map"),

@@ -43,9 +43,9 @@ fn numbered_texts(alloc: Global, start: &str, end: &str, count: usize) -> Result
     Ok(texts)
 }
 
-// Enters `texts` in `index`, in order. Stops at a text if `index` has `MOST` texts, or if the
-// number of the text is not its position. Returns the position of this text, otherwise the length
-// of `texts`.
+// Enters `texts` in `index`, in order. Stops at `texts[at]` if `index` already has `MOST` texts, or
+// if `index` does not assign the number `at` to `texts[at]`. Returns `at` after a stop, otherwise
+// the length of `texts`.
 fn count_numbered<'a>(index: &mut TextIndex<'a>, texts: &'a [String]) -> Result<usize> {
     for (at, text) in texts.iter().enumerate() {
         if index.len() >= MOST {

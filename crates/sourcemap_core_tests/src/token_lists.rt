@@ -67,7 +67,7 @@ fn sort_text(alloc: Global) -> Result<String> {
     columns(alloc, list.as_slice())
 }
 
-// The same tokens, sorted in place.
+// Sorts the tokens in place with `sort_tokens`. Returns their original columns in the new order.
 fn sorted_in_list(alloc: Global) -> Result<String> {
     let mut tokens = tokens(alloc)?;
     sort_tokens(&mut tokens)?;

@@ -44,9 +44,10 @@ fn false_unless_memory(error: Error) -> Result<bool>
 /// Returns whether bytes are a source map. A junk header, if there is one, is skipped. A source map
 /// is a JSON object of one of two kinds. An index map has `sections`. Any other map has `mappings`,
 /// at least one of `version` and `file`, and at least one of `sources`, `sourceRoot`,
-/// `sourcesContent` and `names`. A null key counts as missing. Other values are not checked, except
-/// that a version must be a `u32`. Bytes with an invalid header or invalid JSON are not a map. The
-/// error is `OutOfMemory`.
+/// `sourcesContent` and `names`. A key whose value is null counts as missing. A `version` that is
+/// neither null nor a `u32` gives false, even with `sections`. No other value is checked. An
+/// invalid header and invalid JSON (see `JsonFault::Parse`) also give false. The only error is
+/// `OutOfMemory`.
 pub fn is_sourcemap_slice(alloc: Global, bytes: &[u8]) -> Result<bool>
     ensures answer { IfOk result (λ is. IsTrue is ↔ AreMap bytes.now) }
     ensures err { IsOkUnless result OutOfMemory }
@@ -57,7 +58,8 @@ pub fn is_sourcemap_slice(alloc: Global, bytes: &[u8]) -> Result<bool>
     }
 }
 
-// Whether the bytes that were read are a map. False if a read failed.
+// Returns whether the bytes in `read` are a map. For any error in `read` except `OutOfMemory`,
+// returns false. The only error is `OutOfMemory`, from `read` or from this call.
 fn read_is_map(alloc: Global, read: Result<Vec<u8>>) -> Result<bool>
     ensures answer { MatchResult read
         (λ bytes. IfOk result (λ is. IsTrue is ↔ AreMap bytes.items))

@@ -3,7 +3,7 @@ use Rattle.std.specs.Prelude.{◌≡◌, Result, Ok, Err, MatchResult}
 use Rattle.sourcemap_errors.specs.declared.errors.Error.{Error}
 use Rattle.sourcemap_errors.specs.declared.errors.Error.TheVariants.{OutOfMemory}
 
--- `P`, unless the error is `OutOfMemory`
+-- true for the error `OutOfMemory`; `P` for any other error
 abbrev pub UnlessMemory : Error → Type 0 → Type 0
 UnlessMemory OutOfMemory P = Unit {0}
 UnlessMemory _ P = P
@@ -13,7 +13,7 @@ abbrev pub Gives : {X Y : Type 0} → (X → Y) → Result X Error → Result Y 
 Gives view (Ok x) due = due ≡ Ok (view x)
 Gives view (Err e) due = UnlessMemory e (due ≡ Err e)
 
--- `Answers` holds for the result, with the value of an `Ok` mapped by `view`; the error `OutOfMemory` is always allowed
+-- for `Ok x`, `Answers` holds for `Ok (view x)`; for `Err e`, `Answers` holds for `Err e`, or `e` is `OutOfMemory`
 abbrev pub IsAnswer : {X Y : Type 0} → (X → Y) → (Result Y Error → Type 0) → Result X Error → Type 0
 IsAnswer view Answers (Ok x) = Answers (Ok (view x))
 IsAnswer view Answers (Err e) = UnlessMemory e (Answers (Err e))

@@ -34,7 +34,8 @@ impl fmt::Display for RangeFault {
 /// Why a source map cannot be read from JSON.
 #[derive(Clone, Copy, Debug, PartialEq, Eq)]
 pub enum JsonFault {
-    /// The text is not JSON.
+    /// The text is not JSON, is not UTF-8, has more than 127 levels, has a number too large for
+    /// `f64`, or escapes one half of a surrogate pair without the other.
     Parse,
     /// The JSON value does not have the expected shape.
     Shape,
@@ -76,13 +77,15 @@ impl fmt::Display for Base64Fault {
 /// An error of this library.
 #[derive(Debug, Drop)]
 pub enum Error {
-    /// Reading or writing failed, or the junk header is invalid.
+    /// Reading or writing failed. Kind `InvalidData` can also mean an invalid junk header or, in a
+    /// search for a reference, a line that is not UTF-8. Kind `InvalidInput` can also mean that
+    /// source contents are to be loaded, but neither `base_path` nor `current_dir` is absolute.
     Io(io::Error),
     /// The bytes are not UTF-8.
     Utf8(str::Utf8Error),
     /// A range extends past the end of a bundle.
     Scroll(RangeFault),
-    /// The input is not JSON, or not a source map.
+    /// The input cannot be read as the JSON of a source map.
     BadJson(JsonFault),
     /// A segment ends within a number.
     VlqLeftover,

@@ -41,8 +41,7 @@ escaped parts = flat_map (λ part. codes "/" ++ percent_encode ESCAPED part) par
 abbrev pub url_text : List ℕ → Bool → List ℕ
 url_text path folder = codes "file://" ++ escaped (components path) ++ end_text folder (components path)
 
--- for an absolute path, the result is one that `UrlOf` allows for the path's `url_text`; for any other path, the result
--- is `None`
+-- if the path is absolute, `UrlOf` holds for the path's `url_text` and the result. Otherwise the result is `None`
 abbrev pub PathUrl : List ℕ → Bool → Result (Option Parts) Error → Type 0
 PathUrl path folder answer = MatchBool (starts_at_root path) (UrlOf (url_text path folder) answer) (answer ≡ Ok None)
 
@@ -73,5 +72,5 @@ joined path folder reference = and_then (parse_url None (url_text path folder)) 
 
 -- the file path of a reference that is resolved against the `file` URL of `path`; `None` if `path` is not absolute, if
 -- `joined` is an error, or if the resolved URL has no file path
-abbrev pub path_from : List ℕ → Bool → List ℕ → Option (List ℕ)
-path_from path folder reference = if starts_at_root path then option_and_then path_of (result_ok (joined path folder reference)) else None
+abbrev pub resolved_file_path : List ℕ → Bool → List ℕ → Option (List ℕ)
+resolved_file_path path folder reference = if starts_at_root path then option_and_then path_of (result_ok (joined path folder reference)) else None

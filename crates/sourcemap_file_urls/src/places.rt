@@ -12,8 +12,8 @@ use sourcemap_errors::errors::Result;
 use std::alloc::Global;
 use url::Url;
 
-/// The ASCII bytes that are escaped in a path's URL: all but letters, digits, `-`, `.`, `_` and
-/// `~`.
+/// The ASCII bytes that are escaped in a component of a path: all but letters, digits, `-`, `.`,
+/// `_` and `~`.
 pub const ESCAPED: AsciiSet = ascii_set!(
     NON_ALPHANUMERIC
         .remove(b'-')
@@ -26,8 +26,8 @@ pub const ESCAPED: AsciiSet = ascii_set!(
 /// are escaped, empty ones and `.` are dropped, and `..` is resolved. If `folder` is true, the URL
 /// ends with `/`.
 ///
-/// Returns `None` too if the `url` crate rejects the URL, or possibly if its text has 2^28 bytes or
-/// more. The only error is `OutOfMemory`.
+/// Also returns `None` if the `url` crate rejects the URL. May return `None` if the URL, including
+/// each `..`, has 2^28 bytes or more. The only error is `OutOfMemory`.
 pub fn path_url(alloc: Global, path: &str, folder: bool) -> Result<Option<Url>>
     ensures { PathUrl path.now folder result }
 {
@@ -39,7 +39,7 @@ pub fn path_url(alloc: Global, path: &str, folder: bool) -> Result<Option<Url>>
 }
 
 /// Returns the path of a `file` URL without host, with its escapes decoded. Returns `None` for any
-/// other URL, and if the path is not UTF-8. The only error is `OutOfMemory`.
+/// other URL, or if the decoded path is not UTF-8. The only error is `OutOfMemory`.
 pub fn url_path(alloc: Global, url: &Url) -> Result<Option<String>>
     ensures { Gives (option_map string_bytes) result (Ok (path_of url.now)) }
 {
@@ -90,7 +90,7 @@ fn url_text(alloc: Global, path: &str, folder: bool) -> Result<String>
     Ok(text)
 }
 
-// The end of a URL's text, with or without a slash.
+// The end of a URL's text: `/` or nothing.
 fn end_of(has_slash: bool) -> &'static str
     ensures { result.now ≡ (if has_slash then codes "/" else []) }
 {
@@ -107,7 +107,7 @@ fn push_component(text: &mut String, part: &str) -> Result<()>
     Ok(())
 }
 
-// Whether a part of a path is kept in its URL.
+// Whether `url_text` writes this part of a path. It writes `..` too, which `urls::parse` resolves.
 fn is_component(part: &str) -> bool
     ensures { result ≡ spec.is_component part.now }
 {

@@ -1,4 +1,4 @@
-//! Parsing of URLs. A rejected text is distinguished from out of memory.
+//! Parsing of URLs. A rejected text gives `None`; out of memory is an error.
 ghost use Rattle.std.specs.Prelude.{IsTrue, ◌↔◌};
 ghost use Rattle.url.specs.Parser.{Gives, Parsed};
 ghost use Rattle.url.specs.Parts.{Parts};
@@ -8,23 +8,25 @@ use sourcemap_errors::errors::{Error, Result};
 use std::alloc::Global;
 use url::{ParseError, ParseResult, Url};
 
-/// Parses a URL by the URL Standard. Returns `None` if it is rejected, or possibly if the text has
-/// 2^28 bytes or more. The only error is `OutOfMemory`.
+/// Parses `text` as a URL by the URL Standard. Returns `None` if `text` is rejected. May also
+/// return `None` if `text` has 2^28 bytes or more. The only error is `OutOfMemory`.
 pub fn parse(alloc: Global, text: &str) -> Result<Option<Url>>
     ensures { UrlOf text.now result }
 {
     read(text.len(), Url::parse(alloc, text))
 }
 
-/// Resolves a reference against `base` by the URL Standard. Returns `None` if it is rejected, or
-/// possibly if both together have 2^28 bytes or more. The only error is `OutOfMemory`.
+/// Resolves `reference` against `base` by the URL Standard. Returns `None` if `reference` is
+/// rejected. May also return `None` if `base` and `reference` together have 2^28 bytes or more. The
+/// only error is `OutOfMemory`.
 pub fn join(base: &Url, reference: &str) -> Result<Option<Url>>
     ensures { JoinedUrl base.now reference.now result }
 {
     read(base.as_str().len() + reference.len(), base.join(reference))
 }
 
-// Whether a URL that is made of this many bytes of text may exceed 4 GB.
+// Whether texts with `size` bytes in total are long. Only long texts can make a URL of 2^32 bytes
+// or more.
 fn is_long(size: usize) -> bool
     ensures { IsTrue result ↔ IsLongSize size }
 {

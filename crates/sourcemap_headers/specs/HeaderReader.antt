@@ -12,25 +12,25 @@ use Rattle.sourcemap_headers.specs.declared.header_reader.Skipped.TheVariants.{S
 use Rattle.sourcemap_headers.specs.declared.header_reader.StripHeaderReader.{StripHeaderReader}
 use Rattle.sourcemap_headers.specs.Header.{begins_junk, continues_line, after_junk}
 
--- the bytes after the newline that ends the junk
+-- the bytes after the newline that ends the junk, or no bytes if there is no newline; `None` if the header is invalid
 abbrev pub after_newline : List ℕ → Option (List ℕ)
 after_newline bytes = option_map (drop 1) (after_junk bytes)
 
--- what the reader returns for the next bytes of the inner reader; `None` if the header is invalid
+-- all bytes that later reads return, if `bytes` remain in the inner reader; `None` if the header is invalid
 abbrev pub remaining_in : HeaderState → List ℕ → Option (List ℕ)
 remaining_in Start bytes = if begins_junk bytes then after_newline bytes else Some bytes
 remaining_in (InHeader after_return) bytes = if after_return && continues_line bytes then None else after_newline bytes
 remaining_in AfterHeader bytes = Some bytes
 remaining_in Invalid bytes = None
 
--- what the reader returns for the bytes of `chunk` followed by the bytes `later`. The `Skipped` says which bytes of
--- `chunk` belong to the header
+-- all bytes that later reads return, if the inner reader returns `chunk` and then `later`; `None` if the header is
+-- invalid. The `Skipped` says which bytes of `chunk` are junk
 abbrev pub remaining_after : Skipped → List ℕ → List ℕ → Option (List ℕ)
 remaining_after (StillJunk after_return) chunk later = remaining_in (InHeader after_return) later
 remaining_after (Ends junk_len) chunk later = Some (drop junk_len chunk ++ later)
 remaining_after IsInvalid chunk later = None
 
--- if the header ends in the chunk, at most `size` bytes of the chunk belong to the header
+-- if the junk ends in the chunk, at most `size` bytes of the chunk are junk
 abbrev pub IsWithin : Skipped → ℕ → Type 0
 IsWithin (Ends junk_len) size = junk_len ≤ size
 IsWithin _ size = Unit {0}
@@ -41,7 +41,7 @@ IsInHeader Start = Unit {0}
 IsInHeader (InHeader _) = Unit {0}
 IsInHeader _ = ⊥
 
--- what is read from bytes that may begin with a header
+-- what is read from bytes that may begin with a header; `None` if the header is invalid
 abbrev pub read_after_header : List ℕ → Option (List ℕ)
 read_after_header = remaining_in Start
 
@@ -64,22 +64,23 @@ abbrev pub output : {E : Type 0} → Result (Option ℕ) E → List ℕ → List
 output (Ok (Some n)) buf = take n buf
 output _ buf = []
 
--- `old` is the reader before a read, and `new` is the reader after the read. If the remaining bytes of the inner reader
--- are known before the read, they are also known after it. In that case the bytes remaining in `old` are `bytes`,
--- followed by the bytes remaining in `new`; or the header is invalid in both `old` and `new`
+-- `old` and `new` are the reader before and after a read, and `bytes` is the output of the read. If the remaining bytes
+-- of the inner reader are known before the read, they are also known after the read. Then either the header is invalid
+-- in both `old` and `new`, or the bytes remaining in `old` are `bytes` followed by the bytes remaining in `new`
 abbrev pub Outputs : {R : Type 0} → (R → Option (List ℕ)) → StripHeaderReader R → StripHeaderReader R → List ℕ → Type 0
 Outputs remaining old new bytes =
     (xs : List ℕ) → remaining old.reader ≡ Some xs
     → (ys : List ℕ) × (remaining new.reader ≡ Some ys)
     × (remaining_in old.state xs ≡ option_map (λ later. bytes ++ later) (remaining_in new.state ys))
 
--- some prefix of `buf` makes the header invalid for a reader in some `state` with `IsInHeader state`, whatever bytes
--- follow the prefix
+-- for some `count` and some `state` with `IsInHeader state`: the first `count` bytes of `buf` make the header invalid
+-- for a reader in `state`, whatever bytes follow
 abbrev pub ContainsInvalidHeader : List ℕ → Type 0
 ContainsInvalidHeader buf = (state : HeaderState) × (count : ℕ) × IsInHeader state × (count ≤ length buf)
     × ((later : List ℕ) → remaining_in state (take count buf ++ later) ≡ None)
 
--- the next bytes make the header invalid
+-- the remaining bytes of the inner reader are known. These bytes make the header invalid, or the header was already
+-- found to be invalid
 abbrev pub HasInvalidHeader : {R : Type 0} → (R → Option (List ℕ)) → StripHeaderReader R → Type 0
 HasInvalidHeader remaining r = (xs : List ℕ) × (remaining r.reader ≡ Some xs) × (remaining_in r.state xs ≡ None)
 

@@ -68,7 +68,7 @@ pub fn data_url(alloc: Global, bytes: &[u8]) -> Result<String>
     Ok(url)
 }
 
-/// A law: a data URL determines the result of decoding it.
+/// A law: `url` alone determines the result of `data_url_bytes`, except the error `OutOfMemory`.
 pub fn data_urls_have_one_answer()
     ensures { (url : List ℕ) (a b : Answer (List ℕ) SourceMapError)
         → DataUrlAnswer url a → DataUrlAnswer url b → a ≡ b }

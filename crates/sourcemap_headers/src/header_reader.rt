@@ -21,20 +21,20 @@ enum HeaderState {
     Invalid,
 }
 
-/// Which bytes of a chunk belong to the header.
+/// Which bytes of a chunk are junk: the header and the newline that ends it.
 #[derive(Clone, Copy, Debug)]
 enum Skipped {
-    /// All bytes of the chunk, and more may follow. `after_return`: the last byte was a carriage
-    /// return.
+    /// All bytes of the chunk; bytes after the chunk may be junk too. `after_return`: the last byte
+    /// was a carriage return.
     StillJunk { after_return: bool },
-    /// The first `junk_len` bytes; the header ends there.
+    /// The first `junk_len` bytes; the junk ends there.
     Ends { junk_len: usize },
     /// The header is invalid: a carriage return is followed by a byte other than a newline.
     IsInvalid,
 }
 
-/// Decides which bytes of the first chunk belong to the junk header. If the first byte does not
-/// begin a header, there is no header. Requires a chunk that is not empty.
+/// Decides which bytes of the first chunk are junk. If the first byte does not begin a header, no
+/// byte is junk. Requires a chunk that is not empty.
 fn skip_first(chunk: &[u8]) -> Skipped
     requires { 0 < length chunk.now }
     ensures junk { (later : List ℕ)
@@ -48,8 +48,8 @@ fn skip_first(chunk: &[u8]) -> Skipped
     }
 }
 
-/// Decides which bytes of a chunk belong to a junk header that begins at the start of the chunk or
-/// earlier. `follows_return`: the last byte before the chunk is a carriage return of the header.
+/// Decides which bytes of a chunk are junk. The header begins at the start of the chunk or earlier.
+/// `follows_return`: the last byte before the chunk is a carriage return of the header.
 fn skip_junk(follows_return: bool, chunk: &[u8]) -> Skipped
     ensures junk { (later : List ℕ)
         → remaining_in (HeaderState.InHeader follows_return) (chunk.now ++ later)
@@ -92,10 +92,12 @@ fn skip(state: HeaderState, chunk: &[u8]) -> Skipped
 /// is followed by a byte other than a newline. Each later read returns this error again, even a
 /// read into an empty buffer. The other is of kind `Other`: during one read, 2^64 - 1 reads of the
 /// inner reader returned only junk.
-/// Any other error comes from the inner reader and is returned unchanged. The next read continues
-/// with the remaining bytes. Tests check that such errors are returned unchanged; no contract says
-/// so, because std does not specify which errors a reader returns. A read allocates nothing of its
-/// own.
+///
+/// Any other error comes from the inner reader and is returned unchanged. Tests check that the
+/// error is unchanged; no contract says so, because std does not specify which errors a reader
+/// returns. After an error of the inner reader, or after 2^64 - 1 reads of junk, the next read
+/// continues with the bytes that the inner reader has not returned yet. A read allocates nothing of
+/// its own.
 #[derive(Debug, Drop)]
 pub struct StripHeaderReader<R> {
     reader: R,
@@ -212,7 +214,8 @@ impl<R: Read + Drop> Read for StripHeaderReader<R> {
         ensures again { IsTrue (has_failed self.old) → IsErr result × IsTrue (has_failed self.new) }
         ensures error { IfErr result (λ e. IsTrue (has_failed self.new)
             → error_kind e ≡ InvalidData) }
-        // if a read finds that the header is invalid, the bytes in `buf` prove it
+        // if a read finds that the header is invalid, `buf` begins with bytes that make the header
+        // invalid in the state `Start` or in one of the states `InHeader`, whatever bytes follow
         ensures in_buffer { has_failed self.old ≡ false → IsTrue (has_failed self.new)
             → ContainsInvalidHeader buf.new }
         ensures sound { OnOk result (has_failed self.new ≡ false) }

@@ -15,9 +15,9 @@ abbrev pub matching_id : List (List ℕ) → List ℕ → Option ℕ → Option 
 matching_id texts text None = None
 matching_id texts text (Some id) = cond (is_text text (slice_get texts id)) (Some id) None
 
--- for each text, the search returns the id of the text in `texts`, or `None` if `texts` does not contain the text. The
--- search looks up the digest of the text in `firsts`. If `firsts` has an id for the digest, and the string with this id
--- in `texts` equals the text, the search returns this id. Otherwise the search returns the id that `others` has for the
--- text, or `None`
+-- For each text, a search in two steps gives the id of the text in `texts`, or `None` if `texts` does not contain the
+-- text. Step 1 takes the id, if any, that `firsts` has for the digest of the text. If the string with this id in
+-- `texts` equals the text, the search ends and gives this id. Otherwise step 2 gives the id that `others` has for the
+-- text, or `None` if `others` has no id for the text.
 abbrev pub IsIndex : (ℕ → Option ℕ) → (List ℕ → Option ℕ) → List (List ℕ) → Type 0
 IsIndex firsts others texts = (text : List ℕ) → option_or (matching_id texts text (firsts (digest text))) (others text) ≡ id_of text texts

@@ -66,10 +66,10 @@ abbrev pub AreTaken : List Slot → ℕ → Type 0
 AreTaken slots start = (k : ℕ) → k < 32 → IsTaken slots (start + k)
 
 -- An index of texts. There are at most 4294967295 texts, all distinct, and `mask + 33` slots. Each taken slot has the
--- number and the hash of one of the texts. The search for a text covers 32 slots. The first of them is the slot
--- `start_of mask (hash_of text)`. There are two cases. In the first case one of the 32 slots has the number of the
+-- number and the hash of one of the texts. A search for a text covers 32 slots, from `start_of mask (hash_of text)`
+-- on. For each text of `texts`, one of two cases holds. In the first case one of these 32 slots has the number of the
 -- text, and all earlier slots of the 32 are taken. In the second case all 32 slots are taken, and `others` has the
--- number of the text. If `others` has a number for a text, `texts` has the text at this number.
+-- number of the text. If `others` has a number for any text, `texts` has the text at this number.
 pub record IsIndex (texts : List (List ℕ)) (mask : ℕ) (slots : List Slot) (others : List ℕ → Option ℕ) : Type 0 where
   pub few : length texts ≤ 4294967295
   pub distinct : AreDistinct texts

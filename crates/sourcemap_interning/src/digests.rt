@@ -34,8 +34,8 @@ fn with_bytes(digest: u64, bytes: &[u8]) -> u64
     sum
 }
 
-// Returns the sum of the two halves of `product`, modulo 2^64. If the digest were the lower half
-// alone, the last byte of a word would change only the upper eight bits of the digest.
+// Returns the sum of the two halves of `product`, modulo 2^64. Without the upper half, the highest
+// byte of `number` would change only the highest byte of the result.
 fn mix(digest: u64, number: u64) -> u64
     ensures { result ≡ mix digest number }
 {

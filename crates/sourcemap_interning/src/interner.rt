@@ -1,4 +1,4 @@
-//! Interned strings: each is stored once, under an id.
+//! Interned strings: equal strings have the same id.
 ghost use Rattle.std.specs.Prelude.{◌≡◌, ◌≤◌, ℕ, List, [], ◌∷◌, ◌++◌, Some, Err, cond, is_ok, if◌then◌else◌, ◌==◌, map, length, IsOk, IsSome, IfOk, IfErr, OnOk, OnErr, IfSome, option_map, slice_get, string_bytes};
 ghost use Rattle.std.specs.BTreeMap.{get, get_by_text};
 ghost use Rattle.std.specs.Ordering.{nat_cmp};
@@ -17,14 +17,14 @@ use std::marker::Model;
 // The maximum number of strings.
 const MOST: usize = 4294967295;
 
-/// Strings that are stored once each. Ids count from 0, in the order of the first `add`.
+/// Distinct strings, each with an id. Ids count from 0, in the order of the first `add`.
 #[derive(Drop)]
 pub struct Interner {
     texts: Vec<String>,
-    // The id of the first string with each digest.
+    // For each digest, the id of the first string that has this digest.
     firsts: BTreeMap<u64, u32>,
-    // The ids of the other strings, whose digests are in `firsts`. This tree finds one of n strings
-    // in log n time, also if these strings were constructed to have equal digests.
+    // The ids of all other strings. Each of these strings has the same digest as an earlier string.
+    // This tree finds one of n strings in log n time, even if all n strings have equal digests.
     others: BTreeMap<String, u32>,
 }
 
@@ -152,8 +152,8 @@ fn matching_id(texts: &[String], text: &str, id: Option<u32>) -> Option<u32>
     if text == candidate { Some(id) } else { None }
 }
 
-// Appends a string to `texts`, and its id to `firsts` under a digest that is new there. If memory
-// runs out, neither changes.
+// Appends `text` to `texts` and enters `id` in `firsts` under `digest`. If memory runs out, neither
+// changes. `add` calls this function for a new string with a new digest.
 fn put_first(
     texts: &mut Vec<String>,
     firsts: &mut BTreeMap<u64, u32>,

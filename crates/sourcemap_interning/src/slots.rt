@@ -8,7 +8,7 @@ use std::hash::{FoldHasher, Hasher};
 /// The number of slots that a search reads at most.
 pub(crate) const WINDOW: usize = 32;
 
-/// The number in a free slot.
+/// The value of `number` in a free slot. No text has this number.
 pub(crate) const NO_NUMBER: u32 = 4294967295;
 
 #[derive(Clone, Copy)]
@@ -22,7 +22,7 @@ pub(crate) struct Slot {
 pub(crate) enum Probe {
     // the number of the text
     Found(u32),
-    // the text is in no slot that the search reads; the index of the first free slot
+    // the index of the first free slot; the search ended there and did not find the text
     Free(usize),
     // all slots that the search reads are taken by other texts
     Full,

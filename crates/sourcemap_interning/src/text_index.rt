@@ -1,5 +1,6 @@
 //! An index that assigns a number to each text. A hash table stores the numbers. The search for a
-//! text reads 32 slots. If a new text finds all of them taken, a tree stores its number instead.
+//! text reads at most 32 slots of the table. If other texts occupy all 32 slots, a tree stores the
+//! number of the new text instead.
 ghost use Rattle.std.specs.Prelude.{◌≡◌, ◌<◌, ◌≤◌, ◌*◌, ◌++◌, ◌∷◌, ℕ, List, [], None, Some, cond, if◌then◌else◌, is_ok, length, map, vec_len, is_some, IfOk, OnOk, OnErr, IsOkUnless};
 ghost use Rattle.std.specs.Str.{bytes_eq};
 ghost use Rattle.sourcemap_interning.specs.Slots.{number_in_tree};

@@ -17,10 +17,11 @@ pub record IsDecodedBetween (before decoded after : List ℕ) : Type 0 where
   pub goes_on : lex in_string before ≡ lex in_string after
 
 -- A step decodes a part of a string. Before the step, the decoded bytes are `old`, and the rest of the string begins at
--- index `from`. After the step, the decoded bytes are `new`, and the rest begins at index `at`. The decoded bytes,
--- followed by the decoded rest, are the same before and after the step; or both rests are invalid. The tokens, commas
--- and colons after the closing quote are the same too. `old` and `new` may end within a character. If `new` followed by
--- the text from `at` on is UTF-8, then `old` followed by the text from `from` on is UTF-8.
+-- index `from`. After the step, the decoded bytes are `new`, and the rest begins at index `at`. `old` followed by the
+-- decoded rest from `from` on equals `new` followed by the decoded rest from `at` on; or both rests are invalid. The
+-- tokens, commas and colons after the closing quote are the same before and after the step. `old` and `new` may end
+-- within a character. If `new` followed by the text from `at` on is UTF-8, then `old` followed by the text from `from`
+-- on is UTF-8.
 pub record IsReadUpTo (old text : List ℕ) (from : ℕ) (new : List ℕ) (at : ℕ) : Type 0 where
   pub bytes : prepend new (content plain (drop at text)) ≡ prepend old (content plain (drop from text))
   pub goes_on : lex in_string (drop at text) ≡ lex in_string (drop from text)

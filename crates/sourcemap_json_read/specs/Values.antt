@@ -17,7 +17,8 @@ BeginsWithItems depth most old ds new =
     (js : json.Items) × (json.items (json.value depth) most old ≡ Some (js, new)) × (of_items js ≡ Some ds)
 
 -- `old` begins with the members of an object and the closing bracket, and goes on with `new`. There are fewer than
--- `most` members, with values of at most `depth` levels. Inserted into `before` one after another, they give `after`
+-- `most` members, and each value has at most `depth` levels. If the members are inserted into `before` one after
+-- another, the result is `after`
 abbrev pub BeginsWithMembers : ℕ → ℕ → List Token → Members → Members → List Token → Type 0
 BeginsWithMembers depth most old before after new =
     (ms : json.Members) × (json.members (json.value depth) most old ≡ Some (ms, new))

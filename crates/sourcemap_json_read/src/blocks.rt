@@ -7,8 +7,8 @@ use std::simd::Simd;
 /// Zeros to extend a buffer by, at most 4096 bytes at a time.
 pub static ZEROS: [u8; 4096] = [0; 4096];
 
-/// Stores the first `N` bytes of `text` at index `to` of `buffer`, by one load and one store. All
-/// `N` bytes are stored, even if the caller uses only the first few of them.
+/// Stores the first `N` bytes of `text` at index `to` of `buffer`, as one SIMD vector. Always
+/// overwrites `N` bytes of `buffer`, even if the caller needs only the first few.
 #[inline(always)]
 pub fn store_block<const N: usize>(buffer: &mut [u8], to: usize, text: &[u8])
     requires { (N ≤ length text.now) × (to + N ≤ length buffer.old) }

@@ -35,7 +35,8 @@ fn is_punctuation(byte: u8) -> bool
         | (byte == b',')
 }
 
-/// Whether a word ends before `at`: punctuation, white space or the end of the text is at `at`.
+/// Whether a word may end directly before `at`: punctuation or white space is at `at`, or `at` is
+/// not less than the length of the text.
 #[inline(always)]
 pub(crate) fn is_word_end(text: &[u8], at: usize) -> bool
     ensures { result ≡ ends_word (drop at text.now) }
@@ -44,8 +45,8 @@ pub(crate) fn is_word_end(text: &[u8], at: usize) -> bool
     is_punctuation(byte) | is_white(byte)
 }
 
-/// Returns the index after the white space at `from`, or `from` if no white space is there. From
-/// either index on, the text has the same lexemes.
+/// Returns the index after the white space at `from`, or `from` if no white space is there. The
+/// text from the returned index on has the same lexemes as the text from `from` on.
 #[inline(always)]
 pub(crate) fn skip_space(text: &[u8], from: usize) -> usize
     ensures same { lex between (drop result text.now) ≡ lex between (drop from text.now) }
@@ -63,7 +64,7 @@ pub(crate) fn skip_space(text: &[u8], from: usize) -> usize
 }
 
 // The index after the run of spaces at `from`, or `from` if no space is there. Most white space of
-// an indented text is spaces, and one comparison tests for a space.
+// an indented text is spaces. A byte needs one comparison here, but four in `is_white`.
 #[inline(always)]
 fn skip_blanks(text: &[u8], from: usize) -> usize
     ensures same { lex between (drop result text.now) ≡ lex between (drop from text.now) }

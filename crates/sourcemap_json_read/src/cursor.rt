@@ -87,11 +87,12 @@ impl<'a> Model for Cursor<'a> {
 }
 
 impl<'a> Cursor<'a> {
-    /// A cursor at the start of a text. It allocates one scratch buffer for all strings with
-    /// escapes or characters past ASCII. For a valid text without such strings the buffer is never
-    /// written. The capacity of the buffer is the length of the text plus `3 * SLACK` bytes. No
-    /// string decodes to more bytes than the text has. `extend_with_zeros` needs the extra
-    /// `3 * SLACK` bytes, because a stored block may extend past the end of a decoded string.
+    /// Returns a cursor at the start of a text. The error is out of memory. Allocates one scratch
+    /// buffer for all strings with escapes or characters past ASCII. For a valid text without such
+    /// strings the buffer is never written. The capacity of the buffer is the length of the text
+    /// plus `3 * SLACK` bytes. No string decodes to more bytes than the text has. The extra bytes
+    /// are for `extend_with_zeros`, because a stored block may extend past the end of a decoded
+    /// string.
     pub(crate) fn new(alloc: Global, text: &'a [u8]) -> Result<Cursor<'a>, AllocError>
         ensures { IfOk result
             (λ cursor. cursor ≡ record { tokens = tokens text.now; bytes = text.now }) }
@@ -137,8 +138,8 @@ fn skip_comma(text: &[u8], position: Position) -> Position
     }
 }
 
-// `skip_comma` after a value. If a comma is at `at`, the position is after the comma and the white
-// space that follows the comma. If not, the position is `at`.
+// Skips a comma after a value. If a comma is at `at`, returns the position after the comma and the
+// white space that follows the comma. If not, returns the position at `at`.
 #[inline(always)]
 fn skip_comma_at(text: &[u8], at: usize) -> Position
     ensures same { tokens_from text.now result
@@ -258,8 +259,8 @@ fn read_string_step(
     Ok((Step::Text(found), after))
 }
 
-// The position after `word`. The error is `Unsupported` if `word` is not at `position`, or if no
-// value is allowed there.
+// The position after `word`. The error is `Unsupported` if `word` is not at `position`, if the text
+// has a longer word there, or if no value is allowed there.
 #[inline(always)]
 fn after_word(text: &[u8], position: Position, word: &[u8]) -> Result<Position, Stop>
     requires { position.at < length text.now }

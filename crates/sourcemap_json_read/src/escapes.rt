@@ -104,8 +104,9 @@ fn store_bytes(buffer: &mut [u8], to: usize, bytes: &[u8])
     buffer[to..to + bytes.len()].copy_from_slice(bytes);
 }
 
-/// The character of the `\u` escape at `at`, or of the two escapes there that are a surrogate pair.
-/// Also returns the index after the escape or the pair. `None` if neither is there.
+/// Returns the character of the `\u` escape at `at`, and the index after the escape. If two `\u`
+/// escapes there are a surrogate pair, returns the character of the pair, and the index after both.
+/// Returns `None` if no `\u` escape is at `at`, or if the escape is a lone surrogate.
 fn unicode_escape(text: &[u8], at: usize) -> Option<(char, usize)>
     requires { at ≤ length text.now }
     ensures decodes { IfSome result

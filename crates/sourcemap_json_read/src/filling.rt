@@ -53,9 +53,11 @@ pub(crate) fn fill(buffer: &mut [u8], start: usize, text: &[u8], from: usize) ->
     (to, at)
 }
 
-// Decodes the rest of a block, from `from` to `end`. `stops` is the mask of the bytes in this rest
-// that are not plain. Returns the indices reached in the buffer and in the text, and whether the
-// whole rest was decoded. An escape may reach one byte past `end`.
+// Decodes the bytes of a block from `from` to `end`. Stops before a byte that is neither plain nor
+// the start of a two-byte escape. In the mask `stops`, a bit is 1 if its byte is before `end` and
+// not plain. The lowest bit is for the byte at `from`. Returns the indices reached in the buffer
+// and in the text, and whether all bytes before `end` were decoded. A two-byte escape that begins
+// at `end - 1` is decoded whole: the index reached in the text is then `end + 1`.
 #[inline(always)]
 fn fill_block(
     buffer: &mut [u8],

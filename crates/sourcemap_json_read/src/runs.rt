@@ -66,7 +66,7 @@ pub fn copy_run(out: &mut Vec<u8>, text: &[u8], from: usize) -> Result<usize, Al
     Ok(end)
 }
 
-/// A mask of the bytes that end a run, the lowest bit for the first byte.
+/// Returns a mask of the bytes that end a run of plain bytes. The lowest bit is for the first byte.
 #[inline(always)]
 pub fn stops(bytes: u8x32) -> u64
     ensures { result ≡ mask_l (map is_stop bytes) }
@@ -77,7 +77,7 @@ pub fn stops(bytes: u8x32) -> u64
     (quotes | backslashes | controls).to_bitmask()
 }
 
-/// The same mask as by `stops`, for 64 bytes.
+/// Returns the same mask as `stops`, but for 64 bytes.
 #[inline(always)]
 pub(crate) fn block_stops(bytes: u8x64) -> u64
     ensures { result ≡ mask_l (map is_stop bytes) }
@@ -115,7 +115,7 @@ fn run_end_by_bytes(text: &[u8], from: usize) -> usize
     at
 }
 
-/// Whether a string may have this byte unescaped.
+/// Whether a JSON string may contain this byte without an escape.
 #[inline(always)]
 pub(crate) fn is_plain(byte: u8) -> bool
     ensures { result ≡ is_plain byte }

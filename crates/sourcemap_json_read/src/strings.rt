@@ -17,7 +17,8 @@ use std::str::from_utf8_unchecked;
 
 /// Decodes the string whose first byte after the opening quote is at `start`. Also returns the
 /// index after the closing quote. A string with escapes or characters past ASCII is first decoded
-/// in `scratch`, and overwrites what is there. The error is `Unsupported` if the string is invalid.
+/// into `scratch`, over the old bytes of `scratch`. The error is `Unsupported` if the string is
+/// invalid, or if the decoded bytes are not UTF-8. Any other error is out of memory.
 pub(crate) fn read_string(
     alloc: Global,
     text: &[u8],
@@ -62,9 +63,11 @@ fn read_escaped(
     Ok((String::from_str(alloc, decoded)?, end))
 }
 
-/// Decodes the string into the front of `buffer`, and overwrites what is there. Appends zeros to
-/// `buffer` if it is too short. The scratch buffer of a cursor has enough capacity for these zeros.
-/// Returns the number of bytes decoded and the index after the closing quote.
+/// Decodes the string whose first byte after the opening quote is at `start`. Stores the decoded
+/// bytes at the front of `buffer`, over the old bytes. Appends zeros to `buffer` if it is too
+/// short. The scratch buffer of a cursor has enough capacity for these zeros. Returns the number of
+/// decoded bytes and the index after the closing quote. The decoded bytes may be invalid UTF-8. The
+/// error is `Unsupported` if the string is invalid. Any other error is out of memory.
 #[inline(always)]
 fn unescape(buffer: &mut Vec<u8>, text: &[u8], start: usize) -> Result<(usize, usize), Stop>
     requires { start ≤ length text.now }

@@ -17,10 +17,10 @@ use std::alloc::{AllocError, Global};
 // The most levels of arrays and objects that `serde_json` accepts.
 const MAX_DEPTH: usize = 127;
 
-/// Returns the JSON value of these bytes, as `Value::from_slice` does. Returns an error of category
-/// `Syntax` or `Eof` if they are not UTF-8, are not a JSON text, nest deeper than 127 levels or
-/// have a number too large for `f64`. Of duplicate keys the last value is kept. Any other error is
-/// out of memory.
+/// Returns the JSON value of these bytes, as `Value::from_slice` does. Of duplicate keys the last
+/// value is kept. Returns an error of category `Syntax` or `Eof` if the bytes are not UTF-8, are
+/// not a JSON text, have more than 127 levels, have a number too large for `f64`, or escape one
+/// half of a surrogate pair without the other. Any other error is out of memory.
 pub fn value_from_slice(alloc: Global, bytes: &[u8]) -> Result<Value, Error>
     ensures ok { IfOk result (λ v. IsUtf8 bytes.now × (read_json bytes.now ≡ Some (view v))) }
     ensures nests { IfOk result (λ v. nesting (view v) ≤ max_depth) }
@@ -48,9 +48,11 @@ fn read_fast(alloc: Global, bytes: &[u8]) -> Result<Value, Stop>
     }
 }
 
-/// Reads a value of at most `depth` levels. `first` is its first step, which the cursor has just
-/// read. Inlined into the loops over items and members, which saves a call for each string and each
-/// number.
+/// Reads the value that begins with `first`, the token that the cursor read last. The value has at
+/// most `depth` levels. The error is `Unsupported` if no value begins with `first`, if the value
+/// has more levels, or if the value has another form that the fast path does not support. Any other
+/// error is out of memory. Inlined into the loops over items and members, which saves a call for
+/// each string and each number.
 #[cycle(read)]
 #[inline(always)]
 fn read(alloc: Global, first: Step, cursor: &mut Cursor<'_>, depth: usize) -> Result<Value, Stop>

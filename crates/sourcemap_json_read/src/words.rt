@@ -46,7 +46,8 @@ pub(crate) fn whole_number(text: &[u8], from: usize) -> Result<(u64, usize), Sto
     }
 }
 
-// Whether the digits have no leading zero, or are one zero.
+// Whether the digits from `from` to `end` have no leading zero: true for `0` and `70`, false for
+// `00` and `07`.
 #[inline(always)]
 fn is_shortest(text: &[u8], from: usize, end: usize) -> bool
     requires { from < end }

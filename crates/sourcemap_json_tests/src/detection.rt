@@ -96,7 +96,7 @@ fn maps_and_other_texts(rt: HostRuntime) {
     }
 }
 
-// The result for a reader that fails after `count` bytes.
+// Calls `is_sourcemap` on a reader that returns the first `count` bytes, and then an error.
 fn detect_failing(alloc: Global, bytes: &[u8], count: usize) -> Result<String> {
     let read = &bytes[..count.min(bytes.len())];
     let is_map = is_sourcemap(alloc, OneByOne(read).chain(OneByOne(b"!")))?;

@@ -7,7 +7,7 @@ use std::alloc::Global;
 use std::io::{ErrorKind, Read};
 use std::{io, str};
 
-// Gives one byte a read, and an error at each `!`.
+// Each read returns one byte. At a `!`, the read fails instead, and the `!` is skipped.
 #[derive(Drop)]
 pub struct OneByOne<'a>(pub &'a [u8]);
 
@@ -141,7 +141,7 @@ fn errors_come_at_their_reads(rt: HostRuntime) {
     }
 }
 
-// Gives one byte a read, and fails once, with a message, where `left` bytes are left.
+// Each read returns one byte. When `left` bytes remain, one read fails instead, with a message.
 #[derive(Drop)]
 struct FailsOnce<'a> {
     rest: &'a [u8],

@@ -151,7 +151,8 @@ fn a_failed_read_is_no_reference(rt: HostRuntime) {
     );
 }
 
-// The reference in a reader that is interrupted before each byte, and fails after `reads` reads.
+// The reference in a reader that is interrupted before each byte. After `reads` reads that were
+// not interrupted, the reader fails with `kind`.
 fn read_halting(alloc: Global, bytes: &[u8], reads: usize, kind: ErrorKind) -> Result<String> {
     let reader = HaltingReader::new(bytes, reads, kind);
     reference_text(alloc, locate_sourcemap_reference(alloc, reader))
@@ -386,7 +387,7 @@ fn failing(kind: ErrorKind) -> NarrowReader<'static> {
     }
 }
 
-// The kind of a failed read, the result of locating a reference, and the result of detection.
+// The kind of a read error, and the results of `locate_sourcemap_reference` and `is_sourcemap`.
 static FAILED: [(ErrorKind, &str, &str); 2] = [
     (ErrorKind::OutOfMemory, "OutOfMemory", "OutOfMemory"),
     (ErrorKind::TimedOut, "Io(Kind(TimedOut))", "false"),

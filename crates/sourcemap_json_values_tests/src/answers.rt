@@ -1,5 +1,5 @@
-// The value that a text is read to, as compact JSON, or `none` on an error other than out of
-// memory.
+// The value that a reader returns, as compact JSON. If the reader refuses the text, the result is
+// `none`. The error is out of memory.
 use serde_json::{Category, Result, Value};
 use sourcemap_json_read::values::value_from_slice;
 use std::alloc::Global;
@@ -12,12 +12,12 @@ fn compact_text(alloc: Global, answer: Result<Value>) -> Result<String> {
     }
 }
 
-/// What our reader returns for these bytes.
+/// What `sourcemap_json_read` reads from these bytes, as compact JSON, or `none`.
 pub fn answer(alloc: Global, bytes: &[u8]) -> Result<String> {
     compact_text(alloc, value_from_slice(alloc, bytes))
 }
 
-/// What the kit's reader returns for these bytes.
+/// What the kit's `serde_json` reads from these bytes, as compact JSON, or `none`.
 pub fn kit_answer(alloc: Global, bytes: &[u8]) -> Result<String> {
     compact_text(alloc, Value::from_slice(alloc, bytes))
 }

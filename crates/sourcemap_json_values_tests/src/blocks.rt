@@ -8,7 +8,7 @@ use std::process::Abort;
 
 static LENGTHS: [usize; 8] = [0, 1, 31, 32, 33, 63, 64, 65];
 
-// An escape, and its character in compact JSON.
+// Escapes, and their characters in compact JSON.
 static ESCAPES: [(&str, &str); 13] = [
     (r#"\""#, r#"\""#),
     (r"\\", r"\\"),
@@ -32,8 +32,7 @@ static WIDE: [(&str, &str); 3] = [
     (r"\t😀\u0041", r"\t😀A"),
 ];
 
-// Ends of a JSON text: each has an invalid escape or control byte, or leaves the string without its
-// closing quote.
+// Invalid ends of a JSON string. Each has a control byte, an invalid escape or no closing quote.
 static ERRORS: [&str; 7] = [
     r"\n",
     r"\",

@@ -28,7 +28,7 @@ static BYTES: [(&[u8], &str); 23] = [
     (b"{\"a\":1\xc2\xa0,\"b\":2}", "none"),
     (b"{\"\x80\":1}", "none"),
     (b"{\"a\":\"\x80\",\"a\":\"b\"}", "none"),
-    // An escape within a character.
+    // An escape after an incomplete character.
     (b"\"\xc3\\n\xa9\"", "none"),
     (b"\"\xe2\x82\\u00ac\"", "none"),
     (b"\"\xc3\\u00e9\"", "none"),
@@ -42,7 +42,7 @@ fn only_bytes_of_utf8_are_read(rt: HostRuntime) {
     }
 }
 
-// Bytes between ASCII bytes, and whether they are UTF-8 there.
+// Bytes for the middle of an ASCII string, and whether these bytes are UTF-8.
 static AMID: [(&[u8], bool); 8] = [
     (b"\xc3\xa9", true),
     (b"\xf0\x9f\x98\x80", true),
@@ -54,7 +54,7 @@ static AMID: [(&[u8], bool); 8] = [
     (b"\xe2\x82\\\"\xac", false),
 ];
 
-// A string of `letters` letters, these bytes, and as many letters again.
+// A JSON string: `letters` letters, then `inner`, then again `letters` letters.
 fn surround(alloc: Global, letters: usize, inner: &[u8]) -> StdResult<Vec<u8>, AllocError> {
     let around = "a".repeat(alloc, letters)?;
     let mut text = Vec::new(alloc);

@@ -1,5 +1,5 @@
-// JSON texts in which up to two bytes are overwritten. Our reader and the reader of the kit's
-// `serde_json` must return the same value for such a text, or both must fail.
+// JSON texts in which up to two bytes are overwritten. `sourcemap_json_read` and the kit's
+// `serde_json` must read each such text as the same value, or both must refuse the text.
 use crate::answers::{answer, kit_answer};
 use crate::checks::check;
 use serde_json::Result;

@@ -1,5 +1,5 @@
-// Strings with escapes far from the end of the JSON text, so that whole blocks are decoded. Also
-// strings that are longer than the buffer is at first.
+// Strings with escapes, mostly so far from the end of the JSON text that the reader decodes whole
+// blocks. Some strings are longer than 4096 bytes, so the reader extends its buffer more than once.
 use crate::answers::{answer, kit_answer};
 use crate::checks::check;
 use serde_json::Result;
@@ -21,7 +21,7 @@ static SPELLED: [(&str, &str); 11] = [
     (r#"\b\f\r"#, r#"\b\f\r"#),
 ];
 
-// Each of these makes the JSON text invalid if it is put into a string.
+// A JSON text is invalid if one of these is inserted into one of its strings.
 static ERRORS: [&str; 6] = ["\t", r"\x", r"\u00g0", r"\ud83d\n", "\\\u{1}", r#"",,""#];
 
 // Ranges for the number of letters before an escape. The first range includes 64 and 128, the
@@ -91,8 +91,8 @@ fn texts_without_an_end_are_refused(rt: HostRuntime) -> Result<()> {
     Ok(())
 }
 
-// Strings longer than the buffer is at first, and after them shorter strings, which reuse the
-// buffer.
+// For the first string of each text, the reader extends its buffer several times, by 4096 bytes
+// each time. The other strings of the text reuse the extended buffer.
 #[test]
 fn strings_longer_than_the_first_buffer_are_read(rt: HostRuntime) -> Result<()> {
     for before in 0..70 {

@@ -1,4 +1,4 @@
-// Levels of arrays and objects, and strings of each length.
+// Arrays and objects of up to 128 levels, and strings that begin with 0 to 99 letters `a`.
 use crate::answers::{answer, kit_answer};
 use crate::checks::check;
 use serde_json::Result;

@@ -99,8 +99,8 @@ fn check_written(rt: &impl Abort, alloc: Global, value: Value, want: &str) -> Re
     Ok(())
 }
 
-// `run` repeated `len` times, then `between`, then `run` as often again, with `around` at both
-// ends.
+// Returns `around`, then `len` times `run`, then `between`, then again `len` times `run`, then
+// `around`. `between` must differ from `run`.
 fn two_runs(alloc: Global, run: &str, len: usize, between: &str, around: &str) -> Result<String> {
     let mut text = String::from_str(alloc, around)?;
     for part in [run, between, run].iter() {
@@ -169,9 +169,9 @@ fn escapes_between_runs_of_each_length_are_written(rt: HostRuntime) -> Result<()
 }
 
 // The writer checks a short string block by block for bytes that need an escape. Blocks may
-// overlap. If no byte needs an escape, the writer copies the string in the same blocks. So the test
-// tries strings of each length up to 70: with one byte that needs an escape, at each index in turn,
-// and without such a byte.
+// overlap. If no byte needs an escape, the writer copies a string of up to 48 bytes in the same
+// blocks. So the test tries strings of each length up to 70. For each index, one string needs an
+// escape at this index only. Another string of the same length needs no escape.
 #[test]
 fn an_escape_at_each_index_of_a_short_string_is_written(rt: HostRuntime) -> Result<()> {
     for len in 0..71u8 {

@@ -48,8 +48,8 @@ fn put_escaped(out: &mut Vec<u8>, text: &[u8]) -> Result<(), AllocError>
     let mut try_blocks = true;
     loop {
         let from = put_blocks(out, text, at, try_blocks)?;
-        // `put_blocks` stops at each byte that needs a `\u` escape. If it stops after at most
-        // `LONG` bytes, such bytes are probably close to each other, so no later call tries blocks.
+        // `put_blocks` stops at each byte that needs a `\u` escape. If `put_blocks` advanced by at
+        // most `LONG` bytes, `\u` escapes are probably frequent, so no later call tries blocks.
         try_blocks = from - at > LONG;
         let rest = &text[from..];
         if is_plain(rest) {
@@ -65,10 +65,10 @@ fn put_escaped(out: &mut Vec<u8>, text: &[u8]) -> Result<(), AllocError>
     }
 }
 
-// Appends a part of the string from `from` on, escaped. Appends nothing if `try_blocks` is false,
-// or if at most `LONG` bytes of the string are left. `out` is first extended by many zeros at once,
-// and finally cut after the last byte written. Returns the index reached in the string, which may
-// be `from`.
+// Appends the string from index `from` on to `out`, escaped, until `fill` stops. Returns the index
+// reached in the string. Appends nothing and returns `from` if `try_blocks` is false, if at most
+// `LONG` bytes of the string are left, or if the byte at `from` needs a `\u` escape. Before `fill`,
+// `out` is extended by `ZEROS`. After `fill`, `out` is truncated after the last byte written.
 #[inline(always)]
 fn put_blocks(
     out: &mut Vec<u8>,

@@ -20,9 +20,9 @@ const SHORT: usize = 48;
 /// are left, the writer escapes without this test.
 pub(crate) const LONG: usize = 1024;
 
-// A short string in quotes has at most 50 bytes, so these 64 zeros are enough for it. A vector is
-// extended by all of them, with one test of its capacity and a few stores. The string is then
-// written over the first zeros, and the vector is cut after the string.
+// To append a short string, `out` is first extended by these zeros, with one test of the capacity
+// and a few stores. Then the string overwrites the first zeros, and `out` is truncated after the
+// string. 64 zeros are enough, because a short string in quotes has at most 50 bytes.
 static ZEROS: [u8; 64] = [0; 64];
 
 /// Whether a string is short and needs no escape.

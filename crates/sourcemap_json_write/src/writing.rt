@@ -125,7 +125,7 @@ fn put_comma(out: &mut Vec<u8>, later: bool) -> Result<(), AllocError>
     Ok(())
 }
 
-/// Appends an integer to `out`, in decimal. For a float the error is `Fraction`.
+/// Appends an integer to `out`, in decimal. The error is `Fraction` for a float, or `OutOfMemory`.
 fn put_number(out: &mut Vec<u8>, number: &Number) -> Result<(), Refusal>
     ensures text { OnOk result
         (out.new.items ≡ out.old.items ++ number_text (number_view number.now)) }

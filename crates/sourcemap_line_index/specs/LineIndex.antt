@@ -1,4 +1,4 @@
--- The table of the lines that hold tokens, and the number of binary digits of a count.
+-- The table of the lines that hold tokens, and the number of binary digits of a natural number.
 use Rattle.std.specs.Prelude.{◌≡◌, ℕ, zero, suc, ◌<◌, ◌≤◌, ◌+◌, ◌-◌, ◌/◌, ◌==◌, if◌then◌else◌, ◌≢◌, List, [], ◌∷◌, ◌++◌, Option, Some, length, option_map, slice_get, slice_index, slice_index_or}
 use Rattle.sourcemap_tokens.specs.Tokens.{AreInOrder}
 use Rattle.sourcemap_tokens.specs.declared.tokens.RawToken.{RawToken}
@@ -20,7 +20,7 @@ with_row table line first = record { lines = table.lines ++ line ∷ []; firsts 
 abbrev pub line_at : List RawToken → ℕ → Option ℕ
 line_at tokens index = option_map (λ token. token.dst_line) (slice_get tokens index)
 
--- the token at this index is the first of its line
+-- the token at this index is the first token, or is not on the line of the token before it
 abbrev pub BeginsLine : List RawToken → ℕ → Type 0
 BeginsLine tokens index = 0 < index → line_at tokens index ≢ line_at tokens (index - 1)
 
@@ -28,10 +28,9 @@ BeginsLine tokens index = 0 < index → line_at tokens index ≢ line_at tokens 
 abbrev pub ContinuesLine : List RawToken → ℕ → Type 0
 ContinuesLine tokens index = (0 < index) × (line_at tokens index ≡ line_at tokens (index - 1))
 
--- For tokens sorted by generated position, this is the table of the first n tokens. The table has one row for each
--- line that holds one of these tokens. A row consists of a line and of the index of the first token on the line. All
--- tokens from this index up to, not including, the first token of the next row are on the line of the row. All tokens
--- from the index in the last row up to, not including, index n are on the line of the last row.
+-- If the tokens are sorted by generated position, this is the table of the first n tokens. The table has one row for
+-- each line that holds at least one of these tokens, in the order of the lines. A row is the line and the index of the
+-- first token on the line. For example, three tokens on the lines 0, 0 and 3 have the rows (0, 0) and (3, 2).
 pub record IsLineTable (tokens : List RawToken) (n : ℕ) (table : LineTable) : Type 0 where
   pub same_length : length table.firsts ≡ length table.lines
   pub few : length table.lines ≤ n

@@ -9,8 +9,9 @@ pub record AreColumns (tokens : List RawToken) (columns : List ℕ) : Type 0 whe
   pub own : (k : ℕ) (d : RawToken) → k < length columns → slice_index columns k ≡ col_at tokens d (8 * k)
   pub all : length tokens ≤ 8 * length columns
 
--- there are no samples, or they are the columns of every eighth token. In the second case the lines hold at least 32
--- tokens on average. With shorter lines, a search by samples could exceed the bound on comparisons
+-- `lines` is the number of lines with tokens. If there are samples, they are the columns of every eighth token, and
+-- these lines hold at least 32 tokens on average. With shorter lines, a search by samples could make more than
+-- 2 (d + 1) comparisons, the bound for a list whose token count has d binary digits
 abbrev pub AreSamples : (tokens : List RawToken) (lines : ℕ) (columns : List ℕ) → Type 0
 AreSamples tokens lines columns = 0 < length columns → AreColumns tokens columns × (32 * lines ≤ length tokens)
 
@@ -20,8 +21,8 @@ pub record HasRisingColumns (tokens : List RawToken) (first end : ℕ) : Type 0 
   pub within : end ≤ length tokens
   pub rises : (d : RawToken) → Rises (col_at tokens d) first end
 
--- The search range is from index `first` up to, not including, `end`, and the columns in it do not fall. Then `index`
--- is the index of the first token in the range with a column of at least `col`, or `end` if there is no such token.
+-- Let the columns of the tokens from index `first` up to, not including, `end` not fall. Then `index` is the index of
+-- the first of these tokens with a column of at least `col`, or `end` if there is no such token.
 pub record IsFirstAtColumn (tokens : List RawToken) (first end col index : ℕ) : Type 0 where
   pub at_least : first ≤ index
   pub at_most : index ≤ end

@@ -198,8 +198,8 @@ fn span_of_one<P: Probe>(line: u32, count: usize, probe: &mut P) -> (usize, usiz
     }
 }
 
-// An upper bound for the number of lines that hold tokens. With this capacity, each list of the
-// table is allocated once.
+// An upper bound for the number of lines that hold tokens, if the tokens are in order. With this
+// capacity, no list of the table grows while it is filled.
 fn rows_at_most(tokens: &[RawToken]) -> usize {
     match tokens.last() {
         None => 0,

@@ -108,8 +108,8 @@ impl Probe for KeyProbe {
 // For more steps than this, `if_less` uses an `if`, which compiles to a conditional move.
 const FAR: usize = 4096;
 
-// `steps` if `a < b`, else 0. A branch would be mispredicted half of the time, so `steps` is masked
-// if it is at most `FAR`.
+// Returns `steps` if `a < b`, else 0. A branch would be mispredicted half of the time. So the code
+// uses a mask for up to `FAR` steps, and a conditional move for more.
 fn if_less(a: u32, b: u32, steps: usize) -> usize
     ensures { result ≡ (if nat_lt a b then steps else 0) }
 {

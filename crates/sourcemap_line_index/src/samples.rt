@@ -78,8 +78,9 @@ fn columns_of(alloc: Global, tokens: &[RawToken]) -> Result<Vec<u32>, AllocError
 }
 
 // Returns the index of the first token from `first` up to, not including, `end` whose column is at
-// or after the probe's column, or `end` if there is no such token. If there are samples, and the
-// range holds at least `SPACING` tokens, it first searches the samples of the range, then tokens.
+// or after the probe's column, or `end` if there is no such token. If there are samples, and
+// `end - first` is at least `SPACING`, the samples are searched first, and then fewer than
+// `SPACING` tokens.
 #[inline(always)]
 pub(crate) fn first_by_samples<P: Probe>(
     tokens: &[RawToken],
@@ -104,8 +105,8 @@ pub(crate) fn first_by_samples<P: Probe>(
     let low = first.div_ceil(SPACING);
     let high = end.div_ceil(SPACING);
     let index = SPACING * first_sample(samples, low, high, probe);
-    // If `index` is not 0, the returned index is greater than `index - SPACING`: that index is less
-    // than `first`, or the column of its token is before the probe's column.
+    // If `index` is not 0, the result is above `index - SPACING`. The reason: `index - SPACING` is
+    // below `first`, or the token at `index - SPACING` has a column before the probe's column.
     let from = first.max(index.saturating_sub(SPACING - 1));
     first_linear(tokens, from, end.min(index), probe)
 }
@@ -137,8 +138,8 @@ fn first_sample<P: Probe>(samples: &[u32], first: usize, end: usize, probe: &mut
     sample
 }
 
-// As `first_by_samples`, but without samples. If the line is short, and the list is too long for
-// the processor's cache, it uses a linear search, otherwise a binary search.
+// As `first_by_samples`, but without samples. The search is linear if there are at least `LARGE`
+// tokens and `end - first` is at most `FEW`. Otherwise the search is binary.
 #[inline(always)]
 fn first_without_samples<P: Probe>(
     tokens: &[RawToken],

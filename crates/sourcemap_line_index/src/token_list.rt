@@ -107,13 +107,13 @@ impl TokenList {
         self.tokens.get(index).copied()
     }
 
-    /// Returns the token closest to a generated position, with its index in the list: the first
-    /// token at the position, else the last token before it. Line and column count from 0. Returns
-    /// `None` if all tokens are after the position.
+    /// Returns the token closest to a generated position, with its index in the list. The closest
+    /// token is the first token at the position, else the last token before the position. Returns
+    /// `None` if all tokens are after the position. Line and column count from 0.
     ///
-    /// The second value is the number of comparisons of `line` or `col` with a number. If the count
-    /// of tokens has d binary digits, the search makes at most 2 (d + 1) comparisons, however many
-    /// tokens have the same position. Allocates nothing.
+    /// The second value is how often the search compared `line` or `col` with the line or column of
+    /// a token. If the count of tokens has d binary digits, the search makes at most 2 (d + 1) such
+    /// comparisons, however many tokens have the same position. Allocates nothing.
     #[inline(always)]
     pub fn closest_steps(&self, line: u32, col: u32) -> (Option<(usize, RawToken)>, u32)
         ensures answer { result.0 ≡ closest_token self.now (line, col) }

@@ -12,7 +12,7 @@ use Rattle.sourcemap_map_parts.specs.TextLists.{same_text}
 abbrev pub fitted : {X : Type 0} → ℕ → List (Option X) → List (Option X)
 fitted count contents = take count (contents ++ replicate count None)
 
--- equally long lists with the same text or `None` at each index
+-- whether both lists are equally long and, at each index, both have the same text or both have `None`
 abbrev pub same_contents : List (Option (List ℕ)) → List (Option (List ℕ)) → Bool
 same_contents = pointwise (option_eq same_text)
 

@@ -1,4 +1,4 @@
--- The invariant of stored sources.
+-- `sources_in` converts the fields of `Sources` to a `SourcesValue`. `AreStored` is the invariant of the fields.
 use Rattle.std.specs.Prelude.{◌≡◌, ◌≤◌, length, option_map, unwrap_or, string_bytes}
 use Rattle.sourcemap_texts.specs.Texts.{texts_of}
 use Rattle.sourcemap_map_parts.specs.Sources.{SourcesValue, resolved_texts}

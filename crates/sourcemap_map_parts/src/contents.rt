@@ -15,9 +15,9 @@ use sourcemap_tokens::items::item_at;
 use std::alloc::Global;
 use std::marker::Model;
 
-/// The contents of sources, indexed by source id; a source without contents has `None`. The list
-/// may be shorter or longer than the list of sources, and has at most 4294967295 items. A view is
-/// made when its text is set.
+/// The contents of sources, each as a `SourceView`, indexed by source id. A source without contents
+/// has `None`. The list may be shorter or longer than the list of sources, and has at most
+/// 4294967295 items. `of_texts` and `set` make a view of each text. `get` only borrows a view.
 #[derive(Debug)]
 pub struct Contents {
     views: Vec<Option<SourceView>>,
@@ -74,9 +74,9 @@ impl Contents {
         item_at(&self.views, id as usize)
     }
 
-    /// Sets or clears the contents of the source with this id. `count` is the number of sources:
-    /// the list is cut, or filled with `None`, to this length. The only error is `OutOfMemory`, and
-    /// then nothing changes.
+    /// Sets or clears the contents of the source with this id. `count` is the number of sources.
+    /// A list with more than `count` items is truncated. A list with fewer items is filled with
+    /// `None` up to `count` items. The only error is `OutOfMemory`, and then nothing changes.
     pub fn set(&mut self, count: u32, id: u32, text: Option<&str>) -> Result<()>
         requires { id < count }
         ensures { Changes result self.old self.new

@@ -7,8 +7,8 @@ ghost use Rattle.sourcemap_map_parts.specs.Contents.{fitted};
 
 use sourcemap_errors::errors::{Error, Result};
 
-/// Cuts the list, or fills it with `None`, to `count` items. Then sets the item at `index`. The
-/// only error is `OutOfMemory`, and then the list is unchanged.
+/// Makes the list `count` items long, as `fit` does. Then sets the item at `index`. The only error
+/// is `OutOfMemory`, and then the list is unchanged.
 pub fn put<T: Drop>(
     items: &mut Vec<Option<T>>,
     count: usize,
@@ -24,8 +24,8 @@ pub fn put<T: Drop>(
     Ok(())
 }
 
-/// Cuts the list, or fills it with `None`, to `count` items. The only error is `OutOfMemory`, and
-/// then the list is unchanged.
+/// Makes the list `count` items long. A longer list is truncated. A shorter list is filled with
+/// `None` at its end. The only error is `OutOfMemory`, and then the list is unchanged.
 pub fn fit<T: Drop>(items: &mut Vec<Option<T>>, count: usize) -> Result<()>
     ensures ok { OnOk result (items.new.items ≡ fitted count items.old.items) }
     ensures len { OnOk result (vec_len items.new ≡ count) }

@@ -200,7 +200,7 @@ impl Sources {
         })
     }
 
-    /// The allocator of the list.
+    /// The allocator of the list of unresolved sources.
     pub fn allocator(&self) -> Global {
         *self.texts.allocator()
     }
@@ -229,7 +229,7 @@ impl PartialEq for Sources {
     }
 }
 
-// Whether resolving ignores the root.
+// Whether `source` is absolute. No root changes an absolute source.
 fn is_absolute_source(source: &str) -> bool
     ensures { result ≡ is_absolute_source source.now }
 {
@@ -305,13 +305,14 @@ fn put_text(texts: &mut Vec<String>, id: usize, text: String)
     texts[id] = text;
 }
 
-// Updates the resolved sources in `resolved_list` for a new text `source`. Afterwards the caller
-// stores the new text as the unresolved source with this id. There must be a source with this id in
-// `sources`. If `resolved_list` is not `None`, it must contain all `sources`, resolved against
-// `root`. In that case the resolved new text replaces the item with this id. If `resolved_list` is
-// `None` and `root` is empty, the list stays `None`, since an empty root changes no source. If
-// `resolved_list` is `None` and `root` is not empty, the list is created, since `root` may change
-// the new text. The only error is `OutOfMemory`, and then `resolved_list` is unchanged.
+// Updates `resolved_list` for a change of one source: source `id` gets the new text `source`. The
+// caller stores the new text after this call, so `sources` still contains the old text. `id` must
+// be less than the length of `sources`. If `resolved_list` is not `None`, the list must contain all
+// `sources`, resolved against `root`. In this case, the call replaces item `id` by the resolved new
+// text. If `resolved_list` is `None` and `root` is empty, the call changes nothing, since an empty
+// root changes no source. If `resolved_list` is `None` and `root` is not empty, `root` may change
+// the new text. So the call creates the list of all resolved sources, with the resolved new text as
+// item `id`. The only error is `OutOfMemory`, and then `resolved_list` is unchanged.
 fn update_resolved(
     alloc: Global,
     resolved_list: &mut Option<Vec<String>>,

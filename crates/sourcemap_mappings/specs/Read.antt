@@ -15,8 +15,8 @@ pub record Line : Type 0 where
   pub bits : List ℕ
   pub segments : List Segment
 
--- the tokens of some segments of line n, which come after the segments `here` of this line and the segments `before`
--- of earlier lines
+-- the tokens of some segments of line n. These segments come after the segments `here` of line n and the segments
+-- `before` of earlier lines
 abbrev pub line_tokens : ℕ → List ℕ → List Segment → List Segment → List Segment → List RawToken
 line_tokens n bits before here [] = []
 line_tokens n bits before here (s ∷ later) =
@@ -43,8 +43,8 @@ PartError counts index before part e =
     HasError part e
     ⊎ ((s : Segment) × (s.index ≡ index) × Reads part s.numbers × (segment_error counts (before ++ s ∷ []) s ≡ Some e))
 
--- these parts of a line, of which the first has this index, decode to these valid segments, after the segments
--- `before`. An empty part decodes to no segment
+-- some successive parts of a line decode to these valid segments. The first of the parts has this index in its line,
+-- and comes after the segments `before`. An empty part decodes to no segment
 abbrev pub PartsRead : Counts → ℕ → List Segment → List (List ℕ) → List Segment → Type 0
 PartsRead counts index before [] segments = segments ≡ []
 PartsRead counts index before ([] ∷ parts) segments = PartsRead counts (index + 1) before parts segments

@@ -28,8 +28,8 @@ RiseFrom earlier later = IsTrue later.rises → IsTrue earlier.rises × (earlier
 abbrev pub AddsOnLine : (line : ℕ) (old new : List RawToken) → Type 0
 AddsOnLine line old new = (more : List RawToken) × (new ≡ old ++ more) × AllByRecursion (λ t. t.dst_line ≡ line) more
 
--- if the tokens from index `first` on are all on one line, after the lines of the earlier tokens, and `old` is the line
--- table of the earlier tokens, then `new` is the line table of all tokens
+-- let the tokens from index `first` on be on one line, and the tokens before index `first` on earlier lines. If `old`
+-- is the line table of the tokens before index `first`, then `new` is the line table of all tokens
 abbrev pub AddsRow : (old new : LineTable) (tokens : List RawToken) (first : ℕ) → Type 0
 AddsRow old new tokens first = (line : ℕ) (before more : List RawToken) → tokens ≡ before ++ more → first ≡ length before
     → AllByRecursion (λ t. t.dst_line < line) before → AllByRecursion (λ t. t.dst_line ≡ line) more
@@ -43,15 +43,15 @@ pub record AddsParts (counts : Counts) (position : PartPosition) (bits : List �
   pub tokens : new ≡ old ++ line_tokens position.line bits before here segments
   pub sums_after : AreSums before (here ++ segments) sums
 
--- the tokens of the first part of a line are appended. `tail` is the text after the `,` that ends this part, or
--- `None` if the line has no other part
+-- the token of the first part of `line` is appended; an empty part has no token. `line` is the rest of a line, from
+-- this position on. `tail` is the text after the `,` that ends the part, or `None` if `line` has no other part
 pub record AddsFirstPart (counts : Counts) (position : PartPosition) (bits : List ℕ) (before here : List Segment) (line : List ℕ) (old new : List RawToken) (sums : Sums) (tail : Option (Bor (List ℕ))) : Type 0 where
   pub part : List ℕ
   pub split : parts_of line ≡ part ∷ option_map_or (λ rest. parts_of rest.now) tail []
   pub adds : AddsParts counts position bits before here (part ∷ []) old new sums
 
--- the tokens of the first part of a line are appended. The sums before the part are `earlier`, the sums after it are
--- `later`. The segments before the part can be any segments with the sums `earlier`
+-- the token of the first part of `line` is appended, as in `AddsFirstPart`. The sums before the part are `earlier`, the
+-- sums after the part are `later`. The segments `before` and `here` can be any segments with the sums `earlier`
 pub record TakesPart (counts : Counts) (position : PartPosition) (bits line : List ℕ) (earlier later : Sums) (old new : List RawToken) (tail : Option (Bor (List ℕ))) : Type 0 where
   pub added : (before here : List Segment) → AreSums before here earlier → AddsFirstPart counts position bits before here line old new later tail
   pub shorter : IfSome tail (λ rest. length rest.now < length line)

@@ -43,8 +43,8 @@ sum_at k segments = sum_by (step k) segments % 2 ^ 32
 abbrev pub has_number : ℕ → Segment → Bool
 has_number k s = nat_lt k (length s.numbers)
 
--- a field of the token of segment `s`: the sum of the numbers at index `k` of all segments up to and including `s`, or
--- `no_id` if `s` has no number at this index
+-- a field of the token of segment `s`: the sum, modulo 2^32, of the numbers at index `k` of all segments up to and
+-- including `s`, or `no_id` if `s` has no number at this index
 abbrev pub field : ℕ → List Segment → Segment → ℕ
 field k all s = if has_number k s then sum_at k all else no_id
 

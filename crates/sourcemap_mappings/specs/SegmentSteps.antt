@@ -1,4 +1,4 @@
--- The steps of decoding a segment: its numbers, and the sums up to it.
+-- The steps of decoding a segment: its numbers, its error, and the sums of the numbers up to the end of the segment.
 use Rattle.std.specs.Prelude.{◌≡◌, ℕ, ◌^◌, ◌<◌, ℤ, pos, unsigned_abs, List, [], ◌∷◌, ◌++◌, length, Option, Some, None, ◌==◌, min, if◌then◌else◌, ◌≢◌, IfSome, slice_index}
 use Rattle.std.specs.Option.{option_map_or}
 use Rattle.std.specs.Int.{int_rem_euclid}
@@ -52,20 +52,22 @@ abbrev pub error_in_part : Error → Error
 error_in_part (InvalidBase64 c) = if c == comma then VlqLeftover else InvalidBase64 c
 error_in_part e = e
 
--- after these segments, the sums that do not restart on each line: source, original line, original column and name
+-- `sums` holds the sums of source, original line, original column and name over these segments. These four sums do not
+-- restart on each line
 pub record AreTextSums (segments : List Segment) (sums : Sums) : Type 0 where
   pub source : sums.source ≡ sum_at 1 segments
   pub line : sums.line ≡ sum_at 2 segments
   pub source_column : sums.source_column ≡ sum_at 3 segments
   pub name : sums.name ≡ sum_at 4 segments
 
--- all sums after the segments `before` of earlier lines and the segments `here` of this line. The sum of columns
--- restarts on each line
+-- `sums` holds all five sums. The generated column is summed over `here`, the segments of the current line. The other
+-- four values are summed over `before`, the segments of the earlier lines, and over `here`
 pub record AreSums (before here : List Segment) (sums : Sums) : Type 0 where
   pub column : sums.column ≡ sum_at 0 here
   pub text : AreTextSums (before ++ here) sums
 
--- a part at this index of its line decodes to these numbers, of which there is at least one; the sums include them
+-- a part with this index in its line decodes to one or more numbers. `count` is how many numbers there are, or
+-- 4294967295 if there are more. `sums` holds the sums after the segments `before` and `here` and this part
 pub record IsSegmentRead (index : ℕ) (before here : List Segment) (part : List ℕ) (numbers : List ℤ) (count : ℕ) (sums : Sums) : Type 0 where
   pub some : 0 < length numbers
   pub count_is : count ≡ min (length numbers) 4294967295

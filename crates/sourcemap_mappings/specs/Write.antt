@@ -17,7 +17,7 @@ is_on n t = t.dst_line == n
 abbrev pub is_above : ℕ → RawToken → Bool
 is_above n t = nat_lt t.dst_line n
 
--- the number of lines from line 0 to that of the last token; 0 if there are no tokens
+-- the number of lines from line 0 up to and including the line of the last token; 0 if there are no tokens
 abbrev pub line_count : List RawToken → ℕ
 line_count tokens = option_map_or (λ t. t.dst_line + 1) (last_or None tokens) 0
 
@@ -26,8 +26,8 @@ abbrev pub EachLine : (ℕ → List ℕ → Type 0) → ℕ → List (List ℕ) 
 EachLine IsPart n [] = Unit {0}
 EachLine IsPart n (part ∷ parts) = IsPart n part × EachLine IsPart (n + 1) parts
 
--- a text consists of one part for each line from 0 to that of the last token, joined by `;`; each part satisfies
--- `IsPart` for its line
+-- a text has one part for each line, from line 0 up to and including the line of the last token. `;` separates the
+-- parts. Each part satisfies `IsPart` for its line. If there are no tokens, the text is empty
 abbrev pub LineByLine : (ℕ → List ℕ → Type 0) → List RawToken → List ℕ → Type 0
 LineByLine IsPart tokens text =
     (parts : List (List ℕ)) × (length parts ≡ line_count tokens) × EachLine IsPart 0 parts × (text ≡ join_with_byte semicolon parts)
@@ -45,9 +45,9 @@ has_name names t = has_source t && nat_lt t.name_id names
 abbrev pub last_field : (RawToken → Bool) → (RawToken → ℕ) → List RawToken → ℕ
 last_field passes field tokens = option_map_or field (last_or None (filter passes tokens)) 0
 
--- the values that the next token on line n is relative to, after the tokens `before`: the column of the last token on
--- line n, the source and original position of the last token with a source, and the name of the last token with a
--- name. Each value is 0 if there is no such token
+-- the values that a token on line n is relative to. Each value comes from one of the earlier tokens `before`: the
+-- column from the last token on line n, the source and the original position from the last token with a source, the
+-- name from the last token with a name. A value is 0 if `before` has no such token
 abbrev pub base : ℕ → ℕ → List RawToken → RawToken
 base names n before = record {
   dst_line = n;

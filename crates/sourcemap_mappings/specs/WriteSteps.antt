@@ -23,7 +23,8 @@ follows previous t = option_map_or (λ p. p.dst_line == t.dst_line) previous fal
 abbrev pub gap : Option RawToken → ℕ → RawToken → List ℕ
 gap previous line t = if follows previous t then comma ∷ [] else replicate (t.dst_line - line) semicolon
 
--- the token that a segment on line n is relative to: `against`, moved to column 0 of line n if it is on another line
+-- the token that a segment on line n is relative to: `against` itself if `against` is on line n, otherwise `against`
+-- moved to column 0 of line n
 abbrev pub at_line : RawToken → ℕ → RawToken
 at_line against n = if against.dst_line == n then against else record against { dst_line = n; dst_col = 0 }
 

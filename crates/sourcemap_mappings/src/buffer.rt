@@ -1,4 +1,5 @@
-//! A buffer that collects digits for the encoded text. Most numbers then cost one to three stores.
+//! Writes the digits of numbers into a buffer, and flushes the buffer into the encoded text. Most
+//! numbers cost one to three stores into the buffer.
 ghost use Rattle.std.specs.Prelude.{◌≡◌, ℕ, ◌+◌, ◌<◌, ◌≤◌, ◌^◌, [], ◌∷◌, ◌++◌, take, OnOk, string_bytes};
 ghost use Rattle.std.specs.Str.{IsAscii};
 ghost use Rattle.sourcemap_mappings.specs.Write.{difference};
@@ -34,9 +35,9 @@ pub(crate) fn put_one(buffer: &mut [u8; BUFFER_SIZE], at: usize, number: u32, ag
     put_any(buffer, at, number, against)
 }
 
-// As `put_one`, but fast for one or two digits: it stores two bytes in both cases. After one digit,
-// the next write overwrites the second byte. So the two cases need no branch, which could be
-// mispredicted.
+// As `put_one`, but fast for one or two digits. It stores two bytes in both cases, since a branch
+// between the cases could be mispredicted. If there is only one digit, the result is the index of
+// the second byte. So the second byte does not become part of the text.
 #[inline(always)]
 pub(crate) fn put_two(buffer: &mut [u8; BUFFER_SIZE], at: usize, number: u32, against: u32) -> usize
     requires { at + 7 ≤ 1024 }
@@ -83,7 +84,8 @@ pub(crate) fn put_three(
     at + 1 + second as usize + third as usize
 }
 
-// 1 if the raw value has a digit of this weight, otherwise 0.
+// 1 if `raw` is at least `worth`, otherwise 0. A raw value has a second digit if the value is at
+// least 32, and a third digit if the value is at least 1024.
 #[inline(always)]
 fn continues(raw: u64, worth: u64) -> u64
     ensures yes { worth ≤ raw → result ≡ 1 }
@@ -93,7 +95,7 @@ fn continues(raw: u64, worth: u64) -> u64
     u64::from(raw >= worth)
 }
 
-// The raw value of `number - against`. VLQ puts the sign into its lowest bit.
+// The raw value of `number - against`: twice the absolute difference, plus 1 if `number < against`.
 #[inline(always)]
 fn raw_difference(number: u32, against: u32) -> u64
     ensures value { result ≡ raw_difference number against }

@@ -41,8 +41,8 @@ const START: Sums = Sums {
     name: 0,
 };
 
-/// Splits off the first line of a text. Returns the line without its `;`, and the text after the
-/// `;`, or `None` if there is no `;`.
+/// Splits off the first line of a text. Returns the line without its `;`, and the rest of the text
+/// after the `;`. The rest is `None` if the text has no `;`.
 #[inline]
 pub fn split_line(text: &str) -> (&str, Option<&str>)
     ensures split { lines_of text.now ≡ result.0.now ∷ lines_left result.1 }
@@ -82,8 +82,9 @@ fn add_token(
     Ok(())
 }
 
-// Decodes the first part of a line, and appends its token. An empty part has no token. Returns the
-// sums after the part, and the text after its `,`, or `None` at the end of the line.
+// Decodes the next part of a line. `text` is the rest of the line. Appends the token of the part,
+// unless the part is empty. Returns the sums after the part, and the text after the `,` that ends
+// the part, or `None` if the part is the last of the line.
 #[cold]
 #[inline(never)]
 fn add_any_part<'a>(
@@ -188,8 +189,8 @@ fn add_line(
     add_parts(tokens, text, bits, line, sums, limits)
 }
 
-// Splits off the next line of range bits. Returns the line, and the text after its `;`, or `None`
-// if there is no `;`. If `ranges` is `None`, returns an empty line and `None`.
+// Splits off the next line of range bits, as `split_line` does. If `ranges` is `None`, no line is
+// left: returns an empty line and `None`.
 #[inline]
 fn next_bits(ranges: Option<&str>) -> (&str, Option<&str>)
     ensures { (line : List ℕ) (lines : List (List ℕ))
@@ -285,16 +286,17 @@ fn token_list_of(mut read: ReadLines) -> Result<TokenList>
 }
 
 /// Decodes the `mappings` and `rangeMappings` of a map with `sources` sources and `names` names.
-/// Returns the tokens, stably sorted by generated position, with their line table. If the tokens
-/// are decoded in this order, the table is built while decoding.
+/// Returns the tokens, stably sorted by generated position, with their line table. If the text
+/// already has the tokens in sorted order, the table is built while decoding.
 ///
-/// Decodes the lines in order, and returns the first error. An empty line has no error. The errors
-/// of any other line are, in this order: `IncompatibleSourceMap` if the line number, counted from
-/// 0, is above 4294967295; `InvalidBase64` if its range bits contain a byte that is not a digit;
-/// the error of its first invalid segment. The error of a segment is the first error of its digits:
-/// `InvalidBase64`, `VlqOverflow` or `VlqLeftover`. If the digits are valid, the error is the first
-/// of these that applies: `BadSegmentSize`, `BadSourceReference`, `BadNameReference`. The only
-/// other error is `OutOfMemory`.
+/// Decodes the lines in order, and returns the first error. Ignores range bits after the last line.
+/// An empty line has no error. The errors of any other line are, in this order:
+/// `IncompatibleSourceMap` if the line number, counted from 0, is above 4294967295; `InvalidBase64`
+/// if the line's range bits contain a byte that is not a digit; the error of the line's first
+/// invalid segment. The error of a segment is the first error of its digits: `InvalidBase64`,
+/// `VlqOverflow` or `VlqLeftover`. If the digits are valid, the error is the first of these that
+/// applies: `BadSegmentSize`, `BadSourceReference`, `BadNameReference`. The only other error is
+/// `OutOfMemory`.
 pub fn parse_token_list(
     alloc: Global,
     mappings: &str,
@@ -315,7 +317,7 @@ pub fn parse_token_list(
     token_list_of(read)
 }
 
-/// Returns the tokens of `parse_token_list` without their line table, or its errors.
+/// As `parse_token_list`, but returns the tokens without the line table. The errors are the same.
 pub fn parse_mappings(
     alloc: Global,
     mappings: &str,

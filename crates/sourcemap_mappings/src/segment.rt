@@ -68,8 +68,8 @@ fn add_number(read: &mut Numbers, number: i64)
     read.count = count.saturating_add(1);
 }
 
-// `next_number` gets the rest of the line, not only the segment. So it returns `InvalidBase64(',')`
-// if the segment ends within a number.
+// `next_number` gets the rest of the line, not only the segment. If a `,` ends the segment within a
+// number, `next_number` returns `InvalidBase64(',')`. The segment's error is then `VlqLeftover`.
 #[inline]
 fn error_in_part(error: Error) -> Error
     ensures { result ≡ error_in_part error }

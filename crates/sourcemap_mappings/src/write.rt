@@ -80,10 +80,11 @@ fn push_line_ends(text: &mut String, from: u32, to: u32) -> std::result::Result<
     Ok(())
 }
 
-// Writes the comma or the semicolons before the segment of a token, and returns the new end of the
-// buffered bytes. The output so far is the text, followed by the first `at` bytes of the buffer. It
-// has reached `line`. A comma or a single semicolon goes into the buffer. Any other number of
-// semicolons goes into the text, after a flush.
+// Writes the comma or the semicolons before the segment of a token. Before the first segment of
+// line 0, writes no separator. Before the call, the output is the text, followed by the first `at`
+// bytes of the buffer, and ends on line `line`. A comma or a single semicolon goes into the buffer.
+// Two or more semicolons go into the text, after a flush. Returns the new end of the buffered
+// bytes.
 #[inline(always)]
 fn put_gap(
     text: &mut String,
@@ -219,20 +220,20 @@ fn put_token(
 /// Encodes sorted tokens as `mappings`, for a map with `names` names. The only error is
 /// `OutOfMemory`.
 ///
-/// The lines from 0 to that of the last token are separated by `;`, the segments of a line by `,`.
-/// A token without a source has one number, its generated column. A token with a source has four
-/// numbers: generated column, source id, original line and original column. It has the name id as a
-/// fifth number if that id is below `names`. Each number is written as its difference to the last
-/// written number of its kind, in the shortest digits. The first number of each kind, and the first
-/// generated column of each line, is written as its difference to 0. A token equal to the token
-/// before it is not written. An empty list gives the empty text.
+/// The text has all lines from line 0 to the line of the last token. `;` separates lines, `,`
+/// separates the segments of a line. A token without a source has one number, its generated column.
+/// A token with a source has four numbers: generated column, source id, original line and original
+/// column. It has the name id as a fifth number if that id is below `names`. Each number is written
+/// as its difference to the last written number of its kind, in the shortest digits. The first
+/// number of each kind, and the first generated column of each line, is written as its difference
+/// to 0. A token equal to the token before it is not written. An empty list gives the empty text.
 ///
 /// `write_range_mappings` returns the range flags as a second text. `None` counts as an empty text.
-/// `parse_mappings`, with the same `names`, decodes both texts to `tokens` without repeats, or
-/// returns `OutOfMemory`. Each name id that is not below `names` becomes [`NO_ID`]. This holds if
-/// each token is of one of two kinds. The first kind has a source id below the number of sources
-/// given to `parse_mappings`. The second kind has [`NO_ID`] as source id, original line and
-/// original column, and a name id that is not below `names`.
+/// `parse_mappings`, with the same `names` and a count `sources`, decodes both texts under two
+/// conditions. Each source id is below `sources` or is [`NO_ID`]. Each token with source id
+/// [`NO_ID`] also has [`NO_ID`] as original line and original column, and a name id that is not
+/// below `names`. Then `parse_mappings` returns `tokens` without repeats, or `OutOfMemory`. In the
+/// returned tokens, [`NO_ID`] replaces each name id that is not below `names`.
 pub fn write_mappings(alloc: Global, tokens: &[RawToken], names: u32) -> Result<String>
     requires { AreInOrder tokens.now }
     ensures text { IfOk result (λ s. IsWritten names tokens.now (string_bytes s)) }

@@ -1,6 +1,6 @@
--- The JSON value that bytes hold, and the record of this value. The errors for bytes without a JSON value, or without a
--- record. The possible results of decoding a JSON value, bytes or a data URL. The parameter `Decodes` says which
--- results are possible when a record is decoded. The possible results of a call that reads bytes from a reader.
+-- The JSON value that bytes hold, and the record of this value. The errors for bytes without a JSON value, and for
+-- bytes without a record. The possible results of decoding a JSON value, bytes or a data URL. The equality of results.
+-- The possible results of a call that reads bytes from a reader.
 use Rattle.std.specs.Prelude.{◌≡◌, ◌⊎◌, ℕ, List, Option, Some, None, IfSome, MatchOption, Result, Ok, Err, IsErrAnd, IsUtf8}
 use Rattle.std.specs.IoError.{error_kind}
 use Rattle.std.specs.declared.io.Error.{Error as IoError}
@@ -44,10 +44,10 @@ abbrev pub HoldNoRecord : List ℕ → Error → Type 0
 HoldNoRecord bytes e =
     ((d : Data) × HoldJson bytes d × (record_of d ≡ None) × (e ≡ BadJson Shape)) ⊎ HoldNoJson bytes e
 
--- `Decodes` says which results the decoding of a record may have. The next three definitions say the same of a JSON
--- value, of bytes and of a data URL. If there is no record, the result is an error: `InvalidDataUrl` for an invalid
--- data URL, an error of `HoldNoJson` for bytes without a JSON value, or `BadJson(Shape)` for a JSON value that is not a
--- record.
+-- `Decodes` says which results are possible when a record is decoded. The next three definitions say which results are
+-- possible when a JSON value, bytes or a data URL is decoded. If there is no record, the result is an error:
+-- `InvalidDataUrl` for an invalid data URL, an error of `HoldNoJson` for bytes without a JSON value, or
+-- `BadJson(Shape)` for a JSON value that is not a record.
 
 -- a result of decoding a JSON value
 abbrev pub ValueHasResult : {Y : Type 0} → (Tree → Result Y Error → Type 0) → Data → Result Y Error → Type 0
@@ -83,7 +83,8 @@ abbrev pub UnlessReadFails : Error → Type 0 → Type 0
 UnlessReadFails (Io cause) P = P ⊎ FromIo cause (Io cause)
 UnlessReadFails e P = UnlessMemory e P
 
--- `Answers` admits the result, mapped by `view`, unless a read failed or memory ran out
+-- for `Ok x`, `Answers` holds for `Ok (view x)`. For `Err e`, `Answers` holds for `Err e`, or `e` says that a read
+-- failed or that memory ran out
 abbrev pub IsAnswerRead : {X Y : Type 0} → (X → Y) → (Result Y Error → Type 0) → Result X Error → Type 0
 IsAnswerRead view Answers (Ok x) = Answers (Ok (view x))
 IsAnswerRead view Answers (Err e) = UnlessReadFails e (Answers (Err e))

@@ -1,5 +1,5 @@
--- How one key of a record is read from JSON and written as JSON. Reading gives `None` for a JSON value of the wrong
--- type.
+-- How one key of a record is read from JSON and written as JSON. Reading gives `None` for a JSON value that is not
+-- valid for the key.
 use Rattle.std.specs.Prelude.{◌≡◌, ℕ, ◌^◌, option_and_then, List, [], ◌∷◌, map, Option, Some, None, option_map, nat_lt, if◌then◌else◌, false, Result, Ok, Err}
 use Rattle.std.specs.Str.{bytes_eq}
 use Rattle.serde_json.specs.Data.{Data, null, number, array, unsigned, Items, no_items, item, Members, put}
@@ -47,12 +47,12 @@ text d = as_str d
 abbrev pub small : ℕ → Option ℕ
 small n = if nat_lt n (2 ^ 32) then Some n else None
 
--- a whole number below 2^32
+-- an unsigned integer below 2^32. Any other JSON value gives `None`, for example `-1` or the floats `1.0` and `-0`
 abbrev pub small_number : Data → Option ℕ
 small_number d = with (as_number d) (λ n. with (as_u64 n) small)
 
--- `x` holds what was read from the value, or is `None` if the value could not be read. Null gives `Some None` for
--- every `x`. Any other value gives `Some x`, or `None` if `x` is `None`
+-- reads a JSON value that may be null. `x` is the result of reading a value other than null. Null gives `Some None`,
+-- whatever `x` is. Any other value gives `Some (Some v)` if `x` is `Some v`, and `None` if `x` is `None`
 abbrev pub or_null_of : {X : Type 0} → Data → Option X → Option (Option X)
 or_null_of null _ = Some None
 or_null_of _ x = option_map Some x

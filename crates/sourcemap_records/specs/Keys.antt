@@ -1,5 +1,5 @@
--- The keys of a record in three groups, in the order in which they are read and written. The sections, and the debug
--- id, which has two keys, are in none of these groups.
+-- The keys of a record in three groups. The groups, and the keys within each group, are read and written in the order
+-- of the three records below. The keys `sections`, `debugId` and `debug_id` are in no group.
 use Rattle.std.specs.Prelude.{◌≡◌, ℕ, List, [], ◌∷◌, map, codes, Option, Some, IfSome, option_map, string_bytes, false}
 use Rattle.std.specs.List.{list_any, AllByRecursion}
 use Rattle.std.specs.Str.{bytes_eq}
@@ -130,11 +130,11 @@ extra_keys_in ms =
       x_facebook_sources = x_facebook_sources;
     })))))
 
--- the keys of `FileKeys`. The next list has the keys of `ContentKeys`. Reading one of these groups removes its keys
--- from the members. Each list begins with the key that is read last
+-- the JSON keys of `FileKeys`, from the last one read to the first. `read_file_keys` removes no other key
 abbrev pub file_key_names : List (List ℕ)
 file_key_names = codes "sourceRoot" ∷ codes "sources" ∷ codes "file" ∷ codes "version" ∷ []
 
+-- the JSON keys of `ContentKeys`, from the last one read to the first. `read_content_keys` removes no other key
 abbrev pub content_key_names : List (List ℕ)
 content_key_names = codes "mappings" ∷ codes "rangeMappings" ∷ codes "names" ∷ codes "sourcesContent" ∷ []
 

@@ -28,8 +28,8 @@ pub fn read_all<R: Read + Drop>(alloc: Global, mut reader: R) -> Result<Vec<u8>>
 
 /// Drops the junk header of the bytes, if they have one, and returns the JSON value of the rest. An
 /// invalid header is `Io` of kind `InvalidData`. A rest that is not JSON, nests deeper than 127
-/// levels or has a number too large for `f64` is `BadJson(Parse)`. Any other error is
-/// `OutOfMemory`.
+/// levels, has a number too large for `f64` or has the escape of a lone surrogate (`"\ud83d"`) is
+/// `BadJson(Parse)`. Any other error is `OutOfMemory`.
 pub fn read_json(alloc: Global, bytes: &[u8]) -> Result<Value>
     ensures { MatchResult result
         (λ value. HoldJson bytes.now (view value))

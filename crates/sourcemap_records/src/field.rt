@@ -26,7 +26,7 @@ pub(crate) trait Field: Drop {
     // What a field is written as.
     ghost writing: { Seen → Data };
 
-    // A bound that each value of the type meets.
+    // A bound that `see field` meets for each `field` of this type. For `u32`: below 2^32.
     ghost in_range: { Seen → Type 0 };
 
     // Consumes `value`. Strings are moved, not copied.
@@ -224,7 +224,7 @@ pub(crate) fn remove_value(members: &mut Map<String, Value>, key: &str) -> Optio
 }
 
 // Removes the value at `key` and reads it as a field. Returns `None` if the key is missing or null.
-// A value of the wrong type is `BadJson(Shape)`.
+// A value that is not valid for `F` is `BadJson(Shape)`.
 pub(crate) fn read_optional<F: Field>(
     alloc: Global,
     members: &mut Map<String, Value>,
@@ -267,8 +267,8 @@ pub(crate) fn read_values(members: &mut Map<String, Value>, key: &str) -> Result
     }
 }
 
-// Removes the value at `key` and reads it as a field. A missing key and a value of the wrong type
-// are `BadJson(Shape)`.
+// Removes the value at `key` and reads it as a field. A missing key and a value that is not valid
+// for `F` are `BadJson(Shape)`.
 pub(crate) fn read_required<F: Field>(
     alloc: Global,
     members: &mut Map<String, Value>,

@@ -16,9 +16,9 @@ use sourcemap_headers::debug_id::DebugId;
 use std::alloc::Global;
 
 // Removes and reads `debugId` and `debug_id`. Returns the id of `debugId`. If `debugId` is missing
-// or null, returns the id of `debug_id`, or `None` if that key is missing or null too. If the value
-// of either key is neither null nor a debug id, the error is `BadJson(Shape)`. The only other error
-// is `OutOfMemory`.
+// or null, returns the id of `debug_id`. If both keys are missing or null, returns `None`. A value
+// that is neither null nor a debug id is `BadJson(Shape)`, even if the other key has an id. Any
+// other error is `OutOfMemory`.
 fn read_debug_id(alloc: Global, members: &mut Map<String, Value>) -> Result<Option<DebugId>>
     ensures value { GivesReading (λ id. id) result
         (debug_id_in (members_view members.old.entries)) }

@@ -30,7 +30,8 @@ pub struct FacebookScopeMapping {
     pub mappings: String,
 }
 
-/// For each source, in order, a list of scopes, or `None`. Only the first entry of a list is used.
+/// For each source, in order, a list of `FacebookScopeMapping`, or `None`. The functions of a
+/// source come from the first item of its list. All items are read, written, copied and compared.
 pub type FacebookSources = Option<Vec<Option<Vec<FacebookScopeMapping>>>>;
 
 /// A section of an index map, as in JSON.
@@ -56,7 +57,7 @@ pub struct RawSourceMap {
     pub file: Option<Value>,
     /// The sources, not yet resolved against `source_root`. A null in the list is a `None` item.
     pub sources: Option<Vec<Option<String>>>,
-    /// The prefix of each source.
+    /// The prefix of each source that does not begin with `/`, `http:` or `https:`.
     pub source_root: Option<String>,
     /// The contents of each source, in the order of the sources. The item of a source without
     /// contents is `None`.
@@ -156,9 +157,10 @@ impl RawSourceMap {
 
     /// Returns the record of a JSON value. A null key counts as missing, unknown keys are ignored,
     /// and `debugId` wins over `debug_id`. Returns `BadJson(Shape)` if the value is not an object.
-    /// Returns the same error if a key has a value of the wrong type, a number outside `u32` or an
-    /// invalid debug id. A section without `offset`, an offset without `line` or `column`, and
-    /// scopes without `names` or `mappings` give this error too. Any other error is `OutOfMemory`.
+    /// Returns the same error if a key has a value of the wrong type, a number that is not a `u32`,
+    /// or an invalid debug id. A section without `offset`, an offset without `line` or `column`,
+    /// and scopes without `names` or `mappings` give this error too. Any other error is
+    /// `OutOfMemory`.
     pub fn from_value(alloc: Global, value: &Value) -> Result<RawSourceMap>
         ensures { Gives tree result (due (record_of (view value.now))) }
     {
@@ -172,9 +174,9 @@ impl RawSourceMap {
         read_map(alloc, value)
     }
 
-    /// Returns the record as a JSON value, with its keys in byte order. Writes null for each of
-    /// these keys if it is `None`: `version`, `sources`, and in each section `url` and `map`.
-    /// Leaves out any other key that is `None`. The value reads back as this record, with one
+    /// Returns the record as a JSON value, with the keys in byte order. A `None` at the key
+    /// `version` or `sources`, or at the key `url` or `map` of a section, is written as null. Any
+    /// other key that is `None` is left out. The value reads back as this record, with one
     /// exception: a `file` that is a JSON null, in the record or in the map of a section, reads
     /// back as `None`. The error is `OutOfMemory`.
     pub fn to_value(&self, alloc: Global) -> Result<Value>

@@ -1,4 +1,4 @@
-// The keys of a record in three groups.
+// The keys of a record in three groups. The sections and the debug id are in no group.
 // prover: few drops at each return
 ghost use Rattle.std.specs.Prelude.{◌≡◌, map, option_map};
 ghost use Rattle.sourcemap_records.specs.Keys.{groups_view};
@@ -43,7 +43,7 @@ pub(crate) struct RawGroups {
     pub(crate) debug_id: Option<DebugId>,
 }
 
-// The groups of a record. Its sections are dropped.
+// Splits the keys of a record into the groups and the debug id. Drops the sections.
 pub(crate) fn split(map: RawSourceMap) -> RawGroups
     ensures { groups_view result ≡ flat (tree map) }
 {

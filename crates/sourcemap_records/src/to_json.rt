@@ -1,6 +1,6 @@
-// Records as JSON values. Each string is moved into its value. The clauses `in_range` say that
-// numbers are below 2^32 and that a debug id has 16 bytes. Without these bounds a value might not
-// read back.
+// Records as JSON values. The strings of a record are moved into the JSON value, not copied. The
+// clauses `in_range` say that numbers are below 2^32 and that a debug id has 16 bytes. Without
+// these bounds a JSON value might not read back.
 ghost use Rattle.std.specs.Prelude.{◌≡◌, map, option_map, IfOk, IfErr, IfSome, OnOk};
 ghost use Rattle.std.specs.List.{AllByRecursion};
 ghost use Rattle.serde_json.specs.Data.{array};
@@ -101,7 +101,7 @@ fn write_groups(alloc: Global, groups: RawGroups) -> Result<Map<String, Value>>
     Ok(members)
 }
 
-// All keys but the sections, which are dropped.
+// Returns the members for all keys of a record except `sections`. Drops the sections.
 fn write_fields(alloc: Global, map: RawSourceMap) -> Result<Map<String, Value>>
     ensures ok { IfOk result (λ m. members_view m.entries ≡ written_fields (flat (tree map))) }
     ensures in_range { OnOk result (AreInRange (flat (tree map))) }

@@ -18,19 +18,20 @@ pub record EndsAt (text : List ℕ) (start end : ℕ) : Type 0 where
   pub newline : end < length text → slice_index text end ≡ 10
   pub lines : text_lines (drop start text) ≡ slice_range text start end ∷ lines_after text end
 
--- `due` if these bytes are UTF-8, otherwise `None`
+-- `due` if `bytes` is UTF-8, otherwise `None`
 abbrev pub if_text : List ℕ → Option (Option Reference) → Option (Option Reference)
 if_text bytes due = if is_utf8 bytes then due else None
 
--- a property that `line` has if it is the first line with a mark. If the text is UTF-8 up to the end of `line`, the
--- reference of the text is the reference on `line`; otherwise `first_reference` is `None`
+-- what `first_lines` ensures for `line`, the first line with a mark. `line` ends at a char boundary. If the text up to
+-- `line.end` is UTF-8, `line` also starts at a char boundary, and `first_reference` is the reference on `line`.
+-- Otherwise `first_reference` is `None`
 pub record IsFirstMarked (text : List ℕ) (line : Line) : Type 0 where
   pub first : first_reference text ≡ if_text (take line.end text) (Some (reference_on (drop line.start (take line.end text))))
   pub ends : IsCharBoundary text line.end
   pub starts : IsUtf8 (take line.end text) → IsCharBoundary (take line.end text) line.start
 
--- a property that `end` has if no line up to `end` has a mark. If the text is UTF-8 up to `end`, the reference of the
--- text is that of the lines after `end`; otherwise `first_reference` is `None`
+-- what `first_lines` ensures for `end` if no line up to `end` has a mark. If the text up to `end` is UTF-8,
+-- `first_reference` is `first_on` of the lines after `end`. Otherwise `first_reference` is `None`
 pub record AreUnmarked (text : List ℕ) (end : ℕ) : Type 0 where
   pub within : end ≤ length text
   pub left : first_reference text ≡ if_text (take end text) (first_on (lines_after text end))
@@ -45,17 +46,17 @@ abbrev pub IfUnmarked : Lines → (ℕ → Type 0) → Type 0
 IfUnmarked (Marked _) Holds = Unit {0}
 IfUnmarked (Unmarked end) Holds = Holds end
 
--- the reference of the text is that of `rest`, which is shorter than the text; if there is no rest, the text is UTF-8
--- and has no reference
+-- `text` and `rest` have the same `first_reference`, and `rest` is shorter than `text`. If there is no `rest`, `text`
+-- is UTF-8 and has no reference
 abbrev pub LeavesOnly : List ℕ → Option (List ℕ) → Type 0
 LeavesOnly text (Some rest) = (first_reference text ≡ first_reference rest) × (length rest < length text)
 LeavesOnly text None = first_reference text ≡ Some None
 
--- the result of reading a line. `known` has the bytes of the reader before the read, and `left` has its bytes after the
--- read. If `known` is `None`, nothing is required. If the read gives a line that is UTF-8 without a reference,
--- `first_reference` is the same before and after the read. If the read gives any other line, `first_reference` of the
--- bytes in `known` is `line_reference` of this line. If no line is left to read, the bytes in `known` are UTF-8 without
--- a reference
+-- the result of reading a line. `known` has the bytes of the reader before the read. If `known` is `None`, nothing is
+-- required. The `Bool` is true if a line was read. Then `left` has the bytes of the reader after the read. If the line
+-- has a reference or is not UTF-8, `first_reference` of `known` is `line_reference` of the line. Otherwise `known` and
+-- `left` have the same `first_reference`. The `Bool` is false if no line was left to read. Then the bytes in `known`
+-- are UTF-8 without a reference
 abbrev pub ReadsLine : Option (List ℕ) → Option (List ℕ) → Bool → List ℕ → Type 0
 ReadsLine known left false line = IfSome known (λ text. first_reference text ≡ Some None)
 ReadsLine known left true line = IfSome known (λ text.

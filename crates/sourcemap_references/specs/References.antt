@@ -1,4 +1,4 @@
--- The value of a `SourceMapRef`, and the result of a search for one.
+-- The reference and the URL in a `SourceMapRef`, and the results of a search for a reference.
 use Rattle.std.specs.Prelude.{◌≡◌, ℕ, List, Option, None, Some, Result, Ok, Err, IfSome, option_map, string_bytes}
 use Rattle.std.specs.IoError.{error_kind}
 use Rattle.std.specs.declared.io.ErrorKind.TheVariants.{InvalidData}
@@ -25,20 +25,20 @@ abbrev pub IsInvalidData : Error → Type 0
 IsInvalidData (Io cause) = error_kind cause ≡ InvalidData
 IsInvalidData _ = ⊥
 
--- the result of a search for a reference is `due`, or the error is `OutOfMemory`. If `due` is `Some` with a reference,
--- the search returns this reference. If `due` is `Some None`, the search returns `Ok None`. If `due` is `None`, the
--- search returns `Io` of kind `InvalidData`; `None` stands for bytes that are not UTF-8
+-- what a search for a reference returns. If `due` is `Some (Some r)`, the search returns the reference `r`. If `due` is
+-- `Some None`, the search returns `Ok None`. If `due` is `None`, a line is not UTF-8, and the search returns `Io` of
+-- kind `InvalidData`. For each `due`, the search may also return the error `OutOfMemory`
 abbrev pub Locates : Result (Option SourceMapRef) Error → Option (Option Reference) → Type 0
 Locates (Ok found) due = due ≡ Some (option_map reference found)
 Locates (Err e) due = UnlessMemory e ((due ≡ None) × IsInvalidData e)
 
--- the error of a read, or the error for bytes that are not UTF-8; a read that ran out of memory is `OutOfMemory`, not
--- `Io`
+-- an error of a read, or of a search in a reader: `OutOfMemory`, or `Io` of any kind except `OutOfMemory`
 abbrev pub IsReadError : Error → Type 0
 IsReadError (Io cause) = FromIo cause (Io cause)
 IsReadError e = UnlessMemory e ⊥
 
--- the search in a reader finds the reference of its bytes, if these bytes are known; an error is an `IsReadError`
+-- what a search in a reader returns. If `known` has the bytes of the reader, an `Ok` has the `first_reference` of these
+-- bytes. If `known` is `None`, any `Ok` is allowed. An error is an `IsReadError`
 abbrev pub LocatesRead : Option (List ℕ) → Result (Option SourceMapRef) Error → Type 0
 LocatesRead known (Ok found) = IfSome known (λ text. first_reference text ≡ Some (option_map reference found))
 LocatesRead known (Err e) = IsReadError e

@@ -6,7 +6,7 @@ use Rattle.url.specs.Parts.{serialize}
 use Rattle.url.specs.Parser.{and_then, parse_url}
 use Rattle.sourcemap_errors.specs.declared.errors.Error.{Error}
 use Rattle.sourcemap_errors.specs.declared.errors.Error.TheVariants.{OutOfMemory}
-use Rattle.sourcemap_file_urls.specs.Places.{path_from}
+use Rattle.sourcemap_file_urls.specs.Places.{resolved_file_path}
 use Rattle.sourcemap_file_urls.specs.Urls.{IsLong}
 
 -- a URL that contains the source map itself
@@ -25,11 +25,11 @@ resolved base url = if is_data_url url then None else joined base url
 -- `data:` URL; `path` is not absolute; `url` or the `file` URL of `path` is rejected; or the resolved URL has no file
 -- path
 abbrev pub resolved_path : List ℕ → List ℕ → Option (List ℕ)
-resolved_path path url = if is_data_url url then None else path_from path false url
+resolved_path path url = if is_data_url url then None else resolved_file_path path false url
 
--- one of two cases: `base` has 2^28 bytes or more; or `base` is not rejected, and `url` and the parsed `base` have 2^28
--- bytes or more in total. Parsing and resolving may add escapes, so the parsed `base` or the resolved URL may then
--- exceed 4 GB
+-- a long join: `base` has 2^28 bytes or more, or the parsed `base` and `url` have 2^28 bytes or more in total. The
+-- second case requires that `base` is not rejected. Parsing and resolving may add escapes, so the parsed `base` or the
+-- resolved URL of a long join may exceed 4 GB
 abbrev pub IsLongJoin : List ℕ → List ℕ → Type 0
 IsLongJoin base url = IsLong (length base) ⊎ IsOkAnd (parse_url None base) (λ from. IsLong (length (serialize from) + length url))
 

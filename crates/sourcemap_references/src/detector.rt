@@ -60,11 +60,11 @@ impl SourceMapRef {
 
     /// Resolves the URL of the source map against the URL of the file that holds the reference.
     ///
-    /// Returns `None` if the reference is a `data:` URL, or if either URL is rejected. It may also
-    /// return `None` if `minified_url` has 2^28 bytes or more. It may also return `None` if the URL
-    /// in the reference and the parsed `minified_url` have 2^28 bytes or more in total. The size of
-    /// the parsed `minified_url` includes the escapes that parsing adds. The only error is
-    /// `OutOfMemory`.
+    /// Returns `None` if the URL in the reference starts with `data:`, or if either URL is
+    /// rejected. It may also return `None` if `minified_url` has 2^28 bytes or more. It may also
+    /// return `None` if the URL in the reference and the parsed `minified_url` have 2^28 bytes or
+    /// more in total. The size of the parsed `minified_url` includes the escapes that parsing adds.
+    /// The only error is `OutOfMemory`.
     pub fn resolve(&self, minified_url: &str) -> Result<Option<String>>
         ensures { IsAnswer (option_map string_bytes)
             (UnlessLong (resolved minified_url.now (url_of self.now))
@@ -81,10 +81,15 @@ impl SourceMapRef {
 
     /// Resolves the path of the source map against the path of the file that holds the reference.
     ///
-    /// Returns `None` if the reference is a `data:` URL or leads to no file path, or if
-    /// `minified_path` does not start with `/`. It may also return `None` if the `file` URL of
-    /// `minified_path` and the URL in the reference together have 2^28 bytes or more. This size
-    /// includes the escapes in the `file` URL. The only error is `OutOfMemory`.
+    /// Returns `None` in four cases:
+    /// - The URL in the reference starts with `data:`.
+    /// - `minified_path` does not start with `/`.
+    /// - The URL in the reference, or the `file` URL of `minified_path`, is rejected.
+    /// - The resolved URL is not a `file` URL, has a host, or has a decoded path that is not UTF-8.
+    ///
+    /// May also return `None` if the `file` URL of `minified_path` and the URL in the reference
+    /// together have 2^28 bytes or more. The size of the `file` URL includes its escapes and its
+    /// `..` components. The only error is `OutOfMemory`.
     pub fn resolve_path(&self, minified_path: &str) -> Result<Option<String>>
         ensures { IsAnswer (option_map string_bytes)
             (UnlessLong (resolved_path minified_path.now (url_of self.now))
@@ -114,8 +119,9 @@ fn joined_text(base: &Url, reference: &str) -> Result<Option<String>>
     }
 }
 
-// Lines are searched in blocks of at least this many bytes. Each block is then tested for UTF-8,
-// while it is still in the first-level cache.
+// Lines are searched in blocks of at least this many bytes; only the last block may be smaller.
+// After the search each block is tested for UTF-8. A block of about this size is then still in the
+// first-level cache.
 const BLOCK: usize = 1 << 14;
 
 /// Returns the reference in a text, as `locate_sourcemap_reference_slice` finds it in bytes. The
@@ -130,11 +136,11 @@ pub fn locate_in_text(alloc: Global, text: &str) -> Result<Option<SourceMapRef>>
     }
 }
 
-/// Returns the reference on the first line that starts with `//# sourceMappingURL=` or the legacy
-/// `//@ sourceMappingURL=`. Its URL is the rest of that line, trimmed. Lines end at `\n`. Returns
-/// `None` if no line starts so. The error is `Io` of kind `InvalidData` if that line or a line
-/// before it is not UTF-8. If no line starts so, any line that is not UTF-8 gives the same error.
-/// The only other error is `OutOfMemory`.
+/// Returns the reference on the first line that starts with a mark: `//# sourceMappingURL=` or the
+/// legacy `//@ sourceMappingURL=`. The URL is the rest of the line after the mark, trimmed. Lines
+/// end at `\n`. Returns `None` if all lines are UTF-8 and no line starts with a mark. If a line is
+/// not UTF-8 and no earlier line starts with a mark, the error is `Io` of kind `InvalidData`. The
+/// only other error is `OutOfMemory`.
 pub fn locate_sourcemap_reference_slice(alloc: Global, bytes: &[u8]) -> Result<Option<SourceMapRef>>
     ensures { Locates result (first_reference bytes.now) }
 {
@@ -192,11 +198,10 @@ fn lines_after_end(bytes: &[u8], end: usize) -> Option<&[u8]>
 /// slice. Reads lines through a `BufReader`, up to the line with the reference, and buffers one
 /// line at a time.
 ///
-/// Interrupted reads are retried. If a read fails for another reason, the error is `Io` with the
-/// error of the reader, or `OutOfMemory` if the error of the reader has this kind. If a line that
-/// was read is not UTF-8, the error is `Io` of kind `InvalidData`. If 2^64 - 1 lines were read and
-/// none of them has a reference, the error is `Io` of kind `Other`. If memory runs out, the error
-/// is `OutOfMemory`.
+/// Interrupted reads are retried. Any other error of the reader is returned in `Io`; only kind
+/// `OutOfMemory` becomes `Error::OutOfMemory`. If a line that was read is not UTF-8, the error is
+/// `Io` of kind `InvalidData`. If 2^64 - 1 lines were read and none of them has a reference, the
+/// error is `Io` of kind `Other`. If memory runs out, the error is `OutOfMemory`.
 pub fn locate_sourcemap_reference<R: Read + Drop>(
     alloc: Global,
     reader: R,
@@ -216,8 +221,9 @@ pub fn locate_sourcemap_reference<R: Read + Drop>(
     Err(Error::Io(io::Error::from(io::ErrorKind::Other)))
 }
 
-/// A law: a reader and a slice of the same bytes find the same reference. If the reader returns
-/// `Ok`, the only error of the slice is out of memory.
+/// A law about a reader and a slice of the same bytes. If `locate_sourcemap_reference` and
+/// `locate_sourcemap_reference_slice` both return `Ok`, they return equal values. If only
+/// `locate_sourcemap_reference` returns `Ok`, the other function returns `OutOfMemory`.
 pub fn readers_find_what_slices_do()
     ensures found { (text : List ℕ) (read sliced : Option SourceMapRef)
         → LocatesRead (Some text) (Ok read) → Locates (Ok sliced) (first_reference text)

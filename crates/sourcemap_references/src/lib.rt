@@ -1,4 +1,4 @@
-//! References to source maps in generated code.
+//! Searches generated code for references to source maps, and resolves these references.
 #![tactic(auto)]
 
 pub mod detector;

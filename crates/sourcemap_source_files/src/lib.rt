@@ -1,4 +1,4 @@
-//! Contents of sources that are read from files.
+//! Contents of sources, loaded from files.
 #![tactic(auto)]
 
 pub mod loading;

@@ -1,4 +1,4 @@
-//! Contents of sources that are read from files.
+//! Contents of sources, loaded from files.
 ghost use Rattle.std.specs.Prelude.{◌≡◌, ◌≤◌, ◌⊎◌, ◌&&◌, Ok, None, List, ℕ, map, length, vec_len, string_bytes, is_none, is_some, IsSome, IfSome, IfNone, IfOk, IfErr, OnOk, OnErr, option_map};
 ghost use Rattle.std.specs.Option.{option_copied};
 ghost use Rattle.sourcemap_errors.specs.declared.errors.Error.TheVariants.{OutOfMemory};
@@ -16,15 +16,19 @@ use std::rt::Files;
 use std::{fs, io};
 use url::Url;
 
-/// Reads the file of each source without contents, and stores the text of the file in `contents`.
-/// Returns how many texts were stored.
+/// Reads the file of each source that has no contents, and stores the text of the file in
+/// `contents`. Returns how many texts were stored.
 ///
-/// A source is resolved against the folder `base_path`, which is joined to `current_dir` if it is
-/// not absolute. Without a `base_path` the folder is `current_dir`. A source that does not resolve
-/// to the path of a file is skipped. So is a source whose file cannot be read or is not UTF-8. The
-/// error is `Io` of kind `InvalidInput` if neither path is absolute, and then `contents` is
-/// unchanged. Any other error is `OutOfMemory`. After this error, `contents` keeps the texts that
-/// were already stored.
+/// A source is resolved against the folder `base_path`. A `base_path` that is not absolute is
+/// joined to `current_dir`. Without a `base_path` the folder is `current_dir`. A source is skipped
+/// if it does not resolve to the path of a file, or if the file cannot be read or is not UTF-8. A
+/// source may also be skipped if the URL of the folder, before `..` is resolved, and the source
+/// together have 2^28 bytes or more.
+///
+/// If neither `base_path` nor `current_dir` is absolute, the error is `Io` of kind `InvalidInput`,
+/// and `contents` is unchanged. Any other error is `OutOfMemory`. Then `contents` keeps the texts
+/// that were stored before the error. Requires at least as many entries in `contents` as in
+/// `sources`.
 pub fn load_contents<F: Files>(
     rt: &F,
     alloc: Global,
@@ -55,7 +59,7 @@ pub fn load_contents<F: Files>(
     }
 }
 
-/// Checks that `base_path` or `current_dir` is absolute, so that there is a folder to read from. If
+/// Checks that `base_path` or `current_dir` is absolute, so that `load_contents` has a folder. If
 /// neither is absolute, the error is `Io` of kind `InvalidInput`. There is no other error.
 pub fn check_folder(current_dir: &str, base_path: Option<&str>) -> Result<()>
     ensures folder { OnOk result
@@ -81,7 +85,8 @@ fn is_absolute(path: &str) -> bool
     path.as_bytes().starts_with(b"/")
 }
 
-// The folder whose files are read, `None` if neither path is absolute.
+// The folder against which sources are resolved, `None` if neither `current` nor `base` is
+// absolute.
 fn folder(alloc: Global, current: &str, base: Option<&str>) -> Result<Option<String>>
     ensures { Gives (option_map string_bytes) result
         (Ok (folder_of current.now (option_copied base.entry))) }
@@ -96,7 +101,8 @@ fn folder(alloc: Global, current: &str, base: Option<&str>) -> Result<Option<Str
     Ok(None)
 }
 
-// Loads each source that has no contents, and returns how many were loaded.
+// Loads contents for the sources that have none. Skips a source if `view_of` returns `None`.
+// Returns how many sources got contents.
 fn load_all<F: Files>(
     rt: &F,
     alloc: Global,
@@ -145,8 +151,8 @@ fn load<F: Files>(
     Ok(contents.is_some())
 }
 
-// A view of a source's file, `None` if there is no such file, it cannot be read, or it is not
-// UTF-8.
+// A view of the text of a source's file. `None` if `named_path` returns `None`, or if the file
+// cannot be read or is not UTF-8.
 fn view_of<F: Files>(rt: &F, alloc: Global, base: &Url, source: &str) -> Result<Option<SourceView>>
     ensures from_file { IfOk result (λ view. IsSome view → IsSome (named_path base.now source.now)) }
     ensures err { IfErr result (λ e. e ≡ OutOfMemory) }

@@ -26,7 +26,7 @@ first_reaching col characters = find (λ prefix. nat_le col (width prefix)) (pre
 abbrev pub column_offset : List ℕ → ℕ → Option ℕ
 column_offset line col = option_map (λ prefix. length (encode_utf8_all prefix)) (first_reaching col (chars line))
 
--- `offset` if the `units` before it reach the column, otherwise `None`
+-- `offset` if `units` is at least `col`, otherwise `None`; `units` is the number of UTF-16 units before `offset`
 abbrev pub reached_offset : (col offset units : ℕ) → Option ℕ
 reached_offset col offset units = cond (nat_le col units) (Some offset) None
 
@@ -39,6 +39,7 @@ abbrev pub part_between : List ℕ → Option ℕ → Option ℕ → Option (Lis
 part_between line (Some start) (Some end) = Some (take (end - start) (drop start line))
 part_between line _ _ = None
 
--- the slice of a line from column `col` to the column `span` later; `None` if the line is too short for either column
+-- the slice of a line from column `col` up to column `col + span`, exclusive; `None` if the line has fewer than
+-- `col + span` UTF-16 units
 abbrev pub slice_of : List ℕ → (col span : ℕ) → Option (List ℕ)
 slice_of line col span = part_between line (column_offset line col) (column_offset line (col + span))

@@ -69,8 +69,8 @@ HasNoTerminator line = list_any is_terminator line.body ≡ false
 
 -- `table` holds the ranges of the first lines of a text, and `start` is the offset where the next line starts: `table`,
 -- followed by the ranges of the lines from `start` on, equals the `line_ranges` of the text. No byte from `start` up to
--- `offset`, exclusive, is a terminator. If `offset` is between the two bytes of a `\r\n`, these conditions imply that
--- `start` is after the `\n`
+-- `offset`, exclusive, is a terminator. `start` may be after `offset`. For example, if `offset` is between the two
+-- bytes of a `\r\n`, no line starts at `offset`, and `start` is after the `\n`
 pub record IsPartialTable (text : List ℕ) (table : List (ℕ × ℕ)) (start offset : ℕ) : Type 0 where
   pub within : start ≤ length text
   pub left : table ++ ranges_from start (lines_of (drop start text)) ≡ line_ranges text

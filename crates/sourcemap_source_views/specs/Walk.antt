@@ -30,11 +30,13 @@ abbrev pub identifier_at : List ℕ → ℕ × ℕ → Option (List ℕ)
 identifier_at source position = option_and_then (λ found. token_at_start (drop found.1 found.0)) (position_in source position)
 
 -- the identifier that `token_at_start` finds in the rest of a line from `offset` on. `units` is the number of UTF-16
--- units before `offset`. The result is `None` if `units` is less than `col`, or if `token_at_start` finds none
+-- units before `offset`. The result is `None` if `units` is less than the column `col`, or if `token_at_start` finds no
+-- identifier
 abbrev pub identifier_from : List ℕ → (col offset units : ℕ) → Option (List ℕ)
 identifier_from line col offset units = option_and_then (λ at. token_at_start (drop at line)) (reached_offset col offset units)
 
--- `word` is the offset of the first word at or after `offset` in a line, or the end of the line if there is no word
+-- in a line, `word` is the offset of the first non-white-space character at or after `offset`, or the end of the line
+-- if there is no such character
 abbrev pub IsWord : List ℕ → (offset word : ℕ) → Type 0
 IsWord line offset word = IsCharBoundary line word × (chars (drop word line) ≡ skip_leading_whitespace (chars (drop offset line)))
 
@@ -56,8 +58,8 @@ function_token name (item ∷ []) = None
 function_token name (item ∷ next ∷ items) =
     cond (is_text name item.1 && is_text (codes "function") next.1) (Some item.0) (function_token name (next ∷ items))
 
--- the name of the `function_token` among the first 128 tokens; `None` if the given name is no identifier, if there is
--- no such token, or if the token has no name
+-- the original name of the token that `function_token` finds for the minified name `name` among the first 128 tokens.
+-- `None` if `name` is no identifier, if `function_token` finds none, or if the found token has no original name
 abbrev pub guessed_name : {S : Type 0} → (S → ℕ × ℕ) → (S → Option (List ℕ)) → List ℕ → List ℕ → List S → Option (List ℕ)
 guessed_name position_value name_of source name tokens =
     cond (is_identifier (chars name)) (option_and_then name_of (function_token name (take 128 (walked position_value source tokens)))) None

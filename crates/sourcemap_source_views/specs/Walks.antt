@@ -5,7 +5,7 @@ use Rattle.std.specs.Option.{option_copied}
 use Rattle.sourcemap_source_views.specs.Walk.{walked}
 use Rattle.sourcemap_source_views.specs.declared.walk.RevTokenIter.{RevTokenIter}
 
--- a token with the text of its identifier
+-- a token with the text of its identifier, or with `None`
 abbrev pub item_seen : {T S : Type 0} → (T → S) → T × Option (Bor (List ℕ)) → S × Option (List ℕ)
 item_seen seen item = (seen item.0, option_copied item.1)
 

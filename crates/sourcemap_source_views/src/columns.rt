@@ -78,8 +78,8 @@ fn reach_by_characters(line: &str, from: LineOffset, col: u64) -> Option<LineOff
     })
 }
 
-// An offset that is not after the column. If the line reaches the column, the offset is near the
-// column.
+// The start of the last block that starts at or before the column. A block has 1024 to 1027 bytes,
+// and the last block of the line has fewer.
 fn skip_blocks(line: &str, col: u64) -> LineOffset
     ensures offset { IsOffset line.now result.offset result.units }
     ensures before { result.units ≤ col }
@@ -94,8 +94,8 @@ fn skip_blocks(line: &str, col: u64) -> LineOffset
     at
 }
 
-// The start of the next block, about 1024 bytes after `at`. `None` if the end of the line or the
-// column is before that start.
+// The start of the next block, 1024 to 1027 bytes after `at`. `None` if fewer than 1024 bytes
+// follow `at`, or if the next block starts after the column.
 fn next_block(line: &str, at: LineOffset, col: u64) -> Option<LineOffset>
     requires { IsOffset line.now at.offset at.units }
     ensures offset { IfSome result (λ next. IsOffset line.now next.offset next.units) }
@@ -155,8 +155,10 @@ pub fn slice_at(line: &str, col: u32, span: u32) -> Option<&str>
     Some(&rest[..length])
 }
 
-/// `reach_or_end` with a known offset `from`. Walks from the start of the line only if `col` is
-/// after `from` and `from` is not the end of the line.
+/// Returns the same offset as `reach_or_end`. `from` must be a character boundary of this line. If
+/// `col` is not after `from`, the search runs back from `from`. If `from` is the end of the line
+/// and `col` is after `from`, the result is `from`. Otherwise the search runs from the start of the
+/// line.
 pub fn reach_from(line: &str, from: LineOffset, col: u64) -> LineOffset
     requires { IsOffset line.now from.offset from.units }
     ensures value { reached_offset col result.offset result.units ≡ column_offset line.now col }
@@ -171,8 +173,8 @@ pub fn reach_from(line: &str, from: LineOffset, col: u64) -> LineOffset
     reach_or_end(line, col)
 }
 
-/// `reach` for a column that is not after a known offset, without a walk from the start of the
-/// line.
+/// Returns the same offset as `reach`. `from` must be a character boundary of this line, and `col`
+/// must not be after `from`. The search runs back from `from`.
 pub fn reach_back(line: &str, from: LineOffset, col: u64) -> LineOffset
     requires offset { IsOffset line.now from.offset from.units }
     requires ahead { col ≤ from.units }

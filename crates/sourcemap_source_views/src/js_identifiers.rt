@@ -29,8 +29,9 @@ pub fn get_javascript_token(text: &str) -> Option<&str>
     Some(&words[..length])
 }
 
-/// Returns whether the longest identifier at the start of a text is `name`. An empty `name` gives
-/// false. Reads as many bytes of the text as `name` has, and at most one character after them.
+/// Returns whether the longest identifier at the start of a text is `name`. `name` must be an
+/// identifier or empty, and an empty `name` gives false. Reads at most as many bytes of the text as
+/// `name` has, and one character after them.
 pub(crate) fn starts_with_identifier(text: &str, name: &str) -> bool
     requires { is_identifier (chars name.now) ≡ true }
     ensures { result ≡ is_text name.now (unless_empty (identifier_at_start (chars text.now))) }

@@ -101,8 +101,8 @@ impl LineTable {
 
     // Adds the line from `start` up to the terminator at `end`. Returns the start of the next line.
     // If `end` is before `start`, the table already has the line with this terminator. Then nothing
-    // is added, and `start` is returned. In this file, that happens only at the `\n` of a `\r\n`.
-    // The only error is out of memory.
+    // is added, and `start` is returned. The callers in this module pass such an `end` only for the
+    // `\n` of a `\r\n`. The only error is out of memory.
     #[inline(always)]
     fn push_end(&mut self, bytes: &[u8], start: usize, end: usize) -> Result<usize>
         requires inside { end < length bytes.now }
@@ -169,8 +169,9 @@ pub fn utf16_offset(line: &str, col: u64) -> Option<usize>
     Some(reach(line, col)?.offset)
 }
 
-// The offset where the search continues: `from` if `is_long` is false. If `is_long` is true, it is
-// the offset of the next terminator, or the end of the text if no terminator follows.
+// The offset where the search for terminators continues. `is_long` means that the last block had no
+// terminator. Then the search continues at the first terminator at or after `from`, or at the end
+// of the text if there is none. If `is_long` is false, the search continues at `from`.
 #[inline(always)]
 fn next_offset(bytes: &[u8], from: usize, is_long: bool) -> usize
     requires { from ≤ length bytes.now }

@@ -76,10 +76,10 @@ impl SourceView {
         Some(&self.source()[start..end])
     }
 
-    /// Returns the part of a line from a column to the column `span` later. Line and column are
-    /// 0-based. Column and `span` are in UTF-16 units. Both ends are rounded up to a character
-    /// boundary, so that no surrogate pair is split. Returns `None` if there is no such line, or if
-    /// the line is too short.
+    /// Returns the part of a line from column `col` up to column `col + span`, exclusive. Lines and
+    /// columns are 0-based. Columns are in UTF-16 units. A column inside a surrogate pair is moved
+    /// after the pair. Returns `None` if there is no such line, or if the line has fewer than
+    /// `col + span` units.
     pub fn get_line_slice(&self, line: u32, col: u32, span: u32) -> Option<&str>
         ensures { option_map (λ part. part.now) result ≡ view_slice self.now line col span }
     {
@@ -105,9 +105,10 @@ impl SourceView {
         self.lines.count()
     }
 
-    /// Returns the reference to a source map, which is on the first line that starts with
-    /// `//# sourceMappingURL=` or `//@ sourceMappingURL=`. Returns `None` if no line starts so. For
-    /// this search, lines end only at `\n`. The only error is `OutOfMemory`.
+    /// Returns the source map reference of the first line that starts with
+    /// `//# sourceMappingURL=` or `//@ sourceMappingURL=`. The URL is the rest of that line,
+    /// trimmed. Returns `None` if no line starts so. For this search, lines end only at `\n`. The
+    /// only error is `OutOfMemory`.
     pub fn sourcemap_reference(&self) -> Result<Option<SourceMapRef>>
         ensures value { Locates result (first_reference self.now) }
         ensures memory { IsOkUnless result OutOfMemory }
@@ -148,7 +149,7 @@ impl fmt::Debug for SourceView {
     }
 }
 
-/// The remaining lines of a view.
+/// An iterator over the lines of a view. Returns at most the first 4294967296 lines.
 #[derive(Drop)]
 pub struct Lines<'a> {
     view: &'a SourceView,

@@ -48,8 +48,8 @@ pub trait WalkedToken: Copy + Drop {
             (λ token. before self.now ≡ seen token ∷ before token) };
 }
 
-// A line of a view with its number, an offset `at` in the line, and the offset of the first word at
-// or after `at`.
+// A line of a view with its number, and an offset `at` in the line. `word` is the offset of the
+// first non-white-space character at or after `at`, or the end of the line.
 #[derive(Clone, Copy)]
 struct Cursor<'view> {
     number: u32,
@@ -79,9 +79,9 @@ impl<'view> Cursor<'view> {
         }
     }
 
-    // A cursor at another column of the same line. If the column is not after this cursor, the
-    // search goes back from this cursor. So a walk over tokens in descending order reads a line
-    // once.
+    // A cursor at another column of the same line, or at the end of a line that is too short. The
+    // search goes back from this cursor if the column is not after this cursor. So in a walk over
+    // tokens in descending order, only the first search in a line starts at the start of the line.
     fn moved_to(&self, col: u32) -> Cursor<'view>
         ensures number { result.number ≡ self.now.number }
         ensures line { result.line.now ≡ self.now.line.now }
@@ -98,7 +98,8 @@ impl<'view> Cursor<'view> {
         }
     }
 
-    // Whether the line reaches column `col`, and the identifier there is `name`.
+    // Returns true if the line reaches column `col` and the identifier at the offset `word` is
+    // `name`. `col` is the column that this cursor was made for.
     fn is_named(&self, col: u32, name: &str) -> bool
         requires { is_identifier (chars name.now) ≡ true }
         ensures { result ≡ is_text name.now
@@ -142,8 +143,8 @@ impl<'view> Word<'view> {
         Word { cursor, end }
     }
 
-    // The identifier at column `col`. `None` if the line does not reach the column, or if no
-    // identifier is there.
+    // The identifier at the offset `word` of the cursor. `None` if the line does not reach column
+    // `col`, or if no identifier starts at `word`. `col` is the column that this word was made for.
     fn identifier(&self, col: u32) -> Option<&'view str>
         ensures { option_copied result ≡ identifier_from self.now.cursor.line.now col
             self.now.cursor.at.offset self.now.cursor.at.units }
@@ -157,8 +158,8 @@ impl<'view> Word<'view> {
     }
 }
 
-// The offset of the first word at or after an offset of a line, or the end of the line if there is
-// no word.
+// The offset of the first non-white-space character at or after `offset`, or the end of the line if
+// there is no such character.
 fn word_from(line: &str, offset: usize) -> usize
     requires { IsCharBoundary line.now offset }
     ensures { IsWord line.now offset result }
@@ -200,8 +201,9 @@ fn word_before(line: &str, offset: usize, next: usize, word: usize) -> usize
 }
 
 // The offset of the first character at or after `word` that cannot continue an identifier, or the
-// end of the line if there is no such character. `end` is the result for `next` instead of `word`,
-// and `next` is not before `word`. Reads no character at or after `next`.
+// end of the line if there is no such character. `next` is not before `word`. `end` is the offset
+// of the first such character at or after `next`, or the end of the line. Reads no character at or
+// after `next`.
 fn end_before(line: &str, word: usize, next: usize, end: usize) -> usize
     requires order { word ≤ next }
     requires word { IsCharBoundary line.now word }
@@ -218,8 +220,9 @@ fn end_before(line: &str, word: usize, next: usize, end: usize) -> usize
     }
 }
 
-// A cursor at a column of a line, `None` if there is no such line. `last` is the cursor of the
-// previous token in the walk. If `last` is on the same line, it is moved to the column.
+// A cursor at column `col` of line `line`, or at the end of the line if the line is too short.
+// `None` if there is no such line. `last` is the cursor of the previous token in the walk, if any.
+// If `last` is on line `line`, the result is `last.moved_to(col)`.
 fn next_cursor<'view>(
     view: &'view SourceView,
     last: Option<Cursor<'view>>,
@@ -239,8 +242,9 @@ fn next_cursor<'view>(
     }
 }
 
-// The word at a column of a line, `None` if there is no such line. `last` is the word of the
-// previous token in the walk. If `last` is on the same line, it is moved to the column.
+// The word at column `col` of line `line`, or at the end of the line if the line is too short.
+// `None` if there is no such line. `last` is the word of the previous token in the walk, if any. If
+// `last` is on line `line`, the result is `last.moved_to(col)`.
 fn next_word<'view>(
     view: &'view SourceView,
     last: Option<Word<'view>>,
@@ -293,8 +297,7 @@ impl<'view, T: WalkedToken> Iterator for RevTokenIter<'view, T> {
     }
 }
 
-// The identifier at column `col` of the line of `word`. `None` if `word` is `None`, if the line
-// does not reach the column, or if no identifier is there.
+// Returns the same as `Word::identifier`, or `None` if `word` is `None`.
 fn identifier_of<'view>(word: Option<Word<'view>>, col: u32) -> Option<&'view str>
     ensures { option_copied result ≡ option_and_then
         (λ w. identifier_from w.cursor.line.now col w.cursor.at.offset w.cursor.at.units)
@@ -303,7 +306,7 @@ fn identifier_of<'view>(word: Option<Word<'view>>, col: u32) -> Option<&'view st
     word?.identifier(col)
 }
 
-// Whether there is a cursor, and the identifier at column `col` of its line is `name`.
+// Returns the same as `Cursor::is_named`, or false if `cursor` is `None`.
 fn is_named(cursor: Option<Cursor<'_>>, col: u32, name: &str) -> bool
     requires { is_identifier (chars name.now) ≡ true }
     ensures { result ≡ is_text name.now (option_and_then
@@ -315,9 +318,10 @@ fn is_named(cursor: Option<Cursor<'_>>, col: u32, name: &str) -> bool
     }
 }
 
-// Walks back over `token` and the tokens before it, at most 128 in all. Returns the first token
-// with the identifier `name` whose next token in the walk has the identifier `function`, or `None`
-// if there is no such token. Identifiers are compared without a search for their ends.
+// Walks back over `token` and the tokens before it, at most 128 in all. Looks for two consecutive
+// tokens of the walk: the first has the identifier `name`, the second the identifier `function`.
+// Returns the first token of the first such pair, or `None` if there is no such pair. Uses cursors
+// instead of words, because a comparison needs no search for the end of an identifier.
 fn function_token<T: WalkedToken>(view: &SourceView, token: T, name: &str) -> Option<T>
     requires { is_identifier (chars name.now) ≡ true }
     ensures { option_map T.seen result ≡ function_token name.now
@@ -362,9 +366,10 @@ impl SourceView {
     /// Guesses the original name of a function from its minified name. Walks back over this token
     /// and the tokens before it, at most 128 in all. Two consecutive tokens of the walk match if
     /// the identifier at the position of the first token is `minified_name` and the identifier at
-    /// the position of the second token is `function`. Returns the name of the first token of the
-    /// first match. Returns `None` if no two tokens match, if the first token of the first match
-    /// has no name, or if `minified_name` is no identifier.
+    /// the position of the second token is `function`. White space between a position and the
+    /// identifier is skipped, but not past the end of the line. Returns the name of the first token
+    /// of the first match. Returns `None` if no two tokens match, if the first token of the first
+    /// match has no name, or if `minified_name` is no identifier.
     pub fn get_original_function_name<T: WalkedToken>(
         &self,
         token: T,

@@ -6,14 +6,15 @@ use std::fs::{Metadata, OpenFile};
 use std::io;
 use std::io::{ErrorKind, Read, Seek, SeekFrom, Write};
 
-/// The result of an operation that no test uses.
+/// Returns an error of kind `Unsupported`, for an operation that a fake does not offer.
 pub fn unsupported_error<T>() -> io::Result<T>
     ensures { IsErr result }
 {
     Err(io::Error::from(ErrorKind::Unsupported))
 }
 
-/// A file that is only read.
+/// A file that can only be read. All operations other than `read` and `metadata` fail with the kind
+/// `Unsupported`.
 #[derive(Drop)]
 pub struct FakeFile<'a> {
     /// Each read of the file returns the result of one read of this reader.

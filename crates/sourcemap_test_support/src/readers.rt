@@ -1,9 +1,9 @@
-//! Readers that return one byte a read, are interrupted, and fail.
+//! Readers that return at most one byte a read and can fail. `HaltingReader` also interrupts reads.
 use std::io;
 use std::io::{ErrorKind, Read};
 
-/// Returns one byte a read, and fails with `kind` after `left` reads. If `left` is `None`, no read
-/// fails.
+/// A read returns one byte, or none if `rest` or the buffer is empty. After `left` more reads,
+/// each further read fails with `kind`. If `left` is `None`, no read fails.
 #[derive(Drop)]
 pub struct NarrowReader<'a> {
     /// The bytes not read yet.
@@ -31,9 +31,9 @@ impl Read for NarrowReader<'_> {
     }
 }
 
-/// A read returns `Interrupted` unless the read before it was interrupted. Any other read returns
-/// one byte, or none if `rest` or the buffer is empty. Once `reads` such reads have succeeded, each
-/// further one fails with `kind`.
+/// Reads alternate: one returns `Interrupted`, the next is not interrupted. An uninterrupted read
+/// returns one byte, or none if `rest` or the buffer is empty. After `reads` more uninterrupted
+/// reads, each further uninterrupted read fails with `kind`.
 #[derive(Drop)]
 pub struct HaltingReader<'a> {
     /// The bytes not read yet.
@@ -47,7 +47,7 @@ pub struct HaltingReader<'a> {
 }
 
 impl<'a> HaltingReader<'a> {
-    /// A reader of these bytes.
+    /// A reader of these bytes. The first read is interrupted.
     pub fn new(bytes: &'a [u8], reads: usize, kind: ErrorKind) -> Self {
         HaltingReader {
             rest: bytes,

@@ -1,9 +1,9 @@
-//! Results as texts, which a suite compares with the rows of its tables. Out of memory stays an
-//! error, so that a run in which allocations are refused sees it.
+//! Helpers for test suites: errors and options become texts. Only `OutOfMemory` stays an error, so
+//! that no test hides a failed allocation.
 use sourcemap_errors::errors::{Error, Result};
 use std::alloc::Global;
 
-/// Calls a second time if the first call is out of memory.
+/// Calls `call`, and calls `call` once more if the first call returns `OutOfMemory`.
 pub fn again<F: Fn() -> Result<String>>(call: F) -> Result<String>
     requires { F.IsAlwaysCallable call }
 {
@@ -13,7 +13,7 @@ pub fn again<F: Fn() -> Result<String>>(call: F) -> Result<String>
     }
 }
 
-/// The text of an error. Out of memory stays an error.
+/// The text of an error. Returns `Err(OutOfMemory)` for `OutOfMemory`, or if memory runs out.
 pub fn error_text(alloc: Global, error: &Error) -> Result<String> {
     match error {
         Error::OutOfMemory => Err(Error::OutOfMemory),
@@ -21,7 +21,7 @@ pub fn error_text(alloc: Global, error: &Error) -> Result<String> {
     }
 }
 
-/// The text of the error of a result, or `no error`.
+/// For `Ok`, the text `no error`. For `Err`, what `error_text` returns for the error.
 pub fn error_of<T: Drop>(alloc: Global, got: Result<T>) -> Result<String> {
     match got {
         Ok(_) => Ok(String::from_str(alloc, "no error")?),

@@ -1,4 +1,5 @@
-//! Writers that take one byte a write, are interrupted, and fail.
+//! Writers that take at most one byte in each write. `NarrowWriter` can fail after a number of
+//! calls. `HaltingWriter` is interrupted before each byte.
 use std::io;
 use std::io::{ErrorKind, Write};
 
@@ -9,7 +10,7 @@ use std::io::{ErrorKind, Write};
 pub struct NarrowWriter {
     /// The bytes taken.
     pub held: Vec<u8>,
-    /// How many more bytes it takes.
+    /// The number of further calls of `write` and `flush` before `BrokenPipe`.
     pub left: Option<usize>,
 }
 
@@ -40,15 +41,15 @@ impl Write for NarrowWriter {
     }
 }
 
-/// A write returns `Interrupted` unless the write before it was interrupted. Any other write takes
-/// one byte, or none if the buffer is empty. After `left` more bytes, such a write takes nothing
-/// and returns 0. If `left` is `None`, the number of bytes is not limited. A flush does nothing.
-/// The only other error is out of memory.
+/// A write returns `Interrupted` unless the write before it was interrupted. An uninterrupted write
+/// takes one byte, or none if the buffer is empty. After `left` more bytes, an uninterrupted write
+/// takes nothing and returns 0. If `left` is `None`, the number of bytes is not limited. A flush
+/// does nothing. The only other error is out of memory.
 #[derive(Drop)]
 pub struct HaltingWriter {
     /// The bytes taken.
     pub held: Vec<u8>,
-    /// How many more bytes it takes.
+    /// The number of bytes that further writes can take.
     pub left: Option<usize>,
     /// Whether the last write was interrupted.
     pub is_interrupted: bool,

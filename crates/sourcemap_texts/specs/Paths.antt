@@ -30,13 +30,13 @@ abbrev pub path_parts : List ℕ → List (List ℕ)
 path_parts [] = []
 path_parts (byte ∷ text) = cond (is_separated text) ((byte ∷ []) ∷ path_parts text) (with_first_byte byte (path_parts text))
 
--- the longest list of parts with which both lists start
+-- the longest common prefix of two lists of parts
 abbrev pub common_parts : List (List ℕ) → List (List ℕ) → List (List ℕ)
 common_parts [] qs = []
 common_parts (p ∷ ps) [] = []
 common_parts (p ∷ ps) (q ∷ qs) = cond (bytes_eq p q) (p ∷ common_parts ps qs) []
 
--- the longest list of parts with which all lists start; empty if there are no lists
+-- the longest common prefix of any number of lists of parts; empty if there are no lists
 abbrev pub first_parts : List (List (List ℕ)) → List (List ℕ)
 first_parts [] = []
 first_parts (parts ∷ []) = parts

@@ -1,13 +1,13 @@
--- Prefixes that are stripped from a text, such as an entry of `sources`.
+-- Prefixes that are stripped from the start of a text, for example from an entry of `sources`.
 use Rattle.std.specs.Prelude.{ℕ, List, [], ◌∷◌, ◌++◌, codes, nat_eq, drop, length, if◌then◌else◌}
 use Rattle.std.specs.List.{starts_with, ends_with}
 
--- a prefix with a slash at its end, which is added if it is missing
+-- the prefix if it ends with a slash; otherwise the prefix with a slash appended
 abbrev pub with_slash : List ℕ → List ℕ
 with_slash prefix = if ends_with nat_eq prefix (codes "/") then prefix else prefix ++ codes "/"
 
--- the rest of a text after the first prefix that matches, where each prefix is taken `with_slash`; the whole text if no
--- prefix matches
+-- the rest of a text after `with_slash prefix` of the first prefix that matches; the whole text if no prefix matches. A
+-- prefix matches if the text starts with `with_slash prefix`: prefix `a` turns `a/b` into `b`, and does not match `ab`
 abbrev pub without_prefix : List (List ℕ) → List ℕ → List ℕ
 without_prefix [] text = text
 without_prefix (prefix ∷ prefixes) text =

@@ -9,12 +9,13 @@ ghost use Rattle.sourcemap_texts.specs.Paths.{is_absolute as starts_at_root, is_
 use sourcemap_errors::errors::Result;
 use std::alloc::Global;
 
-/// Returns the common prefix of the absolute paths among `texts`: the longest list of parts with
-/// which all of these paths start, joined.
+/// Returns the common prefix of the absolute paths among `texts`. The prefix consists of whole
+/// parts, as many as possible. For example, the prefix of `/a/b` and `/a/bc` is `/a`.
 ///
-/// A path is absolute if it starts with `/`, or if it has more than 3 bytes and starts with an
-/// ASCII letter, `:` and `/` or `\`. Paths are split into parts before every `/` and `\`. Returns
-/// `None` if the prefix is empty or `/` alone. The only error is `OutOfMemory`.
+/// A path is split into parts before every `/` and `\`. A path is absolute if it starts with `/`. A
+/// path of more than 3 bytes is also absolute if it starts with an ASCII letter, then `:`, then `/`
+/// or `\`. Returns `None` if no text is an absolute path, or if the prefix is empty or `/` alone.
+/// The only error is `OutOfMemory`.
 pub fn find_common_prefix<'a, I: Iterator<Item = &'a str> + Drop>(
     alloc: Global,
     texts: I,
@@ -47,7 +48,7 @@ fn is_absolute(text: &str) -> bool
     }
 }
 
-// Whether this byte starts a part.
+// Whether a path is split before this byte.
 fn is_separator(byte: u8) -> bool
     ensures { result ≡ separates byte }
 {
@@ -71,7 +72,7 @@ fn common_start<'a>(a: &'a str, b: &str) -> &'a str
     &a[..common_length(a.as_bytes(), b.as_bytes())]
 }
 
-// The length in bytes of the first parts that both paths have in common.
+// The length in bytes of the equal parts at the start of both paths: 2 for `/a/b` and `/a/bc`.
 fn common_length(a: &[u8], b: &[u8]) -> usize
     ensures parts { path_parts (take result a.now)
         ≡ common_parts (path_parts a.now) (path_parts b.now) }

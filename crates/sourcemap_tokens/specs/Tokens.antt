@@ -1,5 +1,5 @@
--- Lists of tokens: sorting and search by generated position, limits on ids, and the list that decoding returns after
--- encoding.
+-- Lists of tokens: sorting and search by generated position, limits on ids, and the list to which encoded tokens
+-- decode (`reduced`).
 use Rattle.std.specs.Prelude.{◌≡◌, ℕ, ◌≤◌, Bool, ◌&&◌, cond, List, [], ◌∷◌, map, Option, ◌==◌, nat_lt, if◌then◌else◌, IsSortedByKey}
 use Rattle.std.specs.List.{AllByRecursion}
 use Rattle.std.specs.Ordering.{nat_cmp, ordering_then, is_lt}
@@ -44,8 +44,8 @@ in_order tokens = sorted_by destination position_cmp tokens
 abbrev pub closest_token : List RawToken → ℕ × ℕ → Option (ℕ × RawToken)
 closest_token tokens p = closest destination position_cmp tokens p
 
--- the source id is below `sources`; otherwise the source id, the original line and the original column are `no_id`, and
--- the name id is at least `names`
+-- if the source id is `sources` or more, the token has no source and no name: the source id, the original line and the
+-- original column are `no_id`, and the name id is `names` or more
 abbrev pub IsWithin : (sources names : ℕ) → RawToken → Type 0
 IsWithin sources names token =
     sources ≤ token.src_id
@@ -66,12 +66,12 @@ are_same s t =
     && ((s.name_id == t.name_id)
     && beq s.is_range t.is_range)))))
 
--- the tokens that differ from the token before them, where `previous` comes before the first
+-- removes each token that is equal to the token before it; the token before the first one is `previous`
 abbrev pub changes_after : RawToken → List RawToken → List RawToken
 changes_after previous [] = []
 changes_after previous (token ∷ rest) = cond (are_same token previous) (changes_after token rest) (token ∷ changes_after token rest)
 
--- the tokens that differ from the token before them in some field
+-- removes each token that is equal to the token before it
 abbrev pub without_repeats : List RawToken → List RawToken
 without_repeats [] = []
 without_repeats (token ∷ rest) = token ∷ changes_after token rest
@@ -80,7 +80,7 @@ without_repeats (token ∷ rest) = token ∷ changes_after token rest
 abbrev pub with_valid_name : (names : ℕ) → RawToken → RawToken
 with_valid_name names token = record token { name_id = (if nat_lt token.name_id names then token.name_id else no_id) }
 
--- the tokens that decoding returns after encoding: without repeats, and with each name id replaced by `no_id` if it is
--- not below `names`
+-- removes each token that is equal to the token before it, then replaces each name id that is not below `names` by
+-- `no_id`. If tokens are sorted and satisfy `AllWithin` for fewer than 2^32 sources, their texts decode to this list
 abbrev pub reduced : (names : ℕ) → List RawToken → List RawToken
 reduced names tokens = map (with_valid_name names) (without_repeats tokens)

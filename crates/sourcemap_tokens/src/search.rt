@@ -15,7 +15,7 @@ pub fn greatest_lower_bound<'a, T, K: Ord + Drop, F: Fn(&'a T) -> K>(
     map: F,
 ) -> Option<(usize, &'a T)>
     requires { F.IsAlwaysCallable map }
-    // the slice has this item at this index
+    // the returned index is the index of the returned item, in an unsorted slice too
     ensures own_index { IfSome result (λ found. slice_get slice.now found.0 ≡ Some found.1.now) }
     ensures closest { (key_of : T → K) → GivesKey (F.post map) key_of
         → IsSortedByKey key_of K.cmp slice.now

@@ -14,7 +14,7 @@ use sourcemap_errors::errors::Result;
 /// can have any original line and column, even if its source id is `NO_ID`.
 pub const NO_ID: u32 = 4294967295;
 
-/// One decoded mapping: a generated position (`dst`), and the original position (`src`) and name
+/// One mapping: a generated position (`dst`), and the original position (`src`) and name
 /// that it maps to. Lines and columns count from 0, columns in UTF-16 code units. The id [`NO_ID`]
 /// means no source or no name.
 #[derive(Clone, Copy, Debug, PartialEq, Eq)]
@@ -31,7 +31,7 @@ pub struct RawToken {
     pub src_id: u32,
     /// Name id, [`NO_ID`] for no name.
     pub name_id: u32,
-    /// Whether this is a range mapping, which maps all columns up to the next token.
+    /// Whether this is a range mapping, which maps the rest of its line, up to the next token.
     pub is_range: bool,
 }
 
@@ -124,8 +124,9 @@ pub fn reduced_answers_alike(tokens: &[RawToken], names: u32, line: u32, col: u3
         (closest_item destination position_cmp tokens.now (line, col)) }
 {}
 
-/// A law: the token closest to a position is also the closest to each later position that is
-/// before the next token.
+/// A law about sorted tokens. Let `closest_token` return the token `t` for a position `p`. Then
+/// `closest_token` also returns `t` for each later position that is before the token after `t`. If
+/// `t` is the last token, `closest_token` returns `t` for every later position.
 pub fn closest_tokens_stay()
     ensures { (tokens : List RawToken) (p q : ℕ × ℕ) (found : ℕ × RawToken) → AreInOrder tokens
         → closest_token tokens p ≡ Some found → is_lt (position_cmp q p) ≡ false

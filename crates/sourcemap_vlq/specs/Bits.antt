@@ -19,7 +19,7 @@ bit_of text j = bit_at (value_at text (j / 6)) (j % 6) == 1
 abbrev pub first_non_digit : List ℕ → Option ℕ
 first_non_digit text = find (λ c. is_none (digit_value c)) text
 
--- the six bits of a value
+-- the six lowest bits of a value, lowest first
 abbrev pub six_of : ℕ → List Bool
 six_of v = map (λ k. bit_at v k == 1) (0 ∷ 1 ∷ 2 ∷ 3 ∷ 4 ∷ 5 ∷ [])
 

@@ -63,12 +63,12 @@ pub record IsGroup (digits : List ℕ) (number : ℤ) : Type 0 where
   pub fits : FitsOneNumber digits
   pub value : number ≡ number_of (raw_of digits)
 
--- a text is the concatenation of the digits of these numbers; a number need not have its shortest digits
+-- a text is the concatenation of digits of these numbers; the digits need not be the shortest: `gA` and `B` are 0 too
 abbrev pub Reads : List ℕ → List ℤ → Type 0
 Reads text [] = text ≡ []
 Reads text (n ∷ ns) = (group rest : List ℕ) × IsGroup group n × (text ≡ group ++ rest) × Reads rest ns
 
--- digits that all have the continuation bit and do not overflow; there may be no digits
+-- zero or more digits that all have the continuation bit and do not overflow (`FitsOneNumber`)
 pub record IsUnfinished (part : List ℕ) : Type 0 where
   pub continues : AllByRecursion HasContinuation part
   pub fits : FitsOneNumber part
@@ -109,7 +109,7 @@ abbrev pub SegmentAnswers : List ℕ → Result (List ℤ) Error → Type 0
 SegmentAnswers text (Ok numbers) = Reads text numbers × (numbers ≢ [])
 SegmentAnswers text (Err e) = HasError text e
 
--- the shortest digits of a number; if the number is 0, its sign bit is not set
+-- the shortest digit sequence of a number; the sequence of 0 is `A`, not `B`, because `B` has the sign bit
 pub record IsShortest (digits : List ℕ) (number : ℤ) : Type 0 where
   pub is_group : IsGroup digits number
   pub shortest : (other : List ℕ) → IsGroup other number → length digits ≤ length other

@@ -28,8 +28,8 @@ pub fn decode_rmi(alloc: Global, text: &str) -> Result<Vec<bool>>
     Ok(bits)
 }
 
-/// Encodes bits as the shortest text, which ends with the digit of the last true bit and is empty
-/// if no bit is true. The only error is `OutOfMemory`.
+/// Encodes bits as the shortest text. The text ends with the digit of the last true bit. If no bit
+/// is true, the text is empty. The only error is `OutOfMemory`.
 pub fn encode_rmi(alloc: Global, bits: &[bool]) -> Result<String>
     ensures written { IfOk result (λ text. IsBitText bits.now (string_bytes text)) }
     ensures memory { IfErr result (λ e. e ≡ OutOfMemory) }
@@ -58,7 +58,7 @@ pub fn test_digits(text: &[u8]) -> Result<()>
 pub fn has_bit(text: &[u8], index: usize) -> bool
     ensures { result ≡ bit_of text.now index }
 {
-    // most maps have no range mappings; this saves the division
+    // Most maps have no range mappings, so the text is usually empty. The check avoids a division.
     if text.is_empty() {
         return false;
     }
@@ -112,7 +112,7 @@ fn digit_count(bits: &[bool]) -> usize
     }
 }
 
-// The value of the digit whose lowest bit has this index.
+// The value of a digit: six bits from `index` on, lowest first. A missing bit counts as false.
 fn value_from(bits: &[bool], index: usize) -> u8
     requires { index < length bits.now }
     ensures small { result < 64 }

@@ -1,4 +1,4 @@
-//! Base64 VLQ numbers, of which the segments of `mappings` consist.
+//! Base64 VLQ numbers. The segments of `mappings` consist of these numbers.
 ghost use Rattle.std.specs.Prelude.{◌≡◌, ◌≢◌, [], ℕ, ◌^◌, ◌<◌, ◌==◌, ◌&&◌, ◌||◌, nat_lt, ℤ, List, ◌++◌, Result, IfOk, IfErr, IfSome, OnErr, OnOk, string_bytes};
 ghost use Rattle.sourcemap_errors.specs.declared.errors.Error.{Error};
 ghost use Rattle.sourcemap_errors.specs.declared.errors.Error.TheVariants.{VlqOverflow};
@@ -144,8 +144,9 @@ fn number_from(raw: u64) -> i64
     if raw % 2 == 0 { magnitude } else { -magnitude }
 }
 
-/// Appends the shortest digits of `number`. Returns `VlqOverflow` if the absolute value of `number`
-/// is 2^62 or more. The only other error is `OutOfMemory`. After an error `text` is unchanged.
+/// Appends the digits of `number`, as few as possible: `A` for 0, `D` for -1, `gB` for 16. Returns
+/// `VlqOverflow` if the absolute value of `number` is 2^62 or more. The only other error is
+/// `OutOfMemory`. After an error `text` is unchanged.
 pub fn push_number(text: &mut String, number: i64) -> Result<()>
     ensures written { OnOk result ((digits : List ℕ) × IsShortest digits number
         × (string_bytes text.new ≡ string_bytes text.old ++ digits)) }
@@ -166,10 +167,10 @@ pub fn push_number(text: &mut String, number: i64) -> Result<()>
     Ok(())
 }
 
-/// Decodes the numbers of a segment. Returns the first error from the left: `InvalidBase64` for a
-/// byte that is not a digit, `VlqOverflow` if the absolute value of a number is 2^62 or more or the
-/// number has a fourteenth digit, `VlqLeftover` if the segment ends within a number, `VlqNoValues`
-/// if the segment is empty. The only other error is `OutOfMemory`.
+/// Decodes the numbers of a segment from left to right. Returns the first error. `VlqNoValues`: the
+/// segment is empty. `InvalidBase64`: a byte is not a digit. `VlqOverflow`: the absolute value of a
+/// number is at least 2^62, or a number has a fourteenth digit. `VlqLeftover`: the segment ends
+/// within a number. The only other error is `OutOfMemory`.
 pub fn parse_vlq_segment(alloc: Global, segment: &str) -> Result<Vec<i64>>
     ensures answers { IsAnswer (λ numbers. numbers.items) (SegmentAnswers segment.now) result }
     ensures only { (answer : Result (List ℤ) Error) → SegmentAnswers segment.now answer
@@ -188,8 +189,9 @@ pub fn parse_vlq_segment(alloc: Global, segment: &str) -> Result<Vec<i64>>
     Ok(numbers)
 }
 
-/// Encodes numbers as a segment, each with its shortest digits. Returns `VlqOverflow` if the
-/// absolute value of a number is 2^62 or more. The only other error is `OutOfMemory`.
+/// Encodes numbers as a segment. Each number gets as few digits as possible: 0 and 16 give `AgB`.
+/// Returns `VlqOverflow` if the absolute value of a number is 2^62 or more. The only other error is
+/// `OutOfMemory`.
 pub fn generate_vlq_segment(alloc: Global, numbers: &[i64]) -> Result<String>
     ensures written { IsAnswer string_bytes (SpellingAnswers numbers.now) result }
     ensures only { (answer : Result (List ℕ) Error) → SpellingAnswers numbers.now answer
