@@ -6,8 +6,6 @@ mod applied;
 #[cfg(test)]
 mod composes;
 #[cfg(test)]
-mod fake_files;
-#[cfg(test)]
 mod io_errors;
 #[cfg(test)]
 mod memory;

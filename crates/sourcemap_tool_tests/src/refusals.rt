@@ -1,9 +1,9 @@
 // Runs at the limits of input, out of memory, and with unreadable files.
-use crate::fake_files::FakeFiles;
 use crate::memory::unless_out;
 use crate::runs::{MAP, is_run, words_of};
 use sourcemap::Error;
 use sourcemap_cli::program::run;
+use sourcemap_test_support::files::{FakeFiles, FakePath};
 use sourcemap_test_support::readers::HaltingReader;
 use std::alloc::Global;
 use std::cell::Cell;
@@ -126,8 +126,8 @@ fn failing_reads_are_reported(rt: HostRuntime) -> Result<(), Fail> {
     Ok(())
 }
 
-// A label and the words of the run. The next four values are `bytes`, `left`, `kind` and
-// `fails_on_open` of `FakeFiles`. The last value is the status and the output of the run.
+// A label and the words of the run. The next two values are `bytes` and `left` of the file,
+// then come the kind of the error and `fails_on_open`. The last value is the status and the output of the run.
 type Row = (
     &'static str,
     &'static str,
@@ -234,11 +234,14 @@ static FILES: [Row; 10] = [
 fn file_ends(rt: &HostRuntime, row: &Row) -> Result<bool, Fail> {
     let (_, line, bytes, left, kind, fails_on_open, want) = *row;
     let files = FakeFiles {
-        path: "a.map",
-        bytes,
-        left,
+        paths: [FakePath {
+            path: "a.map",
+            bytes,
+            left,
+            fails_on_open,
+            size: None,
+        }],
         kind,
-        fails_on_open,
         is_opened: Cell::new(false),
     };
     let mut reader = HaltingReader::new(MAP.as_bytes(), usize::MAX, ErrorKind::TimedOut);
