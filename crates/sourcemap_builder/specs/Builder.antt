@@ -67,7 +67,7 @@ with_name_if b (Some text) = with_name b text
 abbrev pub with_texts : BuilderValue → Option (List ℕ) → Option (List ℕ) → BuilderValue
 with_texts b source name = with_name_if (with_source_if b source) name
 
--- the id of an optional text that is added to `texts`; `no_id` if there is no text
+-- for `Some text`, the id of `text` after `text` is added to `texts`, or the error of `id_for`; for `None`, `no_id`
 abbrev pub id_if : List (List ℕ) → Option (List ℕ) → Result ℕ Error
 id_if texts None = Ok no_id
 id_if texts (Some text) = id_for texts text
@@ -84,13 +84,15 @@ token_without_ids dst_line dst_col src_line src_col is_range = record {
   is_range = is_range;
 }
 
--- the token with these ids of its source and its name, or the first error
+-- the token with this source id and this name id. If an id is an error, the result is the error. If both ids are
+-- errors, the result is the error of the source id
 abbrev pub token_with_ids : RawToken → Result ℕ Error → Result ℕ Error → Result RawToken Error
 token_with_ids token (Err e) name = Err e
 token_with_ids token (Ok source) (Err e) = Err e
 token_with_ids token (Ok source) (Ok name) = Ok (record token { src_id = source; name_id = name })
 
--- the name of a meaning if `with_name` is true, otherwise `None`
+-- the name that a copy of a token gets: the name of the token if `with_name` is true, otherwise `None`. `says` is the
+-- meaning of the token
 abbrev pub name_if : Bool → Meaning → Option (List ℕ)
 name_if with_name says = cond with_name says.name None
 
@@ -107,7 +109,8 @@ HasSource sources source token = IsOptionalId sources source token.src_id
 abbrev pub with_token : BuilderValue → RawToken → BuilderValue
 with_token b token = record b { tokens = b.tokens ++ token ∷ [] }
 
--- contents were loaded from files of the folder, into a list with one item for each source
+-- how loading from files changes contents. First the list of contents gets exactly one item for each source (`fitted`).
+-- Then only a source without contents may get contents, and only if its text in `interned` has a path (`file_of`)
 abbrev pub Loads : (folder : List ℕ) → (old new : BuilderValue) → Type 0
 Loads folder old new = Fills folder old.interned (fitted (length old.sources) old.contents) new.contents
 

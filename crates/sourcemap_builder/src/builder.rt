@@ -35,9 +35,9 @@ use std::marker::Model;
 use std::mem;
 use std::rt::Files;
 
-/// Builds a map token by token. Sources and names are interned: equal texts are stored once, and
-/// ids count from 0 in the order in which the texts were first added. An error leaves the builder
-/// unchanged, except where a method says otherwise.
+/// Builds a map token by token. Sources and names are interned: a text that is added again keeps
+/// its id. Ids count from 0 in the order in which the texts were first added. An error leaves the
+/// builder unchanged, except where a method says otherwise.
 pub struct SourceMapBuilder {
     metadata: MapMetadata,
     root: Option<String>,
@@ -179,10 +179,10 @@ impl SourceMapBuilder {
         Ok(())
     }
 
-    /// Removes from each source the first of these prefixes that the source starts with. Before
-    /// that, a `/` is added to each prefix that does not end with `/`. `~` has no special meaning.
-    /// If `add_source` gets the text with which a source was added, it still returns the id of this
-    /// source. The only error is `OutOfMemory`.
+    /// Strips from each source the first of `prefixes` that the source starts with. A prefix that
+    /// does not end with `/` is used with a `/` appended: `a` turns `a/b` into `b`, and does not
+    /// match `ab`. `~` has no special meaning. For the text with which a source was added,
+    /// `add_source` still returns the id of the source. The only error is `OutOfMemory`.
     pub fn strip_prefixes<S: AsStr>(&mut self, prefixes: &[S]) -> Result<()>
         ensures { Changes result self.old self.new (record self.old {
           sources = map (without_prefix (map S.text prefixes.now)) self.old.sources;
@@ -215,7 +215,8 @@ impl SourceMapBuilder {
     }
 
     /// Sets or clears the contents of the source with this id. There must be a source with this id.
-    /// The list of contents then has one item for each source. The only error is `OutOfMemory`.
+    /// On success, the list of contents has one item for each source. The only error is
+    /// `OutOfMemory`.
     pub fn set_source_contents(&mut self, id: u32, contents: Option<&str>) -> Result<()>
         requires { id < length self.old.sources }
         ensures { Changes result self.old self.new (record self.old {
@@ -246,12 +247,13 @@ impl SourceMapBuilder {
     }
 
     /// For each source without contents, reads its contents from a file. Returns the number of
-    /// files that were read. The path of the file is the text with which the source was added,
+    /// sources that got contents. The path of the file is the text with which the source was added,
     /// resolved against the folder `base_path`. A `base_path` that is not absolute is joined to
     /// `current_dir`. Without a `base_path` the folder is `current_dir`. `sourceRoot` is not used.
     /// A source is skipped if it does not resolve to the path of a file, or if its file does not
-    /// exist, cannot be read or is not UTF-8. On success, the list of contents has one item for
-    /// each source.
+    /// exist, cannot be read or is not UTF-8. A source may also be skipped if the source and the
+    /// URL of the folder, including each `..`, together have 2^28 bytes or more. On success, the
+    /// list of contents has one item for each source.
     ///
     /// The error is `Io` of kind `InvalidInput` if neither `base_path` nor `current_dir` is
     /// absolute. Then the builder is unchanged. Any other error is `OutOfMemory`. Then contents
@@ -363,7 +365,8 @@ impl SourceMapBuilder {
 
     /// Copies a token of a map: adds a token with the values that the getters of `token` return,
     /// and returns the new token. The name is copied only if `with_name` is true. The errors are
-    /// those of `add`.
+    /// those of `add`. An error leaves the tokens unchanged, but the source and the name may have
+    /// been added.
     pub fn add_token(&mut self, token: &Token<'_>, with_name: bool) -> Result<RawToken>
         ensures token { Gives (λ added. added) result (token_with_ids
             (token_without_ids (token_value token.now).raw.dst_line (token_value token.now).raw.dst_col

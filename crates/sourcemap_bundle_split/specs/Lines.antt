@@ -1,4 +1,4 @@
--- Bounds between tokens: where the text of a module begins or ends.
+-- The position that a `Bound` stands for: the start or the end of a module's text.
 use Rattle.std.specs.Prelude.{◌≡◌, ◌⊎◌, ℕ, ◌<◌}
 use Rattle.sourcemap_bundle_split.specs.declared.lines.Bound.{Bound}
 

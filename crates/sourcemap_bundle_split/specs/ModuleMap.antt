@@ -1,4 +1,4 @@
--- The map of a module: the tokens of the flat map that are on the lines of the module's text.
+-- The map of a module: the tokens of the flat map in the module's text, and the sources and names of these tokens.
 use Rattle.std.specs.Prelude.{◌≡◌, ℕ, ◌+◌, ◌-◌, ◌==◌, ◌&&◌, Bool, not, nat_lt, if◌then◌else◌, List, [], ◌∷◌, ◌++◌, length, map, filter, fold, slice_get, Option, Some, None, is_none, option_map, unwrap_or}
 use Rattle.std.specs.Ordering.{is_lt}
 use Rattle.std.specs.Str.{chars}
@@ -13,8 +13,8 @@ use Rattle.sourcemap_map_regular.specs.Map.{MapValue, resolved_sources}
 abbrev pub last_line : List ℕ → List ℕ
 last_line text = unwrap_or (slice_get (line_bodies text) (length (line_bodies text) - 1)) []
 
--- The end position of a text. The text begins at column 0 of `line`. The position is the number of the text's last
--- line, and the length of this line in UTF-16 units.
+-- The end position of a text that begins at column 0 of `line`. The end line is `line` plus the number of line
+-- terminators in the text. The end column is the length of the text's last line in UTF-16 units.
 abbrev pub end_of : ℕ → List ℕ → ℕ × ℕ
 end_of line text = (line + (length (line_bodies text) - 1), width (chars (last_line text)))
 
@@ -43,8 +43,8 @@ used_ids count ids = fold (with_id count) [] ids
 abbrev pub texts_at : List (List ℕ) → List ℕ → List (List ℕ)
 texts_at texts ids = map (λ id. unwrap_or (slice_get texts id) []) ids
 
--- the token with its generated line counted from `line`; its source id and its name id become their numbers in
--- `sources` and `names`, or `no_id` if they have no number
+-- The token with its generated line counted from `line`. The new source id is the index of the old source id in
+-- `sources`, or `no_id` if `sources` lacks the old id. `names` determines the new name id in the same way.
 abbrev pub moved_by : ℕ → List ℕ → List ℕ → RawToken → RawToken
 moved_by line sources names t = record t {
   dst_line = t.dst_line - line;
@@ -64,9 +64,10 @@ sources_in flat line end = used_ids (length flat.sources) (map (λ t. t.src_id) 
 abbrev pub names_in : MapValue → ℕ → ℕ × ℕ → List ℕ
 names_in flat line end = used_ids (length flat.names) (map (λ t. t.name_id) (tokens_in line end flat.tokens))
 
--- The map of the module `name`. The module begins at column 0 of `line` of the flat map, and ends at `end`. The map has
--- the tokens at or after this start, and before `end`. It also has the sources (with contents) and the names that these
--- tokens use, in the order of first use.
+-- The map of the module `name`. The module begins at column 0 of `line` of the flat map, and ends at `end`. The map of
+-- the module has the flat map's tokens at or after this start, and before `end`. Their generated lines count from
+-- `line`. The map also has the resolved sources (with contents) and the names that these tokens use, both in the order
+-- of first use.
 abbrev pub module_map : MapValue → List ℕ → ℕ → ℕ × ℕ → MapValue
 module_map flat name line end = record {
   file = Some name;

@@ -1,4 +1,5 @@
--- Split bundles: the name, the text and the map of each module, or the error that is due for it.
+-- Split bundles, and the items that their iterators return. An item is the name, the text and the map of a module, or
+-- an error.
 use Rattle.std.specs.Prelude.{◌≡◌, ◌≤◌, ℕ, ◌&&◌, if◌then◌else◌, List, [], ◌∷◌, ◌++◌, codes, length, map, filter_map, slice_get, Option, Some, None, is_some, MatchOption, Result, Ok, Err, string_bytes}
 use Rattle.std.specs.Fmt.{decimal}
 use Rattle.std.specs.Str.{is_utf8}
@@ -14,7 +15,7 @@ use Rattle.sourcemap_index_model.specs.MapTree.{IndexValue, index_tree}
 use Rattle.sourcemap_bundles.specs.Modules.{ModuleValue}
 use Rattle.sourcemap_bundle_split.specs.ModuleMap.{end_of, module_map}
 
--- the item of a module: its name, its text and its map
+-- a module of a split bundle: the file name, the text and the map of the module
 pub record ModuleParts : Type 0 where
   pub name : List ℕ
   pub text : List ℕ
@@ -38,14 +39,15 @@ parts_on flat line m = record {
 abbrev pub utf8_text : List ℕ → Result (List ℕ) Error
 utf8_text bytes = if is_utf8 bytes then Ok bytes else Err InvalidRamBundleEntry
 
--- the item of the module that begins at `line` of the flat map; `InvalidRamBundleEntry` if no token of the flat map is
--- at the start of this line or before it, or if the text is not UTF-8
+-- The name, the text and the map of the module `m`, which begins at column 0 of `line` of the flat map. The error is
+-- `InvalidRamBundleEntry` if the flat map has no token at or before this position, or if the text of `m` is not UTF-8
 abbrev pub parts_at : MapValue → ℕ → ModuleValue → Result ModuleParts Error
 parts_at flat line m =
     if is_some (meaning flat (line, 0)) && is_utf8 m.text then Ok (parts_on flat line m) else Err InvalidRamBundleEntry
 
--- a module with its first line; `InvalidRamBundleEntry` if its number is past the end of the offsets; `None` if its
--- offset is null, and then the module is skipped
+-- The module `m` with the number of its first line. The second argument is the offset at index `m.id` of the list of
+-- offsets. If the list has no such index, the result is the error `InvalidRamBundleEntry`. If the offset is null, the
+-- result is `None`: the module is skipped
 abbrev pub with_line : ModuleValue → Option (Option ℕ) → Option (Result (ModuleValue × ℕ) Error)
 with_line m None = Some (Err InvalidRamBundleEntry)
 with_line m (Some None) = None
@@ -63,7 +65,8 @@ due_of flat (Err e) = Err e
 abbrev pub dues_of : MapValue → List (Option ℕ) → List (Result ModuleValue Error) → List (Result ModuleParts Error)
 dues_of flat offsets modules = map (due_of flat) (filter_map (with_first_line offsets) modules)
 
--- the flat map of a bundle, the first lines of its modules by module number, and the modules that are still to come
+-- A split bundle: the flat map, the offsets, and the modules that the iterator has not reached. The offset at index `n`
+-- is the first line of module number `n` in the flat map, or `None` if the module is skipped
 pub record SplitValue : Type 0 where
   pub flat : MapValue
   pub offsets : List (Option ℕ)
@@ -89,8 +92,9 @@ pub record HasFewTexts (flat : MapValue) : Type 0 where
   pub sources : length flat.sources ≤ 4294967295
   pub names : length flat.names ≤ 4294967295
 
--- a call of an iterator returns the first due item, or the error `OutOfMemory` instead of this item. In both cases the
--- items after it stay due. The call returns `None` if no item is due
+-- A call of `next` changes an iterator from `s` to `t`. `rest` lists the items that an iterator has still to return.
+-- The call returns the first item of `rest s`, or the error `OutOfMemory` instead of this item. In both cases `rest t`
+-- has the other items of `rest s`. If `rest s` is empty, the call returns `None`, and `rest t` is empty
 abbrev pub YieldsDue : {S A B : Type 0} → (A → B) → (S → List (Result B Error)) → S → Option (Result A Error) → S → Type 0
 YieldsDue {B = B} view rest s item t =
     MatchOption item ((rest s ≡ []) × (rest t ≡ [])) (λ r. (due : Result B Error) × (rest s ≡ due ∷ rest t) × Gives view r due)

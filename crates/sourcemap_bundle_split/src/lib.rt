@@ -1,5 +1,5 @@
-//! Splits bundles: gives the text of each module, and a map with the tokens that the flat map of
-//! the whole bundle has on the lines of the module.
+//! Splits bundles: gives the name and the text of each module, and a map with the tokens that the
+//! flat map of the whole bundle has in the module's text.
 #![tactic(auto)]
 
 mod id_numbers;

@@ -1,4 +1,4 @@
-//! The tokens on the lines of a module.
+//! The tokens in the text of a module.
 ghost use Rattle.std.specs.Prelude.{◌≡◌, ◌≤◌, ℕ, All, filter, length, take, drop, not};
 ghost use Rattle.std.specs.Ordering.{is_lt};
 ghost use Rattle.sourcemap_tokens.specs.Tokens.{AreInOrder, destination, position_cmp};
@@ -16,8 +16,10 @@ pub(crate) struct Bound {
     col: u64,
 }
 
-/// Returns where the module's text `view` ends if it begins at column 0 of `line`: the number of
-/// its last line, and the length of this line in UTF-16 units.
+/// Returns the end position of the module's text `view`, which begins at column 0 of `line`. A text
+/// of 3 lines that begins at line 10 ends on line 12. The end column is the length of the text's
+/// last line in UTF-16 units. If the end line is above 4294967295, the result may be another
+/// position whose line is above 4294967295.
 pub(crate) fn end_of(line: u32, view: &SourceView) -> Bound
     ensures { IsBound result (end_of line view.now) }
 {

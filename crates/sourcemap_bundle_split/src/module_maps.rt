@@ -104,8 +104,9 @@ impl ModuleMaps {
     }
 }
 
-// The map with these tokens. `sources` and `names` are the ids that its sources and its names have
-// in the flat map.
+// The map with the file name `name` and the tokens `tokens`. The sources of the map are those of
+// `flat` with the ids `sources`, in this order, each with its contents. The names of the map are
+// those of `flat` with the ids `names`, in this order. The only error is `OutOfMemory`.
 fn map_of_tokens(
     alloc: Global,
     name: &str,

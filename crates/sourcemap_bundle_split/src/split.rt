@@ -34,16 +34,16 @@ pub struct SplitRamBundleModuleIter<'a> {
 ///
 /// A module begins at column 0 of the line that `x_facebook_offsets` has for its number, and takes
 /// as many lines as its text has. Its end column is the length of its last line in UTF-16 units.
-/// Its name is its number followed by `.js`. Its map has the tokens at or after the module's start
-/// and before the module's end. The map also has the sources that these tokens use, with their
-/// contents, and the names that these tokens use, both in the order of first use. Lines of the map
-/// count from the module's first line.
+/// Its name is its number followed by `.js`. Its map has the tokens of the flattened map at or
+/// after the module's start and before the module's end. The map also has the sources that these
+/// tokens use, with their contents, and the names that these tokens use, both in the order of first
+/// use. Generated lines of the map count from the module's first line.
 ///
-/// A module whose offset is null gives no item. The item of a module is `InvalidRamBundleEntry` in
-/// four cases: reading the module from the bundle fails, its number is past the end of
-/// `x_facebook_offsets`, its text is not UTF-8, or the flattened map has no token at or before the
-/// first column of the module's first line. An item may be `OutOfMemory`; then only that module is
-/// lost.
+/// A module whose offset is null gives no item, unless reading the module from the bundle fails.
+/// The item of a module is `InvalidRamBundleEntry` in four cases: reading the module from the
+/// bundle fails, its number is past the end of `x_facebook_offsets`, its text is not UTF-8, or the
+/// flattened map has no token at or before the first column of the module's first line. An item may
+/// be `OutOfMemory`; then only that module is lost.
 pub fn split_ram_bundle<'a>(
     alloc: Global,
     bundle: &'a RamBundle<'a>,
@@ -109,8 +109,8 @@ impl<'a> SplitRamBundleModuleIter<'a> {
     }
 }
 
-// A view of the module's text. The error is `InvalidRamBundleEntry` if the text is not UTF-8, and
-// otherwise `OutOfMemory`.
+// A view of the module's text. The error is `InvalidRamBundleEntry` if the text is not UTF-8. The
+// only other error is `OutOfMemory`.
 fn view_of(found: &RamBundleModule<'_>, alloc: Global) -> Result<SourceView>
     ensures { Gives (λ view. view) result (utf8_text found.now.text.now) }
 {

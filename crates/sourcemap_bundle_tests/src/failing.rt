@@ -11,7 +11,7 @@ use std::io;
 use std::io::{ErrorKind, Read};
 use std::rt::Files;
 
-// An access to a path, which may fail.
+// The type of an access to a path: a request for metadata, an open, or a read.
 #[derive(Clone, Copy, PartialEq, Eq)]
 enum Step {
     Metadata,
@@ -21,8 +21,8 @@ enum Step {
 
 // A fake file system. The startup code is `m.js`, and the marker is `js-modules/UNBUNDLE`. The
 // marker contains the magic number, and every other file contains `x`. Reading a folder returns
-// `names`. A zero byte ends each name. `js-modules/9.js` is a link. At `path` one access fails with
-// an error of `kind`. `step` is that access: a request for metadata, an open, or a read.
+// `names`. A zero byte ends each name. `js-modules/9.js` is a link. Each access of type `step` to
+// `path` fails with an error of `kind`.
 #[derive(Drop)]
 struct Disk<'a> {
     names: &'a [u8],
@@ -36,8 +36,8 @@ impl Disk<'_> {
         step == self.step && path == self.path
     }
 
-    // Opens the file at `path`, which contains `bytes`. Fails if `Step::Open` fails there. If
-    // `Step::Read` fails there, reads of the file fail.
+    // Opens a file with these bytes at `path`. The call fails if opens of `path` fail on this disk.
+    // If reads of `path` fail on this disk, the call succeeds, and each read of the file fails.
     fn file<'b>(&self, path: &str, bytes: &'b [u8]) -> io::Result<FakeFile<'b>> {
         if self.fails(Step::Open, path) {
             return Err(io::Error::from(self.kind));

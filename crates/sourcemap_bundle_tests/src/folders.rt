@@ -114,7 +114,7 @@ fn make_one<F: Files>(rt: &F, alloc: Global, name: &str) -> Result<()> {
     Ok(())
 }
 
-// Makes the folder of a bundle anew, with exactly these names in `js-modules`.
+// Makes the folder of a bundle anew. `names` are the entries of `js-modules`, as in `FOLDERS`.
 fn make<F: Files>(rt: &F, alloc: Global, names: &[&str]) -> Result<()> {
     let _ = fs::remove_dir_all(&(rt, alloc), "bundle_made");
     fs::create_dir_all(rt, "bundle_made/js-modules")?;
@@ -138,8 +138,8 @@ fn made_and_asked<F: Files>(rt: &F, alloc: Global, names: &[&str]) -> Result<Str
     Ok(answer)
 }
 
-// Returns three results of `answers_at`: if `js-modules` is missing, if `js-modules` is a file, and
-// if a folder is passed as the path of the startup code.
+// Calls `answers_at` three times and returns the results. First `js-modules` is missing, then
+// `js-modules` is a file, and last the path of a folder is passed.
 fn asked_without_folder<F: Files>(rt: &F, alloc: Global) -> Result<String> {
     let _ = fs::remove_dir_all(&(rt, alloc), "bundle_alone");
     fs::create_dir(rt, "bundle_alone")?;

@@ -46,7 +46,7 @@ static CUTS: [(usize, &str, &str); 27] = [
     (26, "ab", "0=xyz"),
 ];
 
-// A header alone: the magic number, the largest count of modules, and 2 bytes of startup code.
+// A header alone: the magic number, the largest count of modules, and a startup code size of 2.
 static HUGE: [u8; 12] = [0xe5, 0xd1, 0x0b, 0xfb, 255, 255, 255, 255, 2, 0, 0, 0];
 
 // Each row: what it is about, the bytes, and the wanted text. The text is the `bundle_text` of the

@@ -38,7 +38,7 @@ with_file folder file = record {
   modules = insert_entry nat_cmp folder.modules file.0 file.1;
 }
 
--- a file bundle with this startup code, after files were added in order, each with its number
+-- a file bundle with this startup code, after these numbered files were added, in the order of the list
 abbrev pub folder_of : List ℕ → List (ℕ × List ℕ) → FilesValue
 folder_of startup found = fold with_file (no_modules startup) found
 

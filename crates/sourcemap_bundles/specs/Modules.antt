@@ -16,7 +16,8 @@ pub record ModuleValue : Type 0 where
   pub id : ℕ
   pub text : List ℕ
 
--- a file bundle: its startup code, a count, and the modules by their numbers. Every module's number is below the count
+-- a file bundle: its startup code, its module count, and its modules by number. If the bundle was read from files, the
+-- count is one more than the greatest number of a module, or 1 if there is no module
 pub record FilesValue : Type 0 where
   pub startup : List ℕ
   pub count : ℕ
@@ -32,7 +33,8 @@ pub data BundleValue : Type 0 where
 abbrev pub HasBundleHeader : List ℕ → Type 0
 HasBundleHeader bytes = (12 ≤ length bytes) × (u32_at 0 bytes ≡ bundle_magic)
 
--- the indexed bundle that these bytes are, or the error
+-- the indexed bundle with these bytes; `Scroll` if there are fewer than 12 bytes; otherwise `InvalidRamBundleMagic` if
+-- the bytes do not begin with `bundle_magic`
 abbrev pub indexed_bundle : List ℕ → Result BundleValue Error
 indexed_bundle bytes = then_make (λ header.
     if header.magic == bundle_magic then Ok (indexed header bytes) else Err InvalidRamBundleMagic) (header_of bytes)
@@ -45,8 +47,9 @@ code_start header = 12 + 8 * header.module_count
 abbrev pub indexed_startup : RamBundleHeader → List ℕ → Result (List ℕ) Error
 indexed_startup header bytes = range_of bytes (code_start header) header.startup_code_size
 
--- the module of an entry, without the zero byte at its end; `None` if the offset and length of the entry are 0;
--- `InvalidRamBundleEntry` if only the length is 0; `Scroll` if the module passes the end of the bytes
+-- the module of an entry, without its last byte, which should be zero but is not checked; `None` if the offset and
+-- length of the entry are 0; `InvalidRamBundleEntry` if only the length is 0; `Scroll` if the module without its last
+-- byte passes the end of the bytes
 abbrev pub module_of_entry : RamBundleHeader → List ℕ → ℕ → ModuleEntry → Result (Option ModuleValue) Error
 module_of_entry header bytes id entry =
     if entry.length == 0 then (if entry.offset == 0 then Ok None else Err InvalidRamBundleEntry)
@@ -62,7 +65,7 @@ abbrev pub file_module : FilesValue → ℕ → Option ModuleValue
 file_module folder id =
     option_map (λ text. record { id = id; text = text }) (lookup (λ k. is_eq (nat_cmp id k)) folder.modules)
 
--- the count of the bundle; every module's number is below it
+-- the module count: the count in the header of an indexed bundle, or the `count` of a file bundle
 abbrev pub bundle_count : BundleValue → ℕ
 bundle_count (indexed header bytes) = header.module_count
 bundle_count (files folder) = folder.count
@@ -83,14 +86,14 @@ with_item (Ok (Some found)) items = Ok found ∷ items
 with_item (Err e) items = Err e ∷ items
 
 -- the modules with numbers in the range that starts at `id`, by rising number. The second argument is the length of
--- the range. A number without a module is skipped. If `bundle_module` returns an error for a number, the item is the
--- error
+-- the range. A number without a module is skipped. If `bundle_module` returns an error for a number, the list contains
+-- the error instead of a module
 abbrev pub modules_from : BundleValue → ℕ → ℕ → List (Result ModuleValue Error)
 modules_from bundle zero id = []
 modules_from bundle (suc left) id = with_item (bundle_module bundle id) (modules_from bundle left (id + 1))
 
 -- the modules with numbers below `bundle_count`, by rising number. A number without a module is skipped. If
--- `bundle_module` returns an error for a number, the item is the error
+-- `bundle_module` returns an error for a number, the list contains the error instead of a module
 abbrev pub modules_of : BundleValue → List (Result ModuleValue Error)
 modules_of bundle = modules_from bundle (bundle_count bundle) 0
 

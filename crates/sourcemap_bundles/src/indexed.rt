@@ -19,7 +19,7 @@ pub(crate) struct IndexedRamBundle<'a> {
 }
 
 impl<'a> IndexedRamBundle<'a> {
-    /// Returns the bundle that these bytes are. Only the header is read. The error is `Scroll` for
+    /// Returns these bytes as an indexed bundle. Only the header is read. The error is `Scroll` for
     /// fewer than 12 bytes. For 12 bytes or more, the error is `InvalidRamBundleMagic` if the magic
     /// number in the header is not `RAM_BUNDLE_MAGIC`.
     pub(crate) fn parse(bytes: CowSlice<'a, u8>) -> Result<Self>

@@ -22,8 +22,8 @@ impl<'a> RamBundleModule<'a> {
         self.id
     }
 
-    /// Returns the bytes of the module. The zero byte at the end of a module in an indexed bundle
-    /// is left out.
+    /// Returns the bytes of the module. The last byte of a module in an indexed bundle is left out.
+    /// This byte should be 0, but is not checked.
     pub fn data(&self) -> &'a [u8]
         ensures { result.now ≡ self.now.text.now }
     {

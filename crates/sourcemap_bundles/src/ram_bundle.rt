@@ -58,9 +58,9 @@ impl Drop for RamBundle<'_> {
 impl<'a> RamBundle<'a> {
     ghost use Rattle.sourcemap_bundles.specs.Iterators.{modules_left};
 
-    /// Returns the indexed bundle that these bytes are. The bundle borrows the bytes. Only the
-    /// header is read. The error is `Scroll` for fewer than 12 bytes. For 12 bytes or more, the
-    /// error is `InvalidRamBundleMagic` if the header's magic number is not `RAM_BUNDLE_MAGIC`.
+    /// Returns these bytes as an indexed bundle. The bundle borrows the bytes. Only the header is
+    /// read. The error is `Scroll` for fewer than 12 bytes. For 12 bytes or more, the error is
+    /// `InvalidRamBundleMagic` if the magic number in the header is not `RAM_BUNDLE_MAGIC`.
     pub fn parse_indexed_from_slice(bytes: &'a [u8]) -> Result<Self>
         ensures { Returns (λ bundle. bundle) result (indexed_bundle bytes.now) }
     {
@@ -80,8 +80,8 @@ impl<'a> RamBundle<'a> {
         })
     }
 
-    /// Reads a file, and returns the indexed bundle that its bytes are. If the read fails, the
-    /// error is `Io`, or `OutOfMemory` if memory ran out. Any other error is an error of
+    /// Reads a file, and returns its bytes as an indexed bundle. If the read fails, the error is
+    /// `Io`, or `OutOfMemory` if memory ran out. Any other error is an error of
     /// `parse_indexed_from_slice`.
     pub fn parse_indexed_from_path<F: Files>(rt: &F, alloc: Global, path: &str) -> Result<Self>
         ensures { ReadsIndexedBundle result }
@@ -90,14 +90,15 @@ impl<'a> RamBundle<'a> {
     }
 
     /// Reads the file bundle with the startup code at `path`. Its modules are the plain files other
-    /// than `UNBUNDLE` in the folder `js-modules` beside the startup code. The name of a module
-    /// file is ASCII digits and `.js`. If two files have the same number, the file whose name is
-    /// later in the order of bytes is kept.
+    /// than `UNBUNDLE` in the folder `js-modules` beside the startup code. A link is not a plain
+    /// file. The name of a module file must be `N.js`, where `N` is a number in ASCII digits and
+    /// below `usize::MAX`. If two files have the same number, the file whose name is later in the
+    /// order of bytes is kept: of `07.js` and `7.js`, `7.js` is kept.
     ///
     /// Returns `NotARamBundle` if `is_unbundle_path` is false for `path`. Returns
-    /// `InvalidRamBundleIndex` if a module file has another name, or a number that is not below
-    /// `usize::MAX`. If a read or listing fails, the error is `Io`, or `OutOfMemory` if memory ran
-    /// out.
+    /// `InvalidRamBundleIndex` if the name of a module file is not a valid `N.js`. The error is
+    /// `OutOfMemory` if memory ran out, or `Io` if the startup code, the folder or a module file
+    /// cannot be read for another reason.
     pub fn parse_unbundle_from_path<F: Files>(rt: &F, alloc: Global, path: &str) -> Result<Self>
         ensures files { IfOk result IsFileBundle }
         ensures refused { IfErr result IsFileError }
@@ -118,11 +119,13 @@ impl<'a> RamBundle<'a> {
         }
     }
 
-    /// Returns the module with this number, or `None` if the number has no module. Only an indexed
-    /// bundle has errors. They are checked in this order: `InvalidRamBundleIndex` if the number is
-    /// not below the count, `Scroll` if the entry passes the end of the bytes,
-    /// `InvalidRamBundleEntry` if the entry has length 0 and an offset other than 0, and `Scroll`
-    /// if the module passes the end of the bytes. Allocates nothing.
+    /// Returns the module with this number, or `None` if the number has no module. In an indexed
+    /// bundle, a number has no module if its entry has offset 0 and length 0. Allocates nothing.
+    ///
+    /// Only an indexed bundle has errors. They are checked in this order: `InvalidRamBundleIndex`
+    /// if the number is not below `module_count`, `Scroll` if the entry passes the end of the
+    /// bytes, `InvalidRamBundleEntry` if the entry has length 0 and an offset other than 0, and
+    /// `Scroll` if the module, without its last byte, passes the end of the bytes.
     pub fn get_module(&self, id: usize) -> Result<Option<RamBundleModule<'_>>>
         ensures { Returns (option_map module_value) result (bundle_module self.now id) }
     {
@@ -225,8 +228,8 @@ impl<'a> Iterator for RamBundleModuleIter<'a> {
     }
 }
 
-/// Whether these bytes are an indexed bundle: there are at least 12, and they begin with its magic
-/// number.
+/// Whether these bytes begin with the header of an indexed bundle: there are at least 12 bytes, and
+/// the first 4 are the magic number of indexed bundles.
 pub fn is_ram_bundle_slice(bytes: &[u8]) -> bool
     ensures { IsTrue result ↔ HasBundleHeader bytes.now }
 {

@@ -32,7 +32,7 @@ pub(crate) struct UnbundleRamBundle {
 }
 
 impl UnbundleRamBundle {
-    /// Reads the startup code at `path` and the modules beside it.
+    /// Reads the startup code at `path` and the modules in the folder `js-modules` beside the file.
     pub(crate) fn parse<F: Files>(rt: &F, alloc: Global, path: &str) -> Result<Self>
         ensures files { IfOk result (λ bundle. IsFolder (files_value bundle)) }
         ensures refused { IfErr result IsFileError }
@@ -71,8 +71,8 @@ impl UnbundleRamBundle {
         })
     }
 
-    /// Returns the module with the least number that is at least `from`, or `None` if there is no
-    /// such module.
+    /// Returns the module with the smallest number that is not below `from`, or `None` if there is
+    /// no such module.
     pub(crate) fn module_from(&self, from: usize) -> Option<RamBundleModule<'_>>
         ensures found { IfSome result (λ found. (from ≤ found.id) × (file_module (files_value self.now) found.id ≡ Some (module_value found))) }
         ensures least { (id : ℕ) → from ≤ id → IfSome result (λ found. id < found.id) → file_module (files_value self.now) id ≡ None }
@@ -185,8 +185,8 @@ fn file_names<F: Files>(rt: &F, alloc: Global, folder: Path<'_>) -> Result<Vec<S
     Ok(names)
 }
 
-/// Reads the modules from the files with these names. A later file replaces an earlier file with
-/// the same number.
+/// Reads the modules from the files with these names. If two files have the same number, the file
+/// whose name is later in `names` is kept.
 fn read_modules<F: Files>(
     rt: &F,
     alloc: Global,

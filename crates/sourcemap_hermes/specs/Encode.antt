@@ -1,4 +1,4 @@
--- The record that a Hermes map is written as, and the parts of the map that are kept when the record is decoded again.
+-- The record of a Hermes map, and the map that the record decodes to.
 use Rattle.std.specs.Prelude.{◌≡◌, ℕ, List, Some, Result, Ok, Err}
 use Rattle.serde_json.specs.Written.{compact_text}
 use Rattle.sourcemap_errors.specs.declared.errors.Error.{Error}
@@ -17,15 +17,17 @@ abbrev pub scoped : Tree → List ScopeEntry → Tree
 scoped (plain fields) entries = plain (with_scopes fields entries)
 scoped (indexed fields sections) entries = indexed (with_scopes fields entries) sections
 
--- a record that the map is written as: a record of the regular map, with the entries of scopes that the map holds
+-- `t` is the record of `h`: the record of the regular map of `h`, with the key `x_facebook_sources` set to the entries
+-- of `h.scopes`
 abbrev pub IsRecordOf : HermesValue → Tree → Type 0
 IsRecordOf h t = (r : Tree) × IsRecordOfRegular h.map r × (t ≡ scoped r h.scopes.entries)
 
--- the compact JSON text of a record that the map is written as
+-- `text` is the compact JSON text of the record of `h`
 abbrev pub IsCompactTextOf : HermesValue → List ℕ → Type 0
 IsCompactTextOf h text = (t : Tree) × IsRecordOf h t × (text ≡ compact_text (written t))
 
--- `back` has the same scopes as `h`, and its regular map restores the regular map of `h`
+-- `back` has the same scopes as `h`. At every position, the regular map of `back` means the same as the regular map of
+-- `h`. `KeepsParts` says which parts of the regular map of `h` are kept
 abbrev pub Restores : (h back : HermesValue) → Type 0
 Restores h back = RestoresRegular h.map back.map × (back.scopes ≡ h.scopes)
 

@@ -29,7 +29,8 @@ Rewrites options h (Err e) = LacksFolder options e
 abbrev pub HasDistinctSources : HermesValue → Type 0
 HasDistinctSources h = AreDistinct (resolved_sources h.map)
 
--- the scope of the token at an index, with `extra_columns` added to the original column of the token
+-- `token_scope` of the token at `index`, with `extra_columns` added to the original column of the token
+-- (`column_after`). `None` if the map has no token at `index`
 abbrev pub scope_at_distance : HermesValue → (index extra_columns : ℕ) → Option (List ℕ)
 scope_at_distance h index extra_columns =
     option_and_then (λ t. token_scope h.scopes (record t { extra_columns = extra_columns })) (token_at h.map index)

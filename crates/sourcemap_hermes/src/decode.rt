@@ -18,13 +18,15 @@ use sourcemap_records::jsontypes::RawSourceMap;
 use std::alloc::Global;
 use std::io::Read;
 
-// A record with more entries of scopes than this is an error.
+// The largest number of items of `x_facebook_sources` that can be decoded.
 const SCOPE_LIMIT: usize = 4294967295;
 
-/// Decodes a record to a Hermes map. Sections of the record are ignored. Returns
-/// `IncompatibleSourceMap` if the record has no scopes of sources, or has scopes of more than
-/// 4294967295 sources. This is checked before anything is decoded. Other errors are those of
-/// `decode_regular`. Invalid scope mappings are not an error: their source has no function map.
+/// Decodes a record to a Hermes map. The sections of the record are ignored. The error is
+/// `IncompatibleSourceMap` if `x_facebook_sources` is `None` or has more than 4294967295 items.
+/// These two checks precede all decoding. The other errors are those of `decode_regular`. The
+/// function map of a source is decoded from the first item of the source's list in
+/// `x_facebook_sources`. If there is no such item, or if its mappings are invalid, the source has
+/// no function map, and no error is returned.
 pub fn decode_hermes(alloc: Global, rsm: RawSourceMap) -> Result<SourceMapHermes>
     ensures answer { IsAnswer hermes_value (HermesDecodes (flat (tree rsm))) result }
     // The record determines the result, unless memory runs out.
@@ -35,7 +37,7 @@ pub fn decode_hermes(alloc: Global, rsm: RawSourceMap) -> Result<SourceMapHermes
     decode_hermes_record(alloc, rsm)
 }
 
-// `decode_hermes` without the clause that the result is determined.
+// As `decode_hermes`, but the contract has no clause `only`.
 fn decode_hermes_record(alloc: Global, mut rsm: RawSourceMap) -> Result<SourceMapHermes>
     ensures answer { IsAnswer hermes_value (HermesDecodes (flat (tree rsm))) result }
     ensures well_formed { IfOk result (λ h. IsWellFormed (hermes_value h)) }
@@ -90,10 +92,10 @@ fn hermes_in_owned(alloc: Global, bytes: Vec<u8>) -> Result<SourceMapHermes>
 
 impl SourceMapHermes {
     /// Decodes the JSON in these bytes to a Hermes map. A junk header before the JSON is skipped.
-    /// An invalid header is `Io` of kind `InvalidData`. Bytes that are not JSON are
-    /// `BadJson(Parse)`, and JSON that is not a source map is `BadJson(Shape)`. A source map of
-    /// another kind is `IncompatibleSourceMap`, and nothing of it is decoded. Other errors are
-    /// those of `decode_hermes`.
+    /// An invalid header is `Io` of kind `InvalidData`. Text that does not parse is
+    /// `BadJson(Parse)` (see `JsonFault::Parse`). JSON that is not a record is `BadJson(Shape)`.
+    /// The record of another kind of map is not decoded: the error is `IncompatibleSourceMap`. The
+    /// other errors are those of `decode_hermes`.
     pub fn from_slice(alloc: Global, bytes: &[u8]) -> Result<Self>
         ensures answer { IsAnswer hermes_value
             (BytesHaveResult RecordDecodesAsHermes bytes.now) result }
@@ -107,8 +109,9 @@ impl SourceMapHermes {
         hermes_in(alloc, bytes)
     }
 
-    /// Decodes a Hermes map as `from_slice` does. The reader is read to its end first; an error of
-    /// the reader is `Io`. The bytes are dropped as soon as their JSON value is read.
+    /// Decodes a Hermes map as `from_slice` does. The reader is read to its end first. A failed
+    /// read is `Io`, or `OutOfMemory` if the read ran out of memory. The bytes are dropped as soon
+    /// as their JSON value is read.
     pub fn from_reader<R: Read + Drop>(alloc: Global, reader: R) -> Result<Self>
         ensures answer { Reading (R.remaining reader)
             (λ bytes. IsAnswerRead hermes_value

@@ -23,7 +23,8 @@ impl Deref for SourceMapHermes {
 impl DerefMut for SourceMapHermes {
     ghost deref_mut_gives = { λ h m. m ≡ (hermes_value h).map };
 
-    /// The regular map, borrowed for changes. The scopes are unchanged and keep their source ids.
+    /// The regular map, borrowed for changes. The scopes do not follow these changes: each source
+    /// id keeps its scopes, even if the changed map has another source with this id.
     fn deref_mut(&mut self) -> &mut SourceMap
         ensures* writes_back { sem 𝓛 (LendsMap self.entry result) }
         ensures value { result.now ≡ (hermes_value self.old).map }

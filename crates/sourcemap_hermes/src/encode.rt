@@ -27,8 +27,8 @@ impl Encodable for SourceMapHermes {
     fn as_raw_sourcemap(&self) -> Result<RawSourceMap>
         ensures answer { IsAnswer tree (RecordAnswer (hermes_value self.now)) result }
         ensures fine { IfOk result (λ r. IsFine (tree r)) }
-        // If the map is well-formed, the record decodes to a map with the same meaning at every
-        // position, with the parts that `KeepsParts` names, and with the same scopes.
+        // If the map is well-formed, the record decodes to a map with the same scopes and the same
+        // meaning at every position. `KeepsParts` says which parts of the regular map are kept.
         ensures reads_back { IfOk result (λ r. IsWellFormed (hermes_value self.now)
             → ReadsBack (HermesDecodes (flat (tree r))) (Restores (hermes_value self.now))) }
     {
@@ -49,8 +49,8 @@ impl SourceMapHermes {
         Ok(with_scopes(raw, scopes.into_entries()))
     }
 
-    /// Writes the map as compact JSON. An error of the writer is `Io`; the only other error is
-    /// `OutOfMemory`. The writer is consumed, so no clause says what it contains afterwards.
+    /// Writes the map as compact JSON. The errors are `OutOfMemory`, and `Io` if a write fails for
+    /// another reason. The writer is consumed, so no clause says what it contains afterwards.
     /// `encode_to` borrows its writer and has such a clause.
     pub fn to_writer<W: Write + Drop>(&self, writer: W) -> Result<()>
         ensures encoded { OnOk result ((text : List ℕ)
@@ -88,7 +88,8 @@ pub fn written_maps_read_back()
         → ReadsBack (BytesHaveResult RecordDecodesAsHermes text) (Restores h) }
 {}
 
-/// A law: if a map restores another map, both have the same function name at each bytecode offset.
+/// A law: if `Restores h back` holds, the maps `h` and `back` have the same function name at each
+/// bytecode offset. `written_maps_read_back` says when decoding gives such a map `back`.
 pub fn restored_maps_name_functions_alike()
     ensures { (h back : HermesValue) (offset : ℕ) → Restores h back
         → function_name back offset ≡ function_name h offset }

@@ -14,11 +14,11 @@ use std::rt::Files;
 
 impl SourceMapHermes {
     /// Rewrites the regular map as `SourceMap::rewrite` does: the result has only the sources and
-    /// names that tokens use, each once. Scopes are moved, not copied. Sources in use that resolve
-    /// to the same text become one new source, with the scopes of only one old source: the one
-    /// whose id comes first in the list of tokens. If this old source has no scopes, the new source
-    /// has no scopes. If the map is well-formed, and no two sources resolve against `sourceRoot` to
-    /// the same text, each token keeps its scope.
+    /// names that tokens use, and each name once. Scopes are moved, not copied. Sources in use that
+    /// resolve to the same text become one new source, with the scopes of only one old source: the
+    /// one whose id comes first in the list of tokens. If this old source has no scopes, the new
+    /// source has no scopes. If the map is well-formed, and no two sources resolve against
+    /// `sourceRoot` to the same text, each token keeps its scope.
     ///
     /// With `load_local_source_contents`, missing contents are read from files, as by
     /// `SourceMap::rewrite`. Returns `Io` of kind `InvalidInput` if contents are to be loaded and
@@ -30,7 +30,7 @@ impl SourceMapHermes {
             (hermes_value self).map (hermes_value h).map) }
         ensures tokens { IfOk result (λ h. TokensMeanLess (removal_of options.now)
             (hermes_value self).map (hermes_value h).map) }
-        // If names are kept and no prefix is cut, each position keeps its meaning.
+        // If the options keep names and list no prefix, each position keeps its meaning.
         ensures same { LeavesMeaning (removal_of options.now)
             → IfOk result (λ h. MeansTheSame (hermes_value h).map (hermes_value self).map) }
         ensures well_formed { IfOk result

@@ -13,7 +13,8 @@ use Rattle.sourcemap_hermes_scopes.specs.Picks.{items_at}
 use Rattle.sourcemap_hermes_scopes.specs.ScopeLists.{ScopeEntry, EntryStandsFor, names_of, same_entry}
 use Rattle.sourcemap_hermes_scopes.specs.declared.offsets.HermesScopeOffset.{HermesScopeOffset}
 
--- the entries as the JSON record has them, and the function maps that the entries encode, both by source id
+-- the scopes of sources, in two lists. The index of an item is the source id. `entries` has the items of
+-- `x_facebook_sources`. `function_maps` has the function maps that the entries encode (`AreOfEntries`)
 pub record SourceScopesValue : Type 0 where
   pub entries : List ScopeEntry
   pub function_maps : List (Option (List HermesScopeOffset))
@@ -22,22 +23,23 @@ pub record SourceScopesValue : Type 0 where
 abbrev pub AreFewScopes : List ScopeEntry → Type 0
 AreFewScopes entries = length entries ≤ 4294967295
 
--- each function map is the one that its entry encodes
+-- the entry of each source encodes the function map of the same source (`EntryStandsFor`). There are as many function
+-- maps as entries
 abbrev pub AreOfEntries : SourceScopesValue → Type 0
 AreOfEntries scopes = AllZip EntryStandsFor scopes.entries scopes.function_maps
 
--- the functions of the source with this id are sorted
+-- the functions of the source with this id are sorted by start position; true if the source has no function map
 abbrev pub IsInOrderAt : SourceScopesValue → ℕ → Type 0
 IsInOrderAt scopes id = IfSome (item_at scopes.function_maps id) AreOffsetsInOrder
 
--- the index of the name of the function that contains a position of the source with this id; line and column count
--- from 0; `None` if there is no such function
+-- the name index of the function that contains the original position `p` in the source with this id (`closest_offset`).
+-- Line and column of `p` count from 0. `None` if the source has no function map, or no function starts at or before `p`
 abbrev pub name_index : SourceScopesValue → ℕ → ℕ × ℕ → Option ℕ
 name_index scopes id p =
     option_and_then (λ offsets. option_map offset_name (closest_offset offsets p)) (item_at scopes.function_maps id)
 
--- the name of the function that contains a position of the source with this id; line and column count from 0; `None`
--- if there is no such function or it has no name
+-- the name of the function that contains the original position `p` in the source with this id. Line and column of `p`
+-- count from 0. `None` if `name_index` is `None`, or if the name index is past the end of the names of the source
 abbrev pub scope_at : SourceScopesValue → ℕ → ℕ × ℕ → Option (List ℕ)
 scope_at scopes id p = option_and_then (λ index. slice_get (names_of (item_at scopes.entries id)) index) (name_index scopes id p)
 

@@ -116,8 +116,8 @@ fn same_items(a: &Vec<HermesScopeOffset>, b: &Vec<HermesScopeOffset>) -> bool
     a == b
 }
 
-/// Function maps are equal exactly if they have the same functions, with the same starts, in the
-/// same order.
+/// Function maps are equal exactly if they have the same pairs of start position and name index, in
+/// the same order.
 impl PartialEq for HermesFunctionMap {
     ghost eq = { same_offsets };
 

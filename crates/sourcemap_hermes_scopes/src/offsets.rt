@@ -24,7 +24,7 @@ pub struct HermesScopeOffset {
     pub(crate) name_index: u32,
 }
 
-// The values that the first segment is relative to.
+// The line, column and name index that the first segment of a source's mappings is relative to.
 const START: HermesScopeOffset = HermesScopeOffset {
     line: 1,
     column: 0,
@@ -47,8 +47,8 @@ fn next_offset(last: HermesScopeOffset, read: &Numbers) -> HermesScopeOffset
     }
 }
 
-// Appends the offset of a segment and returns it. For an empty segment, appends nothing and returns
-// `last`.
+// Appends the offset of a part with the numbers `read`, and returns this offset. If the part is
+// empty, appends nothing and returns `last`.
 #[inline]
 fn add_part(
     offsets: &mut Vec<HermesScopeOffset>,
@@ -68,8 +68,8 @@ fn add_part(
     Ok(next)
 }
 
-// Appends the offsets of a line's segments. Returns the last of these offsets. Returns `last` with
-// column 0 if the line has no segments.
+// Appends the offsets of a line's segments. The first segment is relative to `last` with column 0.
+// Returns the offset of the last segment, or `last` with column 0 if the line has no segments.
 fn add_parts(
     offsets: &mut Vec<HermesScopeOffset>,
     text: &[u8],

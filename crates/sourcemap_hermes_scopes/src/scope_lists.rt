@@ -85,7 +85,8 @@ pub fn copy_scope_lists(
     Ok(copies)
 }
 
-/// Whether the lists have the same length and the same scopes for each source.
+/// Whether the lists have the same length and the same scopes for each source. A source without a
+/// list differs from a source with an empty list.
 pub fn same_scope_lists(a: &ScopeLists, b: &ScopeLists) -> bool
     ensures { result ≡ pointwise same_entry (entries_in a.now) (entries_in b.now) }
 {

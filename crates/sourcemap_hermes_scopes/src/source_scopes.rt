@@ -21,8 +21,8 @@ use std::alloc::Global;
 use std::marker::Model;
 
 /// The scopes of sources, by source id. `entries` has the list of each source as in the JSON
-/// record. `function_maps` has the function map that this list encodes. A source may have no list,
-/// or a list without a function map.
+/// record. `function_maps` has the function map of each source, decoded from the first item of the
+/// source's list. A source may have no list, or a list without a function map.
 #[derive(Debug, Drop)]
 pub struct SourceScopes {
     entries: ScopeLists,
@@ -183,9 +183,10 @@ pub fn entries_determine_function_maps()
         → a.function_maps ≡ b.function_maps }
 {}
 
-/// A law: if scopes are selected by id, each lookup in a selected source finds the same function
-/// name as before. Functions that were sorted stay sorted. The function maps are still those that
-/// the selected entries encode.
+/// A law about selecting sources by id. A lookup at any position of a selected source finds the
+/// same function name before and after the selection. If the functions of the source were sorted,
+/// the functions stay sorted. If every entry encodes the function map of its source, the same is
+/// true of the selected entries.
 pub fn picked_scopes_answer_alike()
     ensures of_entries { (scopes : SourceScopesValue) (ids : List ℕ)
         → AreOfEntries scopes → AreOfEntries (picked_scopes scopes ids) }

@@ -37,7 +37,7 @@ static NAMES: [(&str, u32, &str); 13] = [
     (LAST_LINE, 0, "f"),
     // Invalid scope mappings.
     (BROKEN, 0, "none"),
-    // A range token moves its original position with the offset.
+    // One range token at offset 0. Offset 5 means original column 5, where function `b` starts.
     (RANGE, 4, "a"),
     (RANGE, 5, "b"),
     // No token, and a token without a source.
@@ -101,7 +101,7 @@ fn scope_text(alloc: Global, map: &SourceMapHermes, token: Option<Token<'_>>) ->
     }
 }
 
-// The function name of the closest token to a bytecode offset.
+// The function name for the token that `lookup_token` returns at a bytecode offset.
 fn scope_at(alloc: Global, text: &str, offset: u32) -> Result<String> {
     let map = box_result(alloc, SourceMapHermes::from_reader(alloc, text.as_bytes()))?;
     scope_text(alloc, &*map, map.lookup_token(0, offset))

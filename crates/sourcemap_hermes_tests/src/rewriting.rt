@@ -83,7 +83,7 @@ static DEFAULT: [(&str, &str); 12] = [
         r#"{"mappings":"ACAA,CDAA","sources":["a.js","b.js"],"x_facebook_sources":[[{"mappings":"AAA","names":["f"]}]]}"#,
         r#"{"mappings":"AAAA,CCAA","names":[],"sources":["b.js","a.js"],"version":3,"x_facebook_sources":[null,[{"mappings":"AAA","names":["f"]}]]}"#,
     ),
-    // Invalid scope mappings and an empty list are unchanged.
+    // A list of scopes with invalid mappings is unchanged, and so is an empty list.
     (BROKEN, BROKEN),
     (
         r#"{"mappings":"AAAA","sources":["a.js","b.js"],"x_facebook_sources":[[],null]}"#,

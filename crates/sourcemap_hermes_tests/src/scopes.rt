@@ -20,7 +20,8 @@ fn lists(alloc: Global, text: &str) -> Result<ScopeLists> {
         .ok_or(Error::IncompatibleSourceMap)
 }
 
-// `SourceScopes::new` requires at most 4294967295 lists. More lists are `IncompatibleSourceMap`.
+// `SourceScopes::new` requires at most 4294967295 entries of `x_facebook_sources`. For a record
+// with more entries, `scopes` returns the error `IncompatibleSourceMap`.
 fn scopes(alloc: Global, text: &str) -> Result<SourceScopes> {
     let lists = lists(alloc, text)?;
     if lists.len() > 4294967295 {
@@ -73,7 +74,7 @@ static MAPPINGS: [(&str, u32, u32, &str); 31] = [
     ("ACA;ACC", 1, 0, "c"),
     ("AAC;ACC", 1, 0, "a"),
     ("AAC;ACC", 2, 0, "b"),
-    // Empty parts and lines.
+    // Commas and semicolons without segments between them.
     (",,;;AAA,,KCA,;", 0, 5, "b"),
     // Sums modulo 2^32.
     ("ADA", 0, 0, "none"),
@@ -83,10 +84,10 @@ static MAPPINGS: [(&str, u32, u32, &str); 31] = [
     ("AAF", 4294967294, 0, "a"),
     // A name index out of range.
     ("AGA", 0, 0, "none"),
-    // Equal offsets: a lookup at them finds the first one, a lookup after them finds the last one.
+    // Functions a, b and c start at column 5. A lookup finds a at column 5, and c at column 6.
     ("KAA,ACA,ACA", 0, 5, "a"),
     ("KAA,ACA,ACA", 0, 6, "c"),
-    // Invalid segments.
+    // In each row except the last, one segment is invalid.
     ("AAA,!", 0, 0, "none"),
     ("AAA;!A,AAA", 0, 0, "none"),
     ("AAA,g", 0, 0, "none"),
@@ -104,8 +105,8 @@ fn names_of_functions(rt: HostRuntime) {
     }
 }
 
-// Scope mappings with unsorted offsets. A lookup returns some name of the source or no name. The
-// contract does not say which.
+// Scope mappings with unsorted offsets. For unsorted offsets, the contract of `SourceScopes::scope`
+// determines no result. The test accepts `a`, `b`, `c` and `none`.
 static UNORDERED: [&str; 3] = ["KAA,LCA,UCA", "AAE;ACD", "UAA,FCA,FCA,UDA"];
 
 fn is_some_name_or_none(alloc: Global, mappings: &str, col: u32) -> Result<bool> {
@@ -264,8 +265,8 @@ fn copy_written(alloc: Global, scopes: &SourceScopes) -> Result<String> {
     write_scopes(alloc, scopes.copy_entries()?)
 }
 
-// Whether the scopes of `text` equal three others: their copy, the scopes that `text` gives when it
-// is decoded again, and those of `other`.
+// Compares the scopes of `text` with their copy, with the scopes of `text` decoded again, and with
+// the scopes of `other`. Each of the three results is true if the compared scopes are equal.
 fn compare_scopes(alloc: Global, text: &str, other: &str) -> Result<(bool, bool, bool)> {
     let scopes = scopes(alloc, text)?;
     let as_copy = is_as_its_copy(&scopes)?;

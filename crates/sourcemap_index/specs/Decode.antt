@@ -26,7 +26,8 @@ index_with parts ss = record { parts = parts; sections = ss }
 abbrev pub index_in : Fields → List MapSection → IndexValue
 index_in fields ss = record { parts = index_parts fields; sections = by_offset ss }
 
--- the index map that a record with these keys and sections decodes to, or the first error
+-- the index map that a record with these keys and sections decodes to, or the error: `IncompatibleSourceMap` for more
+-- than 2^32 - 1 sections, otherwise the error of the first section that cannot be decoded
 abbrev pub PartsDecode : Fields → Sections → Result IndexValue Error → Type 0
 PartsDecode fields sections answer =
     MatchBool (nat_lt 4294967295 (count sections))

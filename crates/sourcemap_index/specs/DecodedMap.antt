@@ -8,7 +8,6 @@ use Rattle.sourcemap_records.specs.Jsontypes.{Tree, written}
 use Rattle.sourcemap_index_model.specs.Encode.{IsRecordOf}
 use Rattle.sourcemap_index_model.specs.MapTree.{LeafMap, regular, hermes, held, MapTree, leaf, index, MapSections, no_sections, hollow, filled}
 
--- the debug id
 abbrev pub debug_id_of : MapTree → Option (List ℕ)
 debug_id_of (leaf l) = (held l).debug_id
 debug_id_of (index parts ss) = parts.debug_id
@@ -25,7 +24,7 @@ with_debug_id (index parts ss) id = index (record parts { debug_id = id }) ss
 abbrev pub IsValueOf : MapTree → Data → Type 0
 IsValueOf t d = (r : Tree) × IsRecordOf t r × (d ≡ written r)
 
--- the compact text of a value that a map is written as
+-- `text` is the compact text of a JSON value of the map (`IsValueOf`)
 abbrev pub IsTextOf : MapTree → List ℕ → Type 0
 IsTextOf t text = (d : Data) × IsValueOf t d × (text ≡ compact_text d)
 

@@ -7,8 +7,8 @@ use Rattle.sourcemap_records.specs.Jsontypes.{Tree, Section, Sections, IsInRange
 use Rattle.sourcemap_index_model.specs.Encode.{IsLeafAnswer, IsWrittenBy, AreWrittenBy}
 use Rattle.sourcemap_index_model.specs.MapTree.{MapTree, MapSections, MapSection}
 
--- the result of encoding a map: a record of the map. This definition permits no error, but `IsAnswer` also permits
--- `OutOfMemory`
+-- the result of encoding a map: a record that the map is written as. `MapWrites` permits no error. In a contract,
+-- `IsAnswer` also permits the error `OutOfMemory`
 abbrev pub MapWrites : MapTree → Result Tree Error → Type 0
 MapWrites t (Ok r) = IsWrittenBy IsLeafAnswer t r × IsInRange r
 MapWrites t (Err _) = ⊥

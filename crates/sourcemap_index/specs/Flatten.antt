@@ -31,12 +31,12 @@ section_added before s = section_map_added before s.head s.map
 abbrev pub Gathered : Result (List Piece) (List ℕ) → Gathering → Type 0
 Gathered due g = (pieces : List Piece) × (due ≡ Ok pieces) × Gathers pieces g
 
--- `due` is no error but a list of pieces, and `flat` is their concatenation
+-- `due` is a list of pieces, not an error. `flat` is the concatenation of these pieces
 abbrev pub IsFlatOf : Result (List Piece) (List ℕ) → FlatMap → Type 0
 IsFlatOf due flat = (pieces : List Piece) × (due ≡ Ok pieces) × IsFlat pieces flat
 
--- the section has no map, or the tokens of its map are sorted by generated position. If its map is an index map, this
--- holds for each regular map and each Hermes map inside of it, at every level
+-- the tokens of the section's map are sorted by generated position; true if the section has no map. In an index map,
+-- the tokens of each regular map and each Hermes map are sorted, at every level
 abbrev pub IsSectionInOrder : MapSection → Type 0
 IsSectionInOrder s = IfSome s.map HasTokensInOrder
 
@@ -47,9 +47,9 @@ abbrev pub RewriteAnswer : RewriteOptions → MapTree → Result MapValue Error 
 RewriteAnswer options t answer = Then (FlatAnswer t) (λ m a. Rewrites options m a) answer
 
 -- `t` can be flattened. The tokens of the flat map have the positions and meanings in `flat_list t`, sorted stably by
--- position. The tokens of `m` correspond to these tokens one to one, in order. Corresponding tokens have the same
--- generated position. They have the same meaning, except for the parts that `without_removed` removes: the first
--- matching prefix of the source, and the name if names are not kept
+-- position. `m` has as many tokens as the flat map. The n-th token of `m` has the generated position and the meaning of
+-- the flat map's n-th token, but `without_removed` changes the meaning: the source loses the first prefix in `cuts`
+-- that matches the source, and the name is removed if names are not kept
 abbrev pub SaysFlatLess : Removal → MapTree → MapValue → Type 0
 SaysFlatLess removal t m = (whole : MapValue) × (flat t ≡ Ok whole) × SaysFlat t whole × TokensMeanLess removal whole m
 
@@ -58,8 +58,9 @@ SaysFlatLess removal t m = (whole : MapValue) × (flat t ≡ Ok whole) × SaysFl
 abbrev pub MeansFlatLess : Removal → MapTree → MapValue → Type 0
 MeansFlatLess removal t m = (whole : MapValue) × (flat t ≡ Ok whole) × MeansLess removal whole m
 
--- `t` can be flattened. If a position has a meaning in `t`, it has the same meaning in `m`, except for the parts that
--- `without_removed` removes: the first matching prefix of the source, and the name if names are not kept
+-- `t` can be flattened. If a position has a meaning in `t`, the position has this meaning in `m`, changed by
+-- `without_removed`: the source loses the first prefix in `cuts` that matches the source, and the name is removed if
+-- names are not kept
 abbrev pub AnswersLess : Removal → MapTree → MapValue → Type 0
 AnswersLess removal t m =
     (whole : MapValue) × (flat t ≡ Ok whole)

@@ -22,7 +22,7 @@ with_file i file = record i { parts = record i.parts { file = file } }
 abbrev pub with_debug_id : IndexValue → Option (List ℕ) → IndexValue
 with_debug_id i id = record i { parts = record i.parts { debug_id = id } }
 
--- the index map with its section `id` replaced by this one
+-- the index map `i` with section `id` replaced by `s`; unchanged if `i` has no section `id`
 abbrev pub with_section : IndexValue → ℕ → MapSection → IndexValue
 with_section i id s = record i { sections = slice_set i.sections id s }
 

@@ -15,7 +15,8 @@ use Rattle.sourcemap_index_model.specs.WellFormed.{IsInOrder}
 abbrev pub guessed_in : MapTree → (source minified : List ℕ) → ℕ × ℕ → Option (List ℕ)
 guessed_in t source minified p = option_and_then (guessed_from source minified) (lookup t p)
 
--- if the position is on line 0, the functions of the closest token's source are sorted
+-- if `p` is on line 0 and `lookup_regular` finds a token for `p`, the functions of the token's source are sorted by
+-- start position. True if this source has no function map
 abbrev pub IsInOrderInBytecode : HermesValue → ℕ × ℕ → Type 0
 IsInOrderInBytecode h p = p.0 ≡ 0
     → IfSome (lookup_regular h.map (0, p.1)) (λ t. IsInOrderAt h.scopes t.raw.src_id)
@@ -32,9 +33,9 @@ function_name (leaf (hermes h)) source minified p = name_in_bytecode h p
 function_name t (Some source) (Some minified) p = guessed_in t source minified p
 function_name t _ _ p = None
 
--- the order that the clause on `function_name` requires. For a Hermes map and a position on line 0, the functions of
--- the closest token's source are sorted. For a map that is not a Hermes map, if neither `source` nor `minified` is
--- `None`, the sections are sorted by offset at every level. Otherwise nothing is required
+-- the map is sorted as the contract of `DecodedMap::get_original_function_name` requires. For a Hermes map,
+-- `IsInOrderInBytecode` holds. For any other map, the sections are sorted by offset at every level, or `source` or
+-- `minified` is `None`
 abbrev pub IsInOrderForName : MapTree → (source minified : Option (List ℕ)) → ℕ × ℕ → Type 0
 IsInOrderForName (leaf (hermes h)) _ _ p = IsInOrderInBytecode h p
 IsInOrderForName t (Some _) (Some _) p = IsInOrder t

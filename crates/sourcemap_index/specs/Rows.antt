@@ -1,4 +1,4 @@
--- An index map with other sections.
+-- An index map with its whole list of sections replaced.
 use Rattle.std.specs.Prelude.{List}
 use Rattle.sourcemap_index_model.specs.MapTree.{MapSection, IndexValue}
 

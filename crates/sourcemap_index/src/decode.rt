@@ -52,19 +52,20 @@ fn decode_owned(alloc: Global, bytes: Vec<u8>) -> Result<DecodedMap>
 /// Decodes the JSON in these bytes to a map. A junk header before the JSON is skipped. The JSON
 /// object of a map is called a record. A record with sections is an index map, and its own
 /// `x_facebook_sources` are ignored. A record without sections is a Hermes map if it has
-/// `x_facebook_sources`, otherwise a regular map. The sections of an index map are sorted by
+/// `x_facebook_sources`, otherwise a regular map. The sections of an index map are sorted stably by
 /// offset.
 ///
-/// The errors are, in this order: `Io` of kind `InvalidData` for an invalid header;
-/// `BadJson(Parse)` for bytes that are not JSON; `BadJson(Shape)` for JSON that is not a record.
-/// Then a Hermes map has the errors of `decode_hermes`, and a regular map those of
-/// `decode_regular`. An index map with more than 4294967295 sections is `IncompatibleSourceMap`.
-/// Otherwise its error is the first error of the maps in its sections, in the order of the JSON
-/// text. `OutOfMemory` can come at any time.
+/// The header is checked first. An invalid header is `Io` of kind `InvalidData`. Text that does not
+/// parse is `BadJson(Parse)` (see `JsonFault::Parse`). JSON that is not a record is
+/// `BadJson(Shape)`. Then the record is decoded. The errors for a Hermes map are those of
+/// `decode_hermes`. The errors for a regular map are those of `decode_regular`. The error for a
+/// record with more than 4294967295 sections is `IncompatibleSourceMap`. Otherwise, the maps in the
+/// sections are decoded in the order of the JSON text, and the first error is returned.
+/// `OutOfMemory` can come at any time.
 pub fn decode_slice(alloc: Global, bytes: &[u8]) -> Result<DecodedMap>
     ensures answer { IsAnswer map_tree (BytesDecode bytes.now) result }
-    // Unless memory runs out, the bytes determine the result. Of an `Io` error, they determine only
-    // the kind.
+    // Unless memory runs out, the bytes determine the result. If the result is an `Io` error, the
+    // bytes determine only the kind of the error.
     ensures only { (due : Result MapTree Error) → BytesDecode bytes.now due
         → IsAnswer map_tree (AreSame due) result }
     ensures well_formed { IfOk result (λ m. IsWellFormed (map_tree m)) }
@@ -76,8 +77,8 @@ pub fn decode_slice(alloc: Global, bytes: &[u8]) -> Result<DecodedMap>
 /// the map is made.
 pub fn decode_vec(alloc: Global, input: Vec<u8>) -> Result<DecodedMap>
     ensures answer { IsAnswer map_tree (BytesDecode input.items) result }
-    // Unless memory runs out, the bytes determine the result. Of an `Io` error, they determine only
-    // the kind.
+    // Unless memory runs out, the bytes determine the result. If the result is an `Io` error, the
+    // bytes determine only the kind of the error.
     ensures only { (due : Result MapTree Error) → BytesDecode input.items due
         → IsAnswer map_tree (AreSame due) result }
     ensures well_formed { IfOk result (λ m. IsWellFormed (map_tree m)) }
@@ -85,8 +86,8 @@ pub fn decode_vec(alloc: Global, input: Vec<u8>) -> Result<DecodedMap>
     decode_owned(alloc, input)
 }
 
-/// Decodes a reader's bytes to a map, as `decode_slice` does. The reader is read to its end first;
-/// an error of the reader is `Io`.
+/// Decodes a reader's bytes to a map, as `decode_slice` does. The reader is read to its end first.
+/// A failed read is `Io`, or `OutOfMemory` if the read ran out of memory.
 pub fn decode<R: Read + Drop>(alloc: Global, reader: R) -> Result<DecodedMap>
     ensures answer { Reading (R.remaining reader)
         (λ bytes. IsAnswerRead map_tree (BytesDecode bytes) result) }
@@ -111,8 +112,8 @@ fn decode_url(alloc: Global, url: &str) -> Result<DecodedMap>
 /// bytes, and this result is never `InvalidDataUrl`.
 pub fn decode_data_url(alloc: Global, url: &str) -> Result<DecodedMap>
     ensures answer { IsAnswer map_tree (UrlDecodes url.now) result }
-    // Unless memory runs out, the URL determines the result. Of an `Io` error, it determines only
-    // the kind.
+    // Unless memory runs out, the URL determines the result. If the result is an `Io` error, the
+    // URL determines only the kind of the error.
     ensures only { (due : Result MapTree Error) → UrlDecodes url.now due
         → IsAnswer map_tree (AreSame due) result }
     // An error in the decoded bytes is never `InvalidDataUrl`.
@@ -145,8 +146,8 @@ impl SourceMapIndex {
     /// index map or the error is the same as from `decode_slice`.
     pub fn from_slice(alloc: Global, bytes: &[u8]) -> Result<Self>
         ensures answer { IsAnswer index_value (BytesHaveResult IndexDecodes bytes.now) result }
-        // Unless memory runs out, the bytes determine the result. Of an `Io` error, they determine
-        // only the kind.
+        // Unless memory runs out, the bytes determine the result. If the result is an `Io` error,
+        // the bytes determine only the kind of the error.
         ensures only { (due : Result IndexValue Error) → BytesHaveResult IndexDecodes bytes.now due
             → IsAnswer index_value (AreSame due) result }
         ensures well_formed { IfOk result (λ i. IsWellFormed (index_tree (index_value i))) }
@@ -155,7 +156,7 @@ impl SourceMapIndex {
     }
 
     /// Decodes a reader's bytes to an index map, as `from_slice` does. The reader is read to its
-    /// end first; an error of the reader is `Io`.
+    /// end first. A failed read is `Io`, or `OutOfMemory` if the read ran out of memory.
     pub fn from_reader<R: Read + Drop>(alloc: Global, reader: R) -> Result<Self>
         ensures answer { Reading (R.remaining reader)
             (λ bytes. IsAnswerRead index_value (BytesHaveResult IndexDecodes bytes) result) }
@@ -169,8 +170,9 @@ impl SourceMapIndex {
     }
 }
 
-/// A law: decoding a JSON value, bytes or a data URL has one result, which is a map or an error. Of
-/// the `Io` error for an invalid header, only the kind is determined.
+/// A law: the input of decoding (a JSON value, bytes or a data URL) determines the result, except
+/// the error `OutOfMemory`. If the result is an `Io` error (for an invalid header), the input
+/// determines only the kind of the error.
 pub fn answers_are_determined()
     ensures values { (d : Data) (a b : Result MapTree Error)
         → ValueDecodes d a → ValueDecodes d b → a ≡ b }

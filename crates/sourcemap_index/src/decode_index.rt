@@ -17,7 +17,7 @@ use sourcemap_map_regular::decode::decode_regular;
 use sourcemap_records::jsontypes::{RawSection, RawSourceMap};
 use std::alloc::Global;
 
-// The greatest number of sections of an index map.
+// A record with more sections than this number cannot be decoded.
 const SECTION_LIMIT: usize = 4294967295;
 
 /// Decodes a record to a map. The errors are those that `decode_slice` returns for the record.
@@ -49,8 +49,8 @@ fn decode_record(alloc: Global, mut raw: RawSourceMap) -> Result<DecodedMap>
     }
 }
 
-// Decodes a record to a Hermes map if it has scopes of sources, otherwise to a regular map.
-// Sections of the record are ignored.
+// Decodes a record with `x_facebook_sources` to a Hermes map, and any other record to a regular
+// map. The sections of the record are ignored.
 fn decode_leaf(alloc: Global, raw: RawSourceMap) -> Result<DecodedMap>
     ensures { IsAnswer map_tree
         (LeafDecodes (flat (tree raw)) (flat (tree raw)).x_facebook_sources) result }
@@ -64,10 +64,11 @@ fn decode_leaf(alloc: Global, raw: RawSourceMap) -> Result<DecodedMap>
     }
 }
 
-// Decodes a record to an index map. `sections` are the sections of the record, and `raw` has its
-// other keys. Decodes the sections in order, then sorts them stably by offset. More than 4294967295
-// sections are `IncompatibleSourceMap`, and then no section is decoded. Otherwise the error is the
-// first error of a section's map. The only other error is `OutOfMemory`.
+// Decodes a record to an index map. `sections` are the sections of the record, and `raw` has the
+// other keys of the record. Decodes the sections in order, then sorts them stably by offset. The
+// error is `IncompatibleSourceMap` if there are more than 4294967295 sections; then no section is
+// decoded. Otherwise the error is the first error of a section's map. The only other error is
+// `OutOfMemory`.
 #[cycle(decode)]
 fn decode_parts(
     alloc: Global,

@@ -116,8 +116,8 @@ impl DecodedMap {
         decode(alloc, reader)
     }
 
-    /// Writes the map's compact JSON text. An error of the writer is `Io`; the only other error is
-    /// `OutOfMemory`. The writer is consumed, so no clause says what it contains afterwards.
+    /// Writes the map's compact JSON text. The errors are `OutOfMemory`, and `Io` if a write fails
+    /// for another reason. The writer is consumed, so no clause says what it contains afterwards.
     /// `encode_to` borrows its writer and has such a clause.
     pub fn to_writer<W: Write + Drop>(&self, writer: W) -> Result<()>
         ensures encoded { OnOk result ((text : List ℕ)

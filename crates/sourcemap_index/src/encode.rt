@@ -28,10 +28,11 @@ impl Encodable for DecodedMap {
     ghost encodes = { λ m. RecordAnswer (map_tree m) };
 
     /// The record of the map. The record of a Hermes map is the record of its regular map, with the
-    /// entries of scopes in `x_facebook_sources`. The record of an index map contains version 3 and
-    /// the sections, each with its offset, its URL and the record of its map; a missing URL or map
-    /// is `None`. If the index map has a file, a debug id, `x_facebook_offsets` or
-    /// `x_metro_module_paths`, the record contains them too. The only error is `OutOfMemory`.
+    /// scope entries of the Hermes map under the key `x_facebook_sources`. The record of an index
+    /// map contains version 3 and the sections, each with its offset, its URL and the record of its
+    /// map; a missing URL or map is `None`. If the index map has a file, a debug id,
+    /// `x_facebook_offsets` or `x_metro_module_paths`, the record contains them too. The only error
+    /// is `OutOfMemory`.
     fn as_raw_sourcemap(&self) -> Result<RawSourceMap>
         ensures answer { IsAnswer tree (RecordAnswer (map_tree self.now)) result }
         ensures fine { IfOk result (λ r. IsFine (tree r)) }
@@ -60,16 +61,16 @@ impl Encodable for SourceMapIndex {
 }
 
 impl SourceMapIndex {
-    /// The record that `as_raw_sourcemap` returns. Consumes the index map. Its texts, and the texts
-    /// of its sections and of their maps, are moved, not copied. The only error is `OutOfMemory`.
+    /// Returns the record that `as_raw_sourcemap` returns, but consumes the index map. All texts
+    /// are moved, not copied, also the texts in sections. The only error is `OutOfMemory`.
     pub fn into_raw_sourcemap(self) -> Result<RawSourceMap>
         ensures { IsAnswer tree (RecordAnswer (index_tree (index_value self))) result }
     {
         index_into_record(self)
     }
 
-    /// Writes the index map's compact JSON text. An error of the writer is `Io`; the only other
-    /// error is `OutOfMemory`. The writer is consumed, so no clause says what it contains
+    /// Writes the index map's compact JSON text. The errors are `OutOfMemory`, and `Io` if a write
+    /// fails for another reason. The writer is consumed, so no clause says what it contains
     /// afterwards. `encode_to` borrows its writer and has such a clause.
     pub fn to_writer<W: Write + Drop>(&self, writer: W) -> Result<()>
         ensures encoded { OnOk result ((text : List ℕ)

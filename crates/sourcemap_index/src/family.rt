@@ -38,6 +38,6 @@ pub enum DecodedMap {
     Regular(SourceMap),
     /// An index map.
     Index(SourceMapIndex),
-    /// A regular map with the functions of its sources.
+    /// A Hermes map: a regular map and the function maps of its sources.
     Hermes(SourceMapHermes),
 }

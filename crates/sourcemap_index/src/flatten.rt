@@ -24,20 +24,19 @@ impl SourceMapIndex {
     /// Returns the index map as one regular map. This map has the tokens of all sections. Each
     /// token is moved by the offset of its section, and the tokens are sorted stably by position.
     /// Each resolved source and each name appears once. A source has the last contents given for
-    /// it. A source is on the ignore list if one of its tokens comes from a map whose ignore list
-    /// has the source. A Hermes map counts as its regular map, without scopes. The file is that of
+    /// it. The ignore list has the source of each token whose source is on the ignore list of the
+    /// token's own map. A Hermes map counts as its regular map, without scopes. The file is that of
     /// the index map; `sourceRoot` and debug id are `None`.
     ///
-    /// Sections are added in order, up to the first error. The error is `CannotFlatten` if a
-    /// section has no map, or if its map is an index map that cannot be flattened. It is also
-    /// `CannotFlatten` if a section raises the number of sources or of names above 4294967295, or
-    /// if one of its tokens moves past line or column 4294967295. The only other error is
-    /// `OutOfMemory`.
+    /// Sections are added in order, up to the first error. A section causes the error
+    /// `CannotFlatten` in four cases: the section has no map; its map is an index map that cannot
+    /// be flattened; the number of sources or of names rises above 4294967295; a token moves past
+    /// line 4294967295 or past column 4294967295. The only other error is `OutOfMemory`.
     pub fn flatten(&self) -> Result<SourceMap>
         ensures answer { IsAnswer (λ m. m) (FlatAnswer (index_tree (index_value self.now))) result }
         ensures tokens { IfOk result (SaysFlat (index_tree (index_value self.now))) }
-        // If no section reaches into the next one, each position with a meaning in the index map
-        // has the same meaning in the flat map.
+        // If no section reaches into the next one at any level (`IsOrderly`), each position with a
+        // meaning in the index map has the same meaning in the flat map.
         ensures meaning { IfOk result (λ m. IsOrderly (index_tree (index_value self.now))
             → AnswersLike (index_tree (index_value self.now)) m) }
         ensures well_formed { IfOk result (λ m. IsWellFormed (index_tree (index_value self.now))
@@ -63,18 +62,19 @@ impl SourceMapIndex {
             (RewriteAnswer options.now (index_tree (index_value self))) result }
         ensures tokens { IfOk result
             (SaysFlatLess (removal_of options.now) (index_tree (index_value self))) }
-        // At every position the result has the meaning of the flat map, except that the options
-        // can remove the name and a prefix of the source. The sections can be in any order.
+        // At every position, the result has the same meaning as the flat map, except that the
+        // options can remove the name and a prefix of the source. The clause `means` holds even if
+        // sections overlap or are not sorted.
         ensures means { IfOk result
             (MeansFlatLess (removal_of options.now) (index_tree (index_value self))) }
-        // If no section reaches into the next one (`IsOrderly`), each position with a meaning in
-        // the index map has this meaning in the result, except that the options can remove the name
-        // and a prefix of the source.
+        // If no section reaches into the next one at any level (`IsOrderly`), each position with a
+        // meaning in the index map has this meaning in the result, except that the options can
+        // remove the name and a prefix of the source.
         ensures meaning { IfOk result (λ m. IsOrderly (index_tree (index_value self))
             → AnswersLess (removal_of options.now) (index_tree (index_value self)) m) }
-        // Suppose that the options keep names and cut no prefix, and that no section reaches into
-        // the next one. Then each position with a meaning in the index map has the same meaning in
-        // the result.
+        // Options that keep names and list no prefix change no meaning. With such options, if no
+        // section reaches into the next one at any level, each position with a meaning in the index
+        // map has the same meaning in the result.
         ensures same { LeavesMeaning (removal_of options.now) → IfOk result (λ m.
             IsOrderly (index_tree (index_value self))
             → AnswersLike (index_tree (index_value self)) m) }
@@ -141,7 +141,7 @@ impl DecodedMap {
         }
     }
 
-    // Adds the map to `gathering`. Its tokens are moved by the offset (`line`, `col`).
+    // Adds the map to `gathering`. The tokens of the map are moved by the offset (`line`, `col`).
     #[cycle(flatten)]
     fn gather<'a>(
         &'a self,

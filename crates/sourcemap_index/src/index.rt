@@ -136,7 +136,8 @@ impl SourceMapIndex {
         self.x_facebook_offsets.as_deref()
     }
 
-    /// The path of each module of a bundle. `None` if the index map has no such list.
+    /// The path of each module of a bundle: item `n` for module `n`. `None` if the index map has no
+    /// list of module paths.
     pub fn x_metro_module_paths(&self) -> Option<&[String]>
         ensures { option_map (λ xs. map string_bytes xs.now) result
             ≡ (index_value self.now).parts.x_metro_module_paths }

@@ -16,8 +16,8 @@ ghost use Rattle.sourcemap_index_model.specs.WellFormed.{HasTokensInOrder, IsWel
 ghost use Rattle.sourcemap_index.specs.Decode.{BytesDecode, UrlDecodes, ValueDecodes};
 ghost use Rattle.sourcemap_index.specs.DecodedMap.{IsShallow, IsTextOf, IsValueOf, levels};
 
-/// A law: decoding a JSON value, bytes or a data URL as a map of any kind gives a regular map
-/// exactly if decoding as a regular map gives the same map.
+/// A law on decoding a JSON value, bytes or a data URL. Decoding as a map of any kind gives the
+/// regular map `m` exactly if decoding as a regular map gives `m`.
 pub fn regular_maps_are_of_a_kind()
     ensures values { (d : Data) (m : MapValue)
         → ValueHasResult RegularDecodes d (Ok m) ↔ ValueDecodes d (Ok (leaf (regular m))) }
@@ -27,8 +27,8 @@ pub fn regular_maps_are_of_a_kind()
         → UrlHasResult RegularDecodes url (Ok m) ↔ UrlDecodes url (Ok (leaf (regular m))) }
 {}
 
-/// A law: decoding a JSON value, bytes or a data URL as a map of any kind gives a Hermes map
-/// exactly if decoding as a Hermes map gives the same map.
+/// A law on decoding a JSON value, bytes or a data URL. Decoding as a map of any kind gives the
+/// Hermes map `h` exactly if decoding as a Hermes map gives `h`.
 pub fn hermes_maps_are_of_a_kind()
     ensures values { (d : Data) (h : HermesValue)
         → ValueHasResult RecordDecodesAsHermes d (Ok h) ↔ ValueDecodes d (Ok (leaf (hermes h))) }
@@ -39,8 +39,9 @@ pub fn hermes_maps_are_of_a_kind()
         → UrlHasResult RecordDecodesAsHermes url (Ok h) ↔ UrlDecodes url (Ok (leaf (hermes h))) }
 {}
 
-/// A law: a map that is decoded from a JSON value, bytes or a data URL is well-formed, and its
-/// tokens are sorted at every level. The laws on flattened maps require this.
+/// A law: a map that is decoded from a JSON value, bytes or a data URL is well-formed. The tokens
+/// of each regular map and each Hermes map are sorted. Both properties are premises of laws on
+/// flattened maps.
 pub fn read_maps_are_well_formed()
     ensures values { (d : Data) (t : MapTree) → ValueDecodes d (Ok t)
         → IsWellFormed t × HasTokensInOrder t }
@@ -50,15 +51,15 @@ pub fn read_maps_are_well_formed()
         → IsWellFormed t × HasTokensInOrder t }
 {}
 
-/// A law: a map determines the compact JSON text that it is written as. The JSON value of the map
-/// contains no number with a fraction, so its printed text is determined.
+/// A law: two compact JSON texts of the same map are equal. The JSON value of a map contains no
+/// floating-point number, so encoding writes the value as compact text.
 pub fn written_values_have_one_text()
     ensures whole { (t : MapTree) (d : Data) → IsValueOf t d → has_float d ≡ false }
     ensures once { (t : MapTree) (a b : List ℕ) → IsTextOf t a → IsTextOf t b → a ≡ b }
 {}
 
-/// A law: if a map of any kind is encoded, the bytes are the compact text of the JSON value of its
-/// record. The reason is that this value contains no number with a fraction.
+/// A law: if a map of any kind is encoded, the bytes are the compact text of the map's JSON value.
+/// The proof uses that this JSON value contains no floating-point number.
 pub fn encoded_texts_are_compact()
     ensures { (t : MapTree) (text : List ℕ) → IsEncoded (RecordAnswer t) text → IsTextOf t text }
 {}

@@ -11,9 +11,9 @@ use crate::family::{DecodedMap, SourceMapIndex, SourceMapSection};
 use sourcemap_map_regular::token::Token;
 use sourcemap_tokens::search::greatest_lower_bound;
 
-// The position relative to `offset`, the offset of its section. The offset's column is subtracted
-// only on the section's first line. `offset` is never after the position, so `saturating_sub` gives
-// the exact difference.
+// The position (`line`, `col`) relative to `offset`, the offset of a section. The offset's column
+// is subtracted only on the section's first line. `offset` is never after the position, so
+// `saturating_sub` gives the exact difference.
 fn relative_position(offset: (u32, u32), line: u32, col: u32) -> (u32, u32)
     ensures { result ≡ relative_position offset (line, col) }
 {

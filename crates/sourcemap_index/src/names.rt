@@ -14,13 +14,15 @@ impl SourceMapIndex {
     ghost use Rattle.sourcemap_index.specs.Family.{index_value};
 
     /// Guesses the original name of the function at a generated position, as
-    /// `SourceMap::get_original_function_name` does. The search starts at the token that
-    /// `lookup_token` returns, and goes back over the tokens of one map only, the map of this
-    /// token. `view` is a view of the generated text. The search reads `view` at the generated
-    /// position of each token. This is the position in the token's map: no section offset is added
-    /// to it. `None` if `lookup_token` returns `None`, if no two tokens match, if the first token
-    /// of the first match has no name, or if `minified_name` is no identifier. If the sections are
-    /// not sorted by offset at every depth, the result may be wrong. Allocates no memory.
+    /// `SourceMap::get_original_function_name` does. `view` is a view of the generated text. The
+    /// search starts at the token that `lookup_token` returns. The search goes back over the tokens
+    /// of this token's map only, at most 128 in all. For each token, the search reads the
+    /// identifier in `view` at the token's generated position in this map. No section offset is
+    /// added to this position. A token matches if its identifier is `minified_name` and the next
+    /// token of the search has the identifier `function`. Returns the name of the first token that
+    /// matches. `None` if `lookup_token` returns `None`, if no token matches, if the first token
+    /// that matches has no name, or if `minified_name` is no identifier. If the sections are not
+    /// sorted by offset at every depth, the result may be wrong. Allocates no memory.
     pub fn get_original_function_name(
         &self,
         line: u32,
@@ -43,8 +45,10 @@ impl DecodedMap {
     /// The original name of the function at a generated position. In a Hermes map only line 0 has
     /// names, and `col` is the bytecode offset; `minified_name` and `source_view` are ignored. In
     /// any other map the name is guessed from `minified_name` and `source_view`, a view of the
-    /// generated text. The result is then `None` if `minified_name` or `source_view` is `None`.
-    /// Allocates no memory.
+    /// generated text. The result is then `None` if `minified_name` or `source_view` is `None`. The
+    /// result may be wrong if the sections of an index map are not sorted by offset at every depth,
+    /// or if the functions of a source in a Hermes map are not sorted by start position. Allocates
+    /// no memory.
     pub fn get_original_function_name(
         &self,
         line: u32,

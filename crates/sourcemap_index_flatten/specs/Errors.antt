@@ -1,4 +1,4 @@
--- Errors of flattening, by their text.
+-- Errors of flattening: the text of an error, and the condition for the error.
 use Rattle.std.specs.Prelude.{◌≡◌, ℕ, List, Bool, true, string_bytes}
 use Rattle.sourcemap_errors.specs.Answer.{UnlessMemory}
 use Rattle.sourcemap_errors.specs.declared.errors.Error.{Error}

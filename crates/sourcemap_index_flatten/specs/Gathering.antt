@@ -37,7 +37,7 @@ pub record Gathers (pieces : List Piece) (g : Gathering) : Type 0 where
   pub tokens : g.tokens.items ≡ all_moved_tokens pieces
   pub ignored : g.ignored.keys ≡ all_ignored_ids pieces
 
--- `part` has the lists of `m`, with borrowed texts
+-- `part` has the tokens, the ignored ids and the names of `m`, and the resolved sources of `m` with their contents
 pub record IsPartOf (m : MapValue) (part : Part) : Type 0 where
   pub tokens : part.tokens.now ≡ m.tokens
   pub ignored : part.ignored.now.keys ≡ m.ignored

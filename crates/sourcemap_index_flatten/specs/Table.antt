@@ -31,7 +31,7 @@ contents_entered entered text =
 abbrev pub entries_kept : List TextEntry → List TextEntry
 entries_kept entered = map (λ text. (text, contents_entered entered text)) (texts_entered entered)
 
--- for each of `entries`, the number of its text among the distinct texts of `entered`
+-- for each of `entries`, the index of its text in `texts_entered entered`; `no_id` if the list lacks the text
 abbrev pub numbers_among : List TextEntry → List TextEntry → List ℕ
 numbers_among entered entries = map (λ e. number_in (texts_entered entered) (Some e.0)) entries
 
@@ -56,8 +56,8 @@ pub record AreEntered (entered entries : List TextEntry) (numbers : List ℕ) (t
   pub table : IsTable entered t
   pub each : numbers ≡ numbers_among entered entries
 
--- `entries`, changed by entering `e` with the index `number`. If `number` is not less than the length of `entries`,
--- `e` is appended. Otherwise, if `e` has contents, `e` replaces the entry at the index `number`
+-- `entries` after `e` was entered. If `number` is not an index of `entries`, `e` is appended. Otherwise, if `e` has
+-- contents, `e` replaces the entry at the index `number`. If `e` has no contents, that entry stays
 abbrev pub put_at : ℕ → TextEntry → List TextEntry → List TextEntry
 put_at number e entries =
     cond (nat_lt number (length entries))

@@ -1,5 +1,5 @@
-//! Entries that borrow the sources and names of a map, and owned copies of the texts and contents
-//! of entries.
+//! Entries that borrow the sources, contents and names of a map. Also owned copies of the texts and
+//! contents of entries.
 ghost use Rattle.std.specs.Prelude.{None, Ok, map, string_bytes};
 ghost use Rattle.sourcemap_errors.specs.Answer.{Gives};
 ghost use Rattle.sourcemap_texts.specs.Texts.{texts_of};
@@ -32,7 +32,7 @@ pub(crate) fn sources_of<'a>(
     Ok(entries)
 }
 
-// Names have no contents.
+// One entry for each name. Only sources have contents, so `contents` is `None`.
 pub(crate) fn names_of<'a>(alloc: Global, names: &'a [String]) -> Result<Vec<Entry<'a>>>
     ensures { Gives (λ v. entry_values v.items) result
         (Ok (map (λ name. (name, None)) (map string_bytes names.now))) }

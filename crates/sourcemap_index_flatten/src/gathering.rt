@@ -65,12 +65,12 @@ impl<'a> Gathering<'a> {
         })
     }
 
-    /// Adds the map with these lists. Its tokens move down by `line`, and those on its first line
-    /// also move right by `col`. Returns `CannotFlatten` if the gathering would then have more than
-    /// 4294967295 distinct sources or more than 4294967295 distinct names. Otherwise, returns
-    /// `CannotFlatten` if a token would move past line 4294967295 or past column 4294967295. The
-    /// only other error is `OutOfMemory`. After an error, the contents of the gathering are
-    /// unspecified.
+    /// Adds the map whose lists are `map`. All tokens of the map move down by `line`. The tokens on
+    /// line 0 of the map also move right by `col`. Returns `CannotFlatten` ("too many sources or
+    /// names") if the gathering would then have more than 4294967295 distinct sources or more than
+    /// 4294967295 distinct names. Otherwise, returns `CannotFlatten` ("a position passes
+    /// 4294967295") if a token would move past line 4294967295 or past column 4294967295. The only
+    /// other error is `OutOfMemory`. After an error, the contents of the gathering are unspecified.
     pub fn add(&mut self, alloc: Global, line: u32, col: u32, map: &MapLists<'a>) -> Result<()>
         ensures ok { (before : List Piece) (m : MapValue) → Gathers before self.old
             → AreListsOf m map.now → OnOk result (GathersMore before ((line, col), m) self.new) }
@@ -145,8 +145,9 @@ impl<'a> Gathering<'a> {
 }
 
 impl FlatMap<'_> {
-    /// Returns an owned map with this file name, without `sourceRoot` and debug id. The only error
-    /// is `OutOfMemory`. Requires at most 4294967295 sources and at most 4294967295 names.
+    /// Returns the concatenation as an owned map with the file name `file`. The owned map has no
+    /// `sourceRoot` and no debug id. The only error is `OutOfMemory`. Requires at most 4294967295
+    /// sources and at most 4294967295 names.
     pub fn into_map(self, alloc: Global, file: Option<&str>) -> Result<SourceMap>
         requires { HasFewTexts self }
         ensures { (pieces : List Piece) → IsFlat pieces self.entry

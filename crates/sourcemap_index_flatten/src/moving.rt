@@ -84,7 +84,8 @@ pub(crate) fn move_all(
     ensures refused { IfErr result (RefusesBy (list_any (is_past_end to.entry) tokens.now)
         (codes "a position passes 4294967295")) }
 {
-    // `list` is owned, because each push through `all` would load and store the length of the list
+    // The loop pushes to a local list. A push through the reference `all` would load and store the
+    // length of the list each time.
     let mut list = mem::replace(all, Vec::new(alloc));
     list.reserve(tokens.len())?;
     for token in tokens {

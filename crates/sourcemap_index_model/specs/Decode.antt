@@ -11,7 +11,8 @@ use Rattle.sourcemap_hermes_scopes.specs.ScopeLists.{ScopeEntry}
 use Rattle.sourcemap_hermes.specs.Decode.{EntriesDecode}
 use Rattle.sourcemap_index_model.specs.MapTree.{regular, hermes, IndexParts, MapTree, leaf, index, MapSection, section_offset, sections_from}
 
--- the result of two steps: the error of the first step, or the result of the second step for the value of the first
+-- the result of the step `First` and then the step `Next`. If `First` gives `Ok x`, `Next x` gives the result. If
+-- `First` gives an error, the result is the same error
 abbrev pub Then : {X Y : Type 0} → (Result X Error → Type 0) → (X → Result Y Error → Type 0) → Result Y Error → Type 0
 Then First Next answer = ((x : _) × First (Ok x) × Next x answer) ⊎ IsErrAnd answer (λ e. First (Err e))
 

@@ -33,13 +33,14 @@ names_in pieces = kept_once (flat_map (λ piece. piece.1.names) pieces)
 abbrev pub source_entries : MapValue → List (List ℕ × Option (List ℕ))
 source_entries m = map (λ source. (source.1, contents_of m source.0)) (enumerate_from 0 (resolved_sources m))
 
--- the contents of the last source, over all pieces, that resolves to `text` and has contents; otherwise `None`
+-- the contents of one source of the pieces: the last source that resolves to `text` and has contents. `None` if no
+-- source resolves to `text` and has contents
 abbrev pub contents_in : List Piece → List ℕ → Option (List ℕ)
 contents_in pieces text =
     option_and_then (λ source. source.1)
     (find_last (λ source. bytes_eq source.0 text && is_some source.1) (flat_map (λ piece. source_entries piece.1) pieces))
 
--- a token of a piece, with the generated position and the ids that it has in the concatenation
+-- the token `t` of `piece`, with the generated position, source id and name id of `t` in the concatenation
 abbrev pub token_in : List Piece → Piece → RawToken → RawToken
 token_in pieces piece t = record t {
   dst_line = (absolute_position piece.0 (destination t)).0;
@@ -75,9 +76,9 @@ unresolved url = codes "Section has an unresolved sourcemap: " ++ unwrap_or url 
 abbrev pub passes_the_end : ℕ × ℕ → Bool
 passes_the_end p = nat_lt 4294967295 p.0 || nat_lt 4294967295 p.1
 
--- `before` with `piece` appended. An error if the longer list has more than 4294967295 sources (`sources_in`) or more
--- than 4294967295 names (`names_in`). Otherwise, an error if the offset of `piece` moves a token of `piece` past line
--- 4294967295 or past column 4294967295
+-- `pieces`, which is `before` with `piece` appended. An error if `pieces` has more than 4294967295 sources
+-- (`sources_in`) or more than 4294967295 names (`names_in`). Otherwise, an error if the offset of `piece` moves a token
+-- of `piece` past line 4294967295 or past column 4294967295
 abbrev pub with_piece : List Piece → Piece → Result (List Piece) (List ℕ)
 with_piece before piece =
     let pieces = before ++ piece ∷ [] in
@@ -107,7 +108,7 @@ abbrev mutual
   pieces_after before (filled head t rest) =
       on_ok (flat t) (λ m. on_ok (with_piece before (offset_of head, m)) (λ pieces. pieces_after pieces rest))
 
--- the result of a call that flattens a map
+-- the result, other than `OutOfMemory`, of a call that flattens a map
 abbrev pub FlatAnswer : MapTree → Result MapValue Error → Type 0
 FlatAnswer t (Ok m) = flat t ≡ Ok m
 FlatAnswer t (Err (CannotFlatten reason)) = flat t ≡ Err (string_bytes reason)

@@ -1,5 +1,5 @@
--- The meanings of the tokens of a map, each at its generated position in the whole map. Also orderly
--- maps, which are maps whose sections do not overlap.
+-- The meaning of each token of a map, paired with the token's generated position in the whole map.
+-- Also orderly maps, which are maps whose sections do not overlap.
 use Rattle.std.specs.Prelude.{◌≡◌, ℕ, ◌+◌, ◌==◌, if◌then◌else◌, List, [], ◌∷◌, ◌++◌, map, true}
 use Rattle.std.specs.List.{AllByRecursion}
 use Rattle.std.specs.Ordering.{is_lt}

@@ -10,7 +10,7 @@ pub data LeafMap : Type 0 where
   regular : MapValue → LeafMap
   hermes : HermesValue → LeafMap
 
--- the map itself if it is a regular map; the regular map in it if it is a Hermes map
+-- for a regular map, the map itself; for a Hermes map, the regular map that the Hermes map contains
 abbrev pub held : LeafMap → MapValue
 held (regular m) = m
 held (hermes h) = h.map

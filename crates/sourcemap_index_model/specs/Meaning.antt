@@ -10,9 +10,9 @@ use Rattle.sourcemap_index_model.specs.MapTree.{MapTree, leaf, index, held, MapS
 abbrev pub relative_position : (offset p : ℕ × ℕ) → ℕ × ℕ
 relative_position offset p = (p.0 - offset.0, (if p.0 == offset.0 then p.1 - offset.1 else p.1))
 
--- the lookup of `p` in one section: the first section whose offset is `p`, otherwise the last section whose offset is
--- before `p` (`closest_item`). The lookup uses `p` relative to the offset. No other section is searched.
--- `None` if no offset is at or before `p`
+-- the lookup of `p` in one section. The section is the first section whose offset is `p`, otherwise the last section
+-- whose offset is before `p` (`closest_item`). The section is searched for `p` relative to the section's offset. No
+-- other section is searched. `None` if no offset is at or before `p`, or if the search in the section gives `None`
 abbrev pub closest_answer : {Y : Type 0} → List ((ℕ × ℕ) × (ℕ × ℕ → Option Y)) → ℕ × ℕ → Option Y
 closest_answer sections p =
     option_and_then (λ section. section.1 (relative_position section.0 p))

@@ -1,4 +1,4 @@
--- The sections of an index map moved down by a number of rows.
+-- The sections of an index map, with a number of lines added to the offset of each section.
 use Rattle.std.specs.Prelude.{ℕ, ◌+◌, ◌≤◌, List, map}
 use Rattle.std.specs.List.{AllByRecursion}
 use Rattle.sourcemap_index_model.specs.MapTree.{MapSection}

@@ -13,12 +13,13 @@ ghost use Rattle.sourcemap_index_model.specs.FlatList.{IsOrderly};
 ghost use Rattle.sourcemap_index_model.specs.MapTree.{MapTree};
 ghost use Rattle.sourcemap_index_model.specs.WellFormed.{HasTokensInOrder, IsInOrder, IsWellFormed};
 
-/// A law: the result of decoding a record is determined, be it a map or an error.
+/// A law: a record determines the result of decoding (`TreeDecodes`), which is a map or an error.
 pub fn records_decode_once()
     ensures { (r : Tree) (a b : Result MapTree Error) → TreeDecodes r a → TreeDecodes r b → a ≡ b }
 {}
 
-/// A law: each decoded map is well-formed at every level, and its tokens are sorted.
+/// A law: each decoded map is well-formed at every level. The tokens of each regular map and each
+/// Hermes map are sorted.
 pub fn decoded_maps_are_well_formed()
     ensures well_formed { (r : Tree) (t : MapTree) → TreeDecodes r (Ok t) → IsWellFormed t }
     ensures tokens { (r : Tree) (t : MapTree) → TreeDecodes r (Ok t) → HasTokensInOrder t }
@@ -41,11 +42,12 @@ pub fn same_tree_decides()
     ensures equivalence { IsEquivalence same_tree }
 {}
 
-/// A law: if the tokens of each regular map and each Hermes map are sorted, and flattening returns
-/// no error, the flattened map has one token for each token of these maps. Each new token has the
-/// meaning of its old token. The new generated position counts from the start of the whole map, and
-/// not from the start of a section. The new tokens are sorted by generated position. Tokens at the
-/// same position keep their old order, section after section.
+/// A law: the flattened map has one new token for each token of each regular map and each Hermes
+/// map. Premises: flattening returns no error, and the tokens of each of these maps are sorted. A
+/// new token has the meaning of the old token. The new generated position counts from the start of
+/// the whole map, and not from the start of a section. The new tokens are sorted by generated
+/// position. At the same position, the tokens of an earlier section come before the tokens of a
+/// later section. Tokens of the same regular map or Hermes map keep their order.
 pub fn flat_maps_say_the_flat_list()
     ensures { (t : MapTree) (m : MapValue) → HasTokensInOrder t → flat t ≡ Ok m → SaysFlat t m }
 {}
@@ -69,10 +71,10 @@ pub fn maps_are_written_once()
     ensures { (t : MapTree) (a b : Tree) → IsRecordOf t a → IsRecordOf t b → a ≡ b }
 {}
 
-/// A law: if each regular map and each Hermes map in a map is written as `IsLeafAnswer` requires,
-/// the record of the whole map is as `RecordAnswer` requires. In particular, the record of a
-/// well-formed map decodes to a map with the same meaning at every position. `KeepsParts` says
-/// which parts are kept. The premise `IsInRange` holds for every record in memory: numbers are
+/// A law: the record of a map satisfies `RecordAnswer`. In particular, the record of a well-formed
+/// map decodes to a map with the same meaning at every position. `KeepsParts` says which parts are
+/// kept. The first premise: the record of each regular map and each Hermes map in the map satisfies
+/// `IsLeafAnswer`. The second premise, `IsInRange`, holds for every record in memory: numbers are
 /// below 2^32, and a debug id has 16 bytes.
 pub fn written_records_read_back()
     ensures { (t : MapTree) (r : Tree) → IsWrittenBy IsLeafAnswer t r

@@ -41,7 +41,7 @@ source_read source = unwrap_or source []
 abbrev pub rising : List ℕ → List ℕ
 rising ids = fold (insert_key nat_cmp) [] ids
 
--- no list has more than 4294967295 items
+-- each of the lists `sources`, `names` and `sourcesContent` has at most 4294967295 items
 pub record HasFewItems (r : Fields) : Type 0 where
   pub sources : length (list_or_empty r.sources) ≤ 4294967295
   pub names : length (list_or_empty r.names) ≤ 4294967295
@@ -69,8 +69,8 @@ parts_from r tokens = record {
   contents = list_or_empty r.sources_content;
 }
 
--- the result for a record: `IncompatibleSourceMap` if a list is too long, otherwise the first error of the mappings,
--- otherwise the parts
+-- the result for the record `r`: `IncompatibleSourceMap` if `HasFewItems` does not hold, otherwise the first error of
+-- `mappings` or `rangeMappings` (`TokensAnswer`). If there is no error, the parts
 abbrev pub PartsAnswer : Fields → Result PartsValue Error → Type 0
 PartsAnswer r (Ok p) = HasFewItems r × TokensAnswer r (Ok p.tokens) × (p ≡ parts_from r p.tokens)
 PartsAnswer r (Err e) = ((¬ HasFewItems r) × (e ≡ IncompatibleSourceMap)) ⊎ (HasFewItems r × TokensAnswer r (Err e))

@@ -1,6 +1,7 @@
--- Steps from a record to the parts of a regular map. Definitions that end in `In` state that `RecordParts` holds fields
--- of the record, where a missing text or list counts as empty. Definitions that end in `_read` convert these fields to
--- parts of the map.
+-- The steps of reading a record as the parts of a regular map. `AreTextsIn`, `IsMetadataIn`, `AreListsIn` and
+-- `ArePartsIn` state that the fields of `RecordParts` equal the fields of the record `r`. A missing `mappings`,
+-- `rangeMappings` or list counts as empty. A missing `file`, `sourceRoot` or debug id stays missing. `metadata_read`,
+-- `sources_read` and `parts_read` convert the fields of `RecordParts` to parts of the map.
 use Rattle.std.specs.Prelude.{◌≡◌, ◌≤◌, vec_len, List, map, option_map, string_bytes}
 use Rattle.serde_json.specs.View.{view}
 use Rattle.sourcemap_tokens.specs.declared.tokens.RawToken.{RawToken}
@@ -34,7 +35,7 @@ pub record ArePartsIn (r : Fields) (parts : RecordParts) : Type 0 where
   pub metadata : IsMetadataIn r parts.metadata
   pub lists : AreListsIn r parts.lists
 
--- at most 4294967295 names, sources and contents
+-- each of the lists `names`, `sources` and `contents` has at most 4294967295 items
 pub record HaveFewItems (lists : RecordLists) : Type 0 where
   pub names : vec_len lists.names ≤ 4294967295
   pub sources : vec_len lists.sources ≤ 4294967295

@@ -1,4 +1,4 @@
--- The record that the parts of a map are written as.
+-- Writing the parts of a map: the resulting record.
 use Rattle.std.specs.Prelude.{◌≡◌, ℕ, ◌<◌, ◌^◌, List, length, map, is_some, Option, Some, None, option_map, if◌then◌else◌, ◌==◌, Result, Ok, Err}
 use Rattle.std.specs.List.{list_any}
 use Rattle.serde_json.specs.Data.{string}
@@ -22,8 +22,9 @@ written_contents count contents =
 abbrev pub written_ids : List ℕ → Option (List ℕ)
 written_ids ids = if length ids == 0 then None else Some ids
 
--- `mappings` and `ranges` are the texts that encode these tokens in a map with `names` names. If all tokens are within
--- the bounds of the map (`AllWithin`), the texts decode to the reduced list of tokens
+-- `mappings` and `ranges` encode these tokens in a map with `names` names. If the map has fewer than 2^32 sources and
+-- the tokens satisfy `AllWithin`, the texts decode to `reduced names tokens`. `reduced` removes each token that equals
+-- the token before it, then replaces each name id that is not below `names` by `no_id`
 pub record AreTextsOf (names : ℕ) (tokens : List RawToken) (mappings : List ℕ) (ranges : Option (List ℕ)) : Type 0 where
   pub text : IsWritten names tokens mappings
   pub bits : IsRangeText tokens ranges
@@ -49,15 +50,16 @@ record_with p mappings ranges = record {
   debug_id = p.metadata.debug_id;
 }
 
--- whether the parts are written as this record
+-- `t` is a record of the parts `p`, without sections. The `mappings` and `rangeMappings` of `t` encode the tokens
+-- (`AreTextsOf`). `record_with` defines the other keys
 abbrev pub IsRecordOf : PartsValue → Tree → Type 0
 IsRecordOf p t =
     (mappings : List ℕ) × (ranges : Option (List ℕ))
     × AreTextsOf (length p.names) p.tokens mappings ranges
     × (t ≡ plain (record_with p mappings ranges))
 
--- the result of writing the parts: a record of the parts (`IsRecordOf`). If this record is written as JSON and read
--- again, the record is unchanged (`IsFine`). `RecordAnswer` permits no error. `IsAnswer` also permits out of memory
+-- the result of writing the parts: a record of the parts (`IsRecordOf`), never an error. If this record is written as
+-- JSON and read again, the record is unchanged (`IsFine`). Contracts use `IsAnswer`, which also allows `OutOfMemory`
 abbrev pub RecordAnswer : PartsValue → Result Tree Error → Type 0
 RecordAnswer p (Ok t) = IsRecordOf p t × IsFine t
 RecordAnswer p (Err _) = ⊥

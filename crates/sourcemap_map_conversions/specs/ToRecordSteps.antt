@@ -1,4 +1,4 @@
--- Steps from the parts of a map to its record.
+-- The steps of writing the parts of a map as a record.
 use Rattle.std.specs.Prelude.{◌≡◌, ℕ, List, [], length, map, Option, Some, None, option_map, string_bytes, if◌then◌else◌, is_some}
 use Rattle.std.specs.List.{list_any}
 use Rattle.serde_json.specs.View.{view}

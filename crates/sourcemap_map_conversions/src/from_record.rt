@@ -57,10 +57,11 @@ struct RecordParts {
     lists: RecordLists,
 }
 
-/// Returns the parts of the regular map in a record. Sections and function maps are ignored. The
-/// error is `IncompatibleSourceMap` if there are more than 4294967295 sources, names or contents.
-/// Otherwise, if the mappings are invalid, it is their first error. The only other error is
-/// `OutOfMemory`. The texts of the mappings are dropped before names and sources are converted.
+/// Returns the parts of the regular map in a record. `version`, `sections` and the keys that start
+/// with `x_` are ignored. Returns `IncompatibleSourceMap` if one of the lists `sources`, `names`
+/// and `sourcesContent` has more than 4294967295 items. Otherwise returns the first error of
+/// `mappings` or `rangeMappings`, if there is one. The only other error is `OutOfMemory`.
+/// `mappings` and `rangeMappings` are dropped before names and sources are converted.
 pub fn parts_of_record(alloc: Global, rsm: RawSourceMap) -> Result<Parts>
     ensures answer { IsAnswer parts_view (PartsAnswer (flat (tree rsm))) result }
     ensures few_names { IfOk result (λ parts. vec_len parts.names ≤ 4294967295) }
@@ -183,7 +184,8 @@ fn number_text(alloc: Global, number: Number) -> Result<String>
     Ok(String::new(alloc))
 }
 
-// The text of a name: empty for a value that is neither a string nor a number.
+// The text of a name: the text of a string, or `number_text` of a number. Empty for any other
+// value. The only error is `OutOfMemory`.
 fn name_text(alloc: Global, name: Value) -> Result<String>
     ensures { Gives string_bytes result (Ok (name_read (view name))) }
 {
@@ -208,8 +210,8 @@ fn all_names(alloc: Global, mut names: Vec<Value>) -> Result<Vec<String>>
     Ok(texts)
 }
 
-// Frees the unused capacity if it is at least a quarter of the whole capacity. Does so only at
-// lengths that are multiples of 4096.
+// Frees the unused capacity if the length is a multiple of 4096 and at most about three quarters of
+// the capacity.
 fn shrink_by_quarters(names: &mut Vec<Value>)
     ensures items { names.new.items ≡ names.old.items }
     ensures len { vec_len names.new ≡ vec_len names.old }

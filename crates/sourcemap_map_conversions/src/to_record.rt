@@ -68,7 +68,7 @@ struct WrittenLists {
 /// The sources are not resolved against the root. The record has `file`, `sourceRoot` and a debug
 /// id if the map has them. It has `rangeMappings` if a token is a range token, and `ignoreList` if
 /// this list is not empty. It has `sourcesContent`, with one item for each source, if a source has
-/// contents. Texts are copied. The only error is `OutOfMemory`.
+/// contents. Texts are copied. The only error is `OutOfMemory`. Requires at most 4294967295 names.
 pub fn record_of(
     alloc: Global,
     metadata: &MapMetadata,
@@ -252,7 +252,7 @@ fn ids_if_some(ids: Vec<u32>) -> Option<Vec<u32>>
     if ids.is_empty() { None } else { Some(ids) }
 }
 
-/// Returns the id unchanged. The clause `bytes` states that it has sixteen bytes.
+/// Returns the id unchanged. A caller learns from the clause `bytes` that the id has sixteen bytes.
 pub fn checked_id(id: Option<DebugId>) -> Option<DebugId>
     ensures value { result ≡ id }
     ensures bytes { IfSome result IsId }

@@ -38,7 +38,8 @@ abbrev pub parts_text : Bool → List Entry → List ℕ
 parts_text later [] = []
 parts_text later (e ∷ es) = part later e ++ parts_text (later || is_some e.1) es
 
--- the entry has no value, or the text of its value is UTF-8 and parses to the value
+-- the entry has no value, or a plain value. The compact text of a plain value is UTF-8. This text parses to the value,
+-- unless the value has more than 127 levels
 abbrev pub IsPlainEntry : Entry → Type 0
 IsPlainEntry e = IfSome e.1 IsPlainValue
 

@@ -17,8 +17,9 @@ IsPlainByte c = (c < 128) × (escape_byte c ≡ c ∷ [])
 abbrev pub IsPlainText : List ℕ → Type 0
 IsPlainText text = AllByRecursion IsPlainByte text
 
--- the `mappings` text of these tokens. If the tokens satisfy `AllWithin` for the counts of sources and names, this text
--- and the `rangeMappings` text of the tokens decode to the reduced tokens
+-- the `mappings` text of these tokens in a map with `names` names. The text needs no escape in JSON. Let `sources` be
+-- the number of sources, below 2^32, and let `AllWithin sources names tokens` hold. Then this text and the
+-- `rangeMappings` text of the tokens (empty for `None`) decode to `reduced names tokens`
 pub record IsMappingsText (names : ℕ) (tokens : List RawToken) (text : List ℕ) : Type 0 where
   pub written : IsWritten names tokens text
   pub is_plain : IsPlainText text
@@ -26,8 +27,8 @@ pub record IsMappingsText (names : ℕ) (tokens : List RawToken) (text : List �
       → MappingsAnswer text (option_map_or (λ bits. bits) ranges []) (record { sources = sources; names = names }) (Ok (reduced names tokens))
 
 -- the encoded range flags of these tokens: one part for each line (`LineByLine`). A token that equals the token before
--- it has no flag. The text needs no escape in JSON. If no token is a range token, every part is empty, but
--- `IsRangeText tokens` holds only for `None`
+-- it has no flag. The text needs no escape in JSON. If no token is a range token, every part is empty. Then
+-- `IsRangeText` does not hold for this text, but only for `None`
 pub record IsBitsText (tokens : List RawToken) (text : List ℕ) : Type 0 where
   pub written : LineByLine (IsRangeLine (without_repeats tokens)) tokens text
   pub is_plain : IsPlainText text

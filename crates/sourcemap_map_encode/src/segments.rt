@@ -89,9 +89,9 @@ fn push_difference(text: &mut String, number: u32, against: u32) -> Result<()>
     push_number(text, i64::from(number) - i64::from(against))
 }
 
-// Appends the segment of `token`. Its numbers are differences from the fields of `against`. The
-// caller first moves `against` to the line of `token`. This function then makes `against` the base
-// of the next segment.
+// Appends the segment of `token`. Each number of the segment is a field of `token` minus the same
+// field of `against`. The caller first moves `against` to the line of `token`. This function then
+// copies the fields in the segment from `token` to `against`, as the base of the next segment.
 fn push_segment(
     text: &mut String,
     against: &mut RawToken,

@@ -83,8 +83,8 @@ pub(crate) fn put_texts<W: Write>(
     put(writer, buffer, "]")
 }
 
-/// Writes a number. The clause `small` says that the number is below 2^32. This clause holds on
-/// success and after an error. The errors are `Io` and `OutOfMemory`.
+/// Writes a number. The errors are `Io` and `OutOfMemory`. The clause `small` holds even after an
+/// error, because every `u32` is below 2^32.
 pub(crate) fn put_number<W: Write>(
     alloc: Global,
     writer: &mut W,

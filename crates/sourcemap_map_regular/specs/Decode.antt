@@ -15,8 +15,8 @@ pub use Rattle.sourcemap_map_conversions.specs.FromRecord.{HasFewItems, TokensAn
 abbrev pub map_of : Fields → List RawToken → MapValue
 map_of r tokens = map_in (parts_from r tokens)
 
--- the result of decoding a record: `IncompatibleSourceMap` if a list is too long, otherwise the first error of the
--- mappings, otherwise the map
+-- the result of decoding a record: `IncompatibleSourceMap` if `sources`, `names` or `sourcesContent` has more than
+-- 4294967295 items, otherwise the first error of `mappings` and `rangeMappings`, otherwise the map
 abbrev pub RecordDecodes : Fields → Result MapValue Error → Type 0
 RecordDecodes r (Ok m) = HasFewItems r × TokensAnswer r (Ok m.tokens) × (m ≡ map_of r m.tokens)
 RecordDecodes r (Err e) = ((¬ HasFewItems r) × (e ≡ IncompatibleSourceMap)) ⊎ (HasFewItems r × TokensAnswer r (Err e))

@@ -42,8 +42,9 @@ Restores m back = MeansTheSame back m × KeepsParts back m
 abbrev pub ReadsBack : {Y : Type 0} → (Result Y Error → Type 0) → (Y → Type 0) → Type 0
 ReadsBack Answers IsRestored = (back : _) × Answers (Ok back) × IsRestored back
 
--- the result of encoding a map: its record. If the map is well-formed, the record decodes to a map that restores the
--- encoded map (`Restores`). This definition permits no error, but `IsAnswer` also permits `OutOfMemory`
+-- the result of encoding a map: its record, which reads back as itself (`IsFine`). If the map is well-formed, decoding
+-- the record restores the map (`Restores`). `RecordAnswer` permits no error. A contract adds the error `OutOfMemory` by
+-- `IsAnswer` or `UnlessMemory`
 abbrev pub RecordAnswer : MapValue → Result Tree Error → Type 0
 RecordAnswer m (Ok t) = IsRecordOf m t × IsFine t × (IsWellFormed m → ReadsBack (RecordDecodes (flat t)) (Restores m))
 RecordAnswer m (Err _) = ⊥

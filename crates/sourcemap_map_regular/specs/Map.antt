@@ -66,7 +66,8 @@ contents_of m id = item_at m.contents id
 abbrev pub column_after : ℕ → ℕ → ℕ
 column_after column distance = min (column + distance) 4294967295
 
--- the meaning that a token gives to a generated position; `extra_columns` is added to the original column of the token
+-- the meaning that a token gives to a generated position. `extra_columns` is added to the original column of the token;
+-- the sum is at most 4294967295
 abbrev pub meaning_of : MapValue → RawToken → ℕ → Meaning
 meaning_of m token extra_columns = record {
   source = source_of m token.src_id;

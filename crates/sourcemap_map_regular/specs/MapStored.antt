@@ -1,4 +1,4 @@
--- The value of a map from the values of its parts.
+-- Conversions between the value of a map and the values of the map's parts.
 use Rattle.std.specs.Prelude.{ℕ, ◌≤◌, List, Option, length}
 use Rattle.sourcemap_tokens.specs.declared.tokens.RawToken.{RawToken}
 use Rattle.sourcemap_map_parts.specs.MapMetadata.{MetadataValue}

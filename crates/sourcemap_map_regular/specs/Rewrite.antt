@@ -31,8 +31,8 @@ first_ids m = firsts_of (resolved_sources m) (map (λ t. t.src_id) m.tokens)
 abbrev pub kept_names : Removal → MapValue → List (List ℕ)
 kept_names removal m = cond removal.with_names (used_names m) []
 
--- the contents of the source of token t, if this source, once resolved, is equal to `text`. `None` if t has no source,
--- if its resolved source is not `text`, or if the map has no contents for the source id
+-- the contents of the source of token `t`, if this source resolves to `text`. `None` if `t` has no source, if the
+-- source resolves to another text, or if the map has no contents for the source id
 abbrev pub contents_if : MapValue → List ℕ → RawToken → Option (List ℕ)
 contents_if m text t =
     option_and_then (λ source. cond (bytes_eq source text) (contents_of m t.src_id) None) (source_of m t.src_id)
@@ -42,8 +42,8 @@ contents_if m text t =
 abbrev pub contents_for : MapValue → List ℕ → Option (List ℕ)
 contents_for m text = slice_get (present (map (contents_if m text) m.tokens)) 0
 
--- the prefixes to cut. `~` means the common prefix of all sources that are absolute paths. These sources are taken as
--- they are written, not resolved against the root
+-- the prefixes to remove. `~` means the common prefix of all sources that are absolute paths. The common prefix is
+-- computed before sources are resolved against the root
 abbrev pub cuts : Removal → MapValue → List (List ℕ)
 cuts removal m = all_prefixes removal.prefixes m.sources
 
@@ -82,8 +82,9 @@ pub record IsLoaded (options : RewriteOptions) (m new : MapValue) : Type 0 where
   pub others : SameButContents new (rewritten (removal_of options) m)
   pub contents : AreLoaded options (used_sources m) (contents_before (removal_of options) m) new.contents
 
--- the result of `rewrite`: the rewritten map, with loaded contents if the options ask for them, or the error for a
--- folder that is not absolute
+-- the possible results of `rewrite`, besides `OutOfMemory`. `Ok` holds the rewritten map. If contents are to be loaded,
+-- the rewritten map may also have contents from files (`IsLoaded`). `Err` holds the error for a folder that is not
+-- absolute (`LacksFolder`)
 abbrev pub Rewrites : RewriteOptions → MapValue → Result MapValue Error → Type 0
 Rewrites options m (Ok new) =
     MatchBool options.load_local_source_contents (IsLoaded options m new) (new ≡ rewritten (removal_of options) m)
@@ -91,18 +92,20 @@ Rewrites options m (Err e) = LacksFolder options e
 
 -- Meaning.
 
--- a meaning without what the options remove
+-- the meaning `says`, with two changes: the first matching prefix of `cuts removal m` is removed from the source, and
+-- the name is removed if names are not kept
 abbrev pub without_removed : Removal → MapValue → Meaning → Meaning
 without_removed removal m says = record says {
   source = option_map (without_prefix (cuts removal m)) says.source;
   name = cond removal.with_names says.name None;
 }
 
--- the options leave every meaning unchanged: names are kept, and no prefix is cut
+-- the options leave every meaning unchanged: names are kept, and the options list no prefix
 abbrev pub LeavesMeaning : Removal → Type 0
 LeavesMeaning removal = (removal.with_names ≡ true) × (removal.prefixes ≡ [])
 
--- the new map gives each position the meaning that the old one does, without what is removed
+-- at each generated position, the new map has the meaning of the old map, changed by `without_removed`. If the old map
+-- has no meaning at the position, the new map has none
 abbrev pub MeansLess : Removal → (old new : MapValue) → Type 0
 MeansLess removal old new = (p : ℕ × ℕ) → meaning new p ≡ option_map (without_removed removal old) (meaning old p)
 
@@ -110,11 +113,12 @@ MeansLess removal old new = (p : ℕ × ℕ) → meaning new p ≡ option_map (w
 abbrev pub token_meanings : MapValue → List ((ℕ × ℕ) × Meaning)
 token_meanings m = map (λ t. (destination t, meaning_of m t 0)) m.tokens
 
--- each token has its old generated position and its old meaning, without what is removed
+-- the new map has one token for each old token, in the same order. The new token has the generated position of the old
+-- token, and the meaning of the old token, changed by `without_removed`
 abbrev pub TokensMeanLess : Removal → (old new : MapValue) → Type 0
 TokensMeanLess removal old new = token_meanings new ≡ map (λ entry. (entry.0, without_removed removal old entry.1)) (token_meanings old)
 
--- a second rewriting by the default options changes nothing, if the map has at most 4294967295 sources and at most
--- 4294967295 names
+-- if `m` has at most 4294967295 sources and at most 4294967295 names, rewriting `m` twice by the default options gives
+-- the same map as rewriting `m` once
 abbrev pub IsFinal : MapValue → Type 0
 IsFinal m = length m.sources ≤ 4294967295 → length m.names ≤ 4294967295 → rewritten no_removal (rewritten no_removal m) ≡ rewritten no_removal m

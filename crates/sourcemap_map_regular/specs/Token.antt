@@ -9,7 +9,7 @@ pub use Rattle.sourcemap_map_regular.specs.Map.{TokenValue, says, lookup}
 abbrev pub token_value : Token → TokenValue
 token_value t = record { map_of = t.map.now; raw = t.raw; index = t.index; extra_columns = t.extra_columns }
 
--- the meaning of a token, which its getters return
+-- the meaning of a token: what the getters `get_source`, `get_src`, `get_name` and `is_range` return
 abbrev pub meaning_of_token : Token → Meaning
 meaning_of_token t = says (token_value t)
 

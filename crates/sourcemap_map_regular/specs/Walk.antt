@@ -4,7 +4,7 @@ use Rattle.sourcemap_map_regular.specs.Map.{MapValue, TokenValue, says, lookup}
 use Rattle.sourcemap_map_regular.specs.Token.{token_at}
 use Rattle.sourcemap_source_views.specs.Walk.{guessed_name}
 
--- the list that begins with the token and continues with the others; an empty list if there is no token
+-- the token, followed by `tokens`. If there is no token, the list is empty, even if `tokens` is not empty
 abbrev pub in_front : Option TokenValue → List TokenValue → List TokenValue
 in_front None tokens = []
 in_front (Some token) tokens = token ∷ tokens
@@ -22,7 +22,8 @@ position_of t = (t.raw.dst_line, t.raw.dst_col)
 abbrev pub name_of : TokenValue → Option (List ℕ)
 name_of t = (says t).name
 
--- the original name of the function with this minified name, guessed from a token and those before it
+-- the original name of the function with the name `minified` in the generated text `source`. The name is guessed from
+-- the token `t` and the tokens before `t`, at most 128 tokens in all. `None` if `guessed_name` finds no name
 abbrev pub guessed_from : (source minified : List ℕ) → TokenValue → Option (List ℕ)
 guessed_from source minified t = guessed_name position_of name_of source minified (t ∷ tokens_before t.map_of t.index)
 

@@ -51,8 +51,8 @@ impl SourceMap {
         self.names.clear();
     }
 
-    /// Adds a source id to the ignore list. There need not be such a source. The only error is
-    /// `OutOfMemory`.
+    /// Adds a source id to the ignore list. The map need not have a source with this id. The only
+    /// error is `OutOfMemory`.
     pub fn add_to_ignore_list(&mut self, id: u32) -> Result<()>
         ensures { Changes result self.old self.new
             (record self.old { ignored = insert_key nat_cmp self.old.ignored id }) }
@@ -61,8 +61,10 @@ impl SourceMap {
         Ok(())
     }
 
-    /// Sets the contents of the source with this id, which must exist; `None` removes them. The
-    /// list of contents then has one item for each source. The only error is `OutOfMemory`.
+    /// Sets the contents of the source with the id `id`; `None` removes the contents. The map must
+    /// have a source with this id. On success, the list of contents has one item for each source:
+    /// missing items are added as `None`, and surplus items are dropped. The only error is
+    /// `OutOfMemory`.
     pub fn set_source_contents(&mut self, id: u32, contents: Option<&str>) -> Result<()>
         requires { id < length self.old.sources }
         ensures { Changes result self.old self.new (record self.old {

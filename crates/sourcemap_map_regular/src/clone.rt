@@ -1,4 +1,4 @@
-//! `clone` of a map, which can run out of memory.
+//! `clone` of a map. The only error is `OutOfMemory`.
 ghost use Rattle.std.specs.Prelude.{Ok};
 ghost use Rattle.sourcemap_errors.specs.Answer.{Gives};
 

@@ -83,8 +83,9 @@ fn decode_owned(alloc: Global, bytes: Vec<u8>) -> Result<SourceMap>
 impl SourceMap {
     /// Decodes a regular map from bytes, which may begin with a junk header. A map of another kind
     /// is not decoded: the error is `IncompatibleSourceMap`. The other errors are `Io` of kind
-    /// `InvalidData` for an invalid header, `BadJson(Parse)` if the rest is not JSON,
-    /// `BadJson(Shape)` if the JSON is no record, and the errors of `decode_regular`.
+    /// `InvalidData` for an invalid header, `BadJson(Parse)` if the rest does not parse (see
+    /// `JsonFault::Parse`), `BadJson(Shape)` if the JSON is no record, and the errors of
+    /// `decode_regular`.
     pub fn from_slice(alloc: Global, bytes: &[u8]) -> Result<Self>
         ensures answer { IsAnswer (λ m. m) (BytesHaveResult RegularDecodes bytes.now) result }
         // Unless memory runs out, the bytes determine the result. If the result is an `Io` error,

@@ -20,8 +20,8 @@ fn same_maps(a: &SourceMap, b: &SourceMap) -> bool
 }
 
 /// Two maps are equal exactly if these parts are equal: file, `sourceRoot`, tokens, names, sources
-/// as they are written, contents, ignore list and debug id. Lists of contents of different lengths
-/// are not equal.
+/// as they are written, contents, ignore list and debug id. Equal lists of contents have the same
+/// length: `[]` and `[None]` are not equal.
 impl PartialEq for SourceMap {
     ghost eq = { same_map };
 

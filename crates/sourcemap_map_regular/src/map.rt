@@ -197,11 +197,11 @@ impl SourceMap {
         u32::try_from(self.tokens.len()).unwrap_or(u32::MAX)
     }
 
-    /// The token closest to a generated position: the first token at the position, or else the last
-    /// token before it, on its line or on an earlier one. `None` if all tokens are after the
-    /// position. If the token is a range token on the line of the position, `get_src_col` of the
-    /// token adds the number of columns from the token to the position. If the sum is greater than
-    /// 4294967295, `get_src_col` returns 4294967295.
+    /// The token closest to a generated position: the first token at the position, otherwise the
+    /// last token before the position, even if this token is on an earlier line. `None` if all
+    /// tokens are after the position. If the token is a range token on the line of the position,
+    /// `get_src_col` of the token returns the original column plus the number of columns from the
+    /// token to the position, but at most 4294967295.
     #[inline(always)]
     pub fn lookup_token(&self, line: u32, col: u32) -> Option<Token<'_>>
         ensures value { option_map token_value result ≡ lookup self.now (line, col) }
@@ -210,9 +210,10 @@ impl SourceMap {
         self.lookup_token_steps(line, col).0
     }
 
-    /// The token that `lookup_token` returns, and how often the lookup compared `line` or `col`
-    /// with a number. This count is at most 2 (d + 1), where the number of tokens has d binary
-    /// digits. The lookup allocates no memory.
+    /// The token that `lookup_token` returns, and the number of comparisons that the lookup made.
+    /// Each comparison is between `line` and the line of a token, or between `col` and the column
+    /// of a token. If the number of tokens has d binary digits, there are at most 2 (d + 1)
+    /// comparisons: at most 22 for 1000 tokens. The lookup allocates no memory.
     #[inline(always)]
     pub fn lookup_token_steps(&self, line: u32, col: u32) -> (Option<Token<'_>>, u32)
         ensures value { option_map token_value result.0 ≡ lookup self.now (line, col) }

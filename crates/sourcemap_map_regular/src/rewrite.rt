@@ -22,16 +22,18 @@ impl SourceMap {
 
     /// Reduces the map to the sources and names that tokens use, each once, in the order of first
     /// use. Sources are resolved against `sourceRoot`, and the result has no root. Used sources
-    /// that resolve to one text become one source. If contents are kept, the new source gets
-    /// contents from the first of these sources, in the order of first use, that has contents. File
-    /// and debug id are kept, and the ignore list is cleared. `options` says whether names and
-    /// contents are kept, and which prefixes are removed from sources.
+    /// that resolve to the same text become one new source. If contents are kept, the new source
+    /// gets contents from the first of these sources, in the order of first use, that has contents.
+    /// File and debug id are kept, and the ignore list is cleared. `options` says whether names and
+    /// contents are kept, and which prefixes are removed from sources. Sources that become equal
+    /// only when prefixes are removed stay separate sources.
     ///
-    /// With `load_local_source_contents`, contents are loaded from files for sources without
-    /// contents, or for all sources if contents are not kept. Each of these sources, before any
-    /// prefix is removed, is resolved against the URL of a folder. The folder is `base_path` if
-    /// this path is absolute, otherwise `base_path` appended to `current_dir`. Files that cannot be
-    /// read or are not UTF-8 are skipped.
+    /// With `load_local_source_contents`, each new source without kept contents gets contents from
+    /// a file: every new source, if contents are not kept. To find the file, a source is resolved
+    /// against the URL of a folder, before any prefix is removed. The folder is `base_path` if this
+    /// path is absolute, otherwise `base_path` appended to `current_dir`. A source is skipped if it
+    /// resolves to no file path, or if its file cannot be read or is not UTF-8. A very long source
+    /// may also be skipped (see `RewriteOptions`).
     ///
     /// The error is `Io` of kind `InvalidInput` if contents are to be loaded and the folder is not
     /// absolute. The only other error is `OutOfMemory`.
@@ -43,7 +45,7 @@ impl SourceMap {
         // the same way.
         ensures meaning { IfOk result (λ m. MeansLess (removal_of options.now) self m) }
         ensures tokens { IfOk result (λ m. TokensMeanLess (removal_of options.now) self m) }
-        // If names are kept and no prefix is cut, the meaning is the same.
+        // If names are kept and `options` lists no prefix, each position keeps its meaning.
         ensures same { LeavesMeaning (removal_of options.now)
             → IfOk result (λ m. MeansTheSame m self) }
         ensures well_formed { IfOk result (λ m. IsWellFormed self → IsWellFormed m) }
@@ -53,8 +55,9 @@ impl SourceMap {
         Ok(map)
     }
 
-    /// The map that `rewrite` returns, and for each of its sources one old id. It is the old source
-    /// id of the first token that uses this source. The errors are those of `rewrite`.
+    /// Rewrites the map as `rewrite` does. Also returns one old source id for each new source, in
+    /// the order of the new sources: the old source id of the first token that uses the new source.
+    /// The errors are those of `rewrite`.
     pub fn rewrite_with_ids<F: Files>(
         self,
         rt: &F,
@@ -109,7 +112,9 @@ impl SourceMap {
     }
 }
 
-/// A law: the default options remove nothing, and a second rewriting by them changes nothing.
+/// A law: the default options keep names and contents, and list no prefix. With these options,
+/// rewriting a map twice gives the same map as rewriting it once, if the map has at most
+/// 4294967295 sources and at most 4294967295 names. Every `SourceMap` is such a map.
 pub fn default_rewriting_is_final()
     ensures default { (options : RewriteOptions)
         → IsDefault options → removal_of options ≡ no_removal }

@@ -9,9 +9,9 @@ use std::fmt;
 use std::str::from_utf8_unchecked;
 
 /// A token of a map, with a borrow of the map. Its getters return its source and its name as texts.
-/// A lookup for a position can return a range token on the same line. Then `get_src_col` returns
-/// the original column plus the columns from the token to the position, but at most 4294967295. For
-/// any other token, `get_src_col` returns the original column.
+/// If a lookup of a position finds a range token on the same line, `get_src_col` returns the
+/// original column plus the columns from the token to the position, but at most 4294967295. For any
+/// other token, `get_src_col` returns the original column.
 #[derive(Clone, Copy)]
 pub struct Token<'a> {
     pub(crate) map: &'a SourceMap,
@@ -78,9 +78,9 @@ impl<'a> Token<'a> {
     }
 
     /// The original column, counted from 0 in UTF-16 units; 4294967295 if the map is well-formed
-    /// and the token has no source. If this is a range token that a lookup returned for a position
-    /// on its generated line, the columns from the token to the position are added. The sum is at
-    /// most 4294967295.
+    /// and the token has no source. If a lookup of a position found this token, and the token is a
+    /// range token on the same line, the columns from the token to the position are added. The sum
+    /// is at most 4294967295.
     pub fn get_src_col(&self) -> u32
         ensures { result ≡ (meaning_of_token self.now).column }
     {
@@ -214,9 +214,9 @@ impl fmt::Display for Token<'_> {
 
     ghost output = { λ token. Stated (token_text (meaning_of_token token)) };
 
-    /// Writes `source:line:column`, the original position, with `<unknown>` if there is no source,
-    /// and ` name=NAME` if there is a name. The alternate form adds ` (line:column)`, the generated
-    /// position, and ` (range)` for a range token.
+    /// Writes the original position as `source:line:column`. Writes `<unknown>` for the source if
+    /// there is no source. Adds ` name=NAME` if there is a name. The alternate form then adds the
+    /// generated position as ` (line:column)`, and adds ` (range)` for a range token.
     fn fmt<W: fmt::Write>(&self, f: &mut fmt::Formatter<W>) -> fmt::Result {
         self.put(f)?;
         if f.alternate() {

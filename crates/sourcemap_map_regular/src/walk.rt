@@ -1,4 +1,4 @@
-//! Guesses the original name of a function from the tokens before a position.
+//! Guesses the original name of a function from the tokens at and before a position.
 ghost use Rattle.std.specs.Prelude.{◌≡◌};
 ghost use Rattle.std.specs.Option.{option_copied};
 
@@ -44,13 +44,14 @@ impl SourceMap {
     ghost use Rattle.sourcemap_map_regular.specs.Walk.{function_name};
 
     /// Guesses the original name of the function at a generated position. `view` is a view of the
-    /// generated text. The search starts at the token closest to the position and goes back over
-    /// the tokens of the map, at most 128 in all. Two consecutive tokens of the search match if the
-    /// identifier at the position of the first token is `minified_name` and the identifier at the
-    /// position of the second token is `function`. White space between a position and the
-    /// identifier is skipped, but not past the end of the line. Returns the name of the first token
-    /// of the first match. Returns `None` if no two tokens match, if the first token of the first
-    /// match has no name, or if `minified_name` is no identifier. The call allocates no memory.
+    /// generated text. The search starts at the token that `lookup_token` returns for the position,
+    /// and goes back over the tokens of the map, at most 128 in all. For each token, the search
+    /// reads the identifier at the token's generated position. White space before the identifier is
+    /// skipped, but not past the end of the line. A token matches if its identifier is
+    /// `minified_name` and the next token of the search has the identifier `function`. Returns the
+    /// name of the first token that matches. Returns `None` if no token matches, if the first token
+    /// that matches has no name, or if `minified_name` is no identifier. The call allocates no
+    /// memory.
     pub fn get_original_function_name(
         &self,
         line: u32,

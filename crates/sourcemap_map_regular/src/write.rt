@@ -29,9 +29,9 @@ pub fn encode_to_vec<M: Encodable>(alloc: Global, map: &M) -> Result<Vec<u8>>
 }
 
 /// Writes the compact JSON text of the map to a borrowed writer. The text is complete before the
-/// first write. So nothing is written if the record cannot be made, or if memory runs out before
-/// the first write. If a write fails, the error is `Io`, or `OutOfMemory` if the write ran out of
-/// memory. The writer may then hold any part of the text.
+/// first write. So nothing is written if `as_raw_sourcemap` returns an error, or if memory runs out
+/// before the first write. If a write fails, the error is `Io`, or `OutOfMemory` if the write ran
+/// out of memory. The writer may then hold any part of the text.
 pub fn encode_to<M: Encodable, W: Write>(alloc: Global, map: &M, writer: &mut W) -> Result<()>
     ensures written { OnOk result ((text : List ℕ) × IsEncoded (M.encodes map.now) text
         × Appends (W.contents writer.old) (W.contents writer.new) text) }
@@ -83,8 +83,8 @@ impl SourceMap {
     }
 }
 
-/// A law: if a map is encoded, the text is the compact text of the JSON value of the map's record.
-/// The reason is that this value contains no number with a fraction.
+/// A law: the encoded text of a map is the compact text of the JSON value of the map's record. This
+/// value has no floating-point number, so `IsEncoded` determines the text.
 pub fn written_maps_are_compact()
     ensures { (m : MapValue) (text : List ℕ)
         → IsEncoded (RecordAnswer m) text → IsCompactTextOf m text }

@@ -1,4 +1,4 @@
--- The prefixes that `rewrite` cuts from sources.
+-- The prefixes that `rewrite` strips from sources.
 use Rattle.std.specs.Prelude.{ℕ, cond, not, List, [], ◌∷◌, ◌++◌, filter, codes, Option, None}
 use Rattle.std.specs.List.{list_any}
 use Rattle.std.specs.Str.{bytes_eq}
@@ -11,7 +11,7 @@ abbrev pub common_if : (prefixes texts : List (List ℕ)) → Option (List ℕ)
 common_if prefixes texts =
     cond (list_any (λ prefix. bytes_eq prefix (codes "~")) prefixes) (common_prefix texts) None
 
--- the prefixes other than `~`, then the common prefix that `~` means
+-- the prefixes other than `~`, then the result of `common_if` unless it is `None`
 abbrev pub all_prefixes : (prefixes texts : List (List ℕ)) → List (List ℕ)
 all_prefixes prefixes texts =
     filter (λ prefix. not (bytes_eq prefix (codes "~"))) prefixes ++ present (common_if prefixes texts ∷ [])

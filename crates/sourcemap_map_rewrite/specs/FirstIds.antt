@@ -1,4 +1,4 @@
--- The first old number of each text that is kept.
+-- For each text in use, the old number at the first use of the text.
 use Rattle.std.specs.Prelude.{ℕ, Bool, false, List, map, slice_get, unwrap_or}
 use Rattle.std.specs.List.{find}
 use Rattle.std.specs.Option.{option_map_or}

@@ -7,12 +7,13 @@ use Rattle.sourcemap_map_rewrite.specs.KeptContents.{AreKept}
 use Rattle.sourcemap_map_rewrite.specs.Options.{options_folder}
 use Rattle.sourcemap_map_rewrite.specs.declared.options.RewriteOptions.{RewriteOptions}
 
--- the options give a folder, and loading turns the contents `before` into the contents `after`. It may add contents
--- only to a source that had none and that resolves to the path of a file
+-- the options give a folder, and loading turns the contents `before` into the contents `after`. Existing contents stay.
+-- Each source that gets contents resolves to the path of a file
 abbrev pub AreLoaded : RewriteOptions → List (List ℕ) → (before after : List (Option (List ℕ))) → Type 0
 AreLoaded options sources before after = IsSomeAnd (options_folder options) (λ folder. Fills folder sources before after)
 
--- the error if contents are to be loaded and the folder is not absolute
+-- the error if `load_local_source_contents` is true and neither `base_path` nor `current_dir` is absolute: `Io` of
+-- kind `InvalidInput`
 pub record LacksFolder (options : RewriteOptions) (e : Error) : Type 0 where
   pub loads : options.load_local_source_contents ≡ true
   pub none : options_folder options ≡ None

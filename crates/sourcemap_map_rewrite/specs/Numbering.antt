@@ -9,12 +9,12 @@ use Rattle.sourcemap_map_rewrite.specs.Kept.{present, kept_once, number_in}
 use Rattle.sourcemap_map_rewrite.specs.declared.numbering.NewNumbers.{NewNumbers}
 use Rattle.sourcemap_map_rewrite.specs.declared.numbering.Numbering.{Numbering}
 
--- the texts, with the optional text appended if there is one and the list lacks it
+-- for `Some text`: `texts`, with `text` appended if `texts` lacks `text`. For `None`: `texts`
 abbrev pub with_text_if : List (List ℕ) → Option (List ℕ) → List (List ℕ)
 with_text_if texts None = texts
 with_text_if texts (Some text) = with_text texts text
 
--- the first result of `f` along the list that is not `None`; `None` if there is no such result
+-- the first result of `f` that is not `None`, in the order of the list; `None` if each result is `None`
 abbrev pub first_some : {X Y : Type 0} → (X → Option Y) → List X → Option Y
 first_some f [] = None
 first_some f (x ∷ xs) = option_or (f x) (first_some f xs)
@@ -32,7 +32,7 @@ texts_in_use texts ids = kept_once (present (map (slice_get texts) ids))
 abbrev pub seen_texts : List (List ℕ) → NewNumbers → List (List ℕ)
 seen_texts texts n = texts_in_use texts n.order.items
 
--- the old number has a new number, which is the index of its text in `seen_texts`
+-- `id` is an old number of `text`. The new number of `id` is `number`: the index of `text` in `seen_texts`
 pub record IsSeen (texts : List (List ℕ)) (n : NewNumbers) (id : ℕ) : Type 0 where
   pub text : List ℕ
   pub number : ℕ
@@ -40,7 +40,7 @@ pub record IsSeen (texts : List (List ℕ)) (n : NewNumbers) (id : ℕ) : Type 0
   pub numbered : slice_get n.numbers.items id ≡ Some number
   pub interned : id_of text (seen_texts texts n) ≡ Some number
 
--- the old number has no new number, or was seen
+-- the old number `id` has no new number, or `n.order` contains `id`
 abbrev pub IsSeenOrNot : (texts : List (List ℕ)) → NewNumbers → ℕ → Type 0
 IsSeenOrNot texts n id =
     (slice_get n.numbers.items id ≡ Some no_id) ⊎ ((k : ℕ) × (slice_get n.order.items k ≡ Some id))

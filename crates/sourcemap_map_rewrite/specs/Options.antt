@@ -4,7 +4,7 @@ use Rattle.std.specs.Option.{option_copied}
 use Rattle.sourcemap_source_files.specs.Loading.{folder_of}
 use Rattle.sourcemap_map_rewrite.specs.declared.options.RewriteOptions.{RewriteOptions}
 
--- what `rewrite` keeps, and which prefixes it cuts from sources
+-- what `rewrite` keeps, and which prefixes it removes from sources
 pub record Removal : Type 0 where
   pub with_names : Bool
   pub with_contents : Bool
@@ -17,7 +17,7 @@ removal_of options = record {
   prefixes = map (λ prefix. prefix.now) options.strip_prefixes.now;
 }
 
--- the default options: names and contents are kept, no file is read, no prefix is cut, and no folder is given
+-- the default options: names and contents are kept, no file is read, no prefix is removed, and no folder is given
 pub record IsDefault (options : RewriteOptions) : Type 0 where
   pub names : options.with_names ≡ true
   pub contents : options.with_source_contents ≡ true

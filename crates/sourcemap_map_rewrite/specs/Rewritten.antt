@@ -14,7 +14,8 @@ use Rattle.sourcemap_map_rewrite.specs.Numbering.{texts_in_use, numbered_by}
 use Rattle.sourcemap_map_rewrite.specs.declared.options.RewriteOptions.{RewriteOptions}
 use Rattle.sourcemap_map_rewrite.specs.declared.rewritten.RewrittenParts.{RewrittenParts}
 
--- the contents of the token's source, if that source is this text
+-- the contents for the source id of the token `t`, if the source of `t` is `text`. `None` if `t` has another source or
+-- no source, or if the source id has no contents
 abbrev pub contents_among : List (List ℕ) → List (Option (List ℕ)) → List ℕ → RawToken → Option (List ℕ)
 contents_among sources contents text t =
     option_and_then (λ source. cond (bytes_eq source text) (item_at contents t.src_id) None) (slice_get sources t.src_id)
@@ -33,7 +34,7 @@ sources_used sources tokens = texts_in_use sources (map (λ t. t.src_id) tokens)
 abbrev pub names_used : List (List ℕ) → List RawToken → List (List ℕ)
 names_used names tokens = texts_in_use names (map (λ t. t.name_id) tokens)
 
--- the old number of each source in use; if it has several, the number by which a token first uses it
+-- for each source in `sources_used`, in the same order: the source id of the first token that uses the source
 abbrev pub first_ids_used : List (List ℕ) → List RawToken → List ℕ
 first_ids_used sources tokens = firsts_of sources (map (λ t. t.src_id) tokens)
 
@@ -60,7 +61,7 @@ pub record AreRewritten (sources names paths : List (List ℕ)) (contents : List
   pub first_ids_are : p.first_ids.items ≡ first_ids_used sources tokens
   pub contents_are : AreResultingContents options sources contents tokens p.contents.items
 
--- the names, the sources and the contents are at most 4294967295 each, so that each item has an id
+-- the lists of names, sources and contents have at most 4294967295 items each, so every index is less than `no_id`
 pub record AreFew (p : RewrittenParts) : Type 0 where
   pub names : vec_len p.names ≤ 4294967295
   pub sources : vec_len p.sources ≤ 4294967295

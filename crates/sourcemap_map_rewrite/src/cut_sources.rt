@@ -1,4 +1,4 @@
-//! Cuts prefixes from sources.
+//! Strips prefixes from sources.
 ghost use Rattle.std.specs.Prelude.{◌≡◌, ◌∷◌, [], ◌++◌, None, Ok, OnOk, IsOkUnless, codes, cond, filter, map, not, option_map, string_bytes};
 ghost use Rattle.std.specs.List.{list_any};
 ghost use Rattle.std.specs.Str.{bytes_eq};
@@ -98,8 +98,8 @@ fn cut_all(alloc: Global, texts: &mut [String], prefixes: &[String]) -> Result<(
     Ok(())
 }
 
-// The prefixes to cut: `prefixes` without `~`. If `~` was among them, and the absolute paths among
-// `paths` have a common prefix, this common prefix comes last.
+// The prefixes to strip: `prefixes` without `~`. If `prefixes` contains `~`, the common prefix of
+// the absolute paths among `paths` is appended, unless `find_common_prefix` returns `None`.
 pub(crate) fn all_prefixes(
     alloc: Global,
     prefixes: &[&str],

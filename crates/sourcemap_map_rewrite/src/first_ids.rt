@@ -1,5 +1,5 @@
-//! Finds one old number for each text in use. If a text has several old numbers, the result has the
-//! first of them in `order`.
+//! Finds one old number for each text in use. If equal texts have several old numbers, the number
+//! that was used first is taken.
 ghost use Rattle.std.specs.Prelude.{◌≡◌, ℕ, List, IfOk, IsOkUnless};
 ghost use Rattle.std.specs.List.{AllByRecursion};
 ghost use Rattle.sourcemap_errors.specs.declared.errors.Error.TheVariants.{OutOfMemory};
@@ -11,7 +11,9 @@ use crate::numbering::NewNumbers;
 use sourcemap_errors::errors::Result;
 use std::alloc::Global;
 
-// For each new number, the first old number in `numbers.order` that has this new number.
+// For each new number, the first old number in `numbers.order` that has this new number. New
+// numbers must be assigned in the order of first use, as in `Numbering`. Each old number in
+// `numbers.order` must have a new number below `count`. The only error is `OutOfMemory`.
 pub(crate) fn first_ids(alloc: Global, numbers: &NewNumbers, count: usize) -> Result<Vec<u32>>
     requires { AllByRecursion (HasNewNumber numbers.now.numbers.items count) numbers.now.order.items }
     ensures ok { (texts : List (List ℕ)) → AreNumbered texts numbers.now

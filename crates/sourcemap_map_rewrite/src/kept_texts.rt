@@ -18,9 +18,10 @@ fn take_text(alloc: Global, texts: &mut Vec<String>, id: usize) -> String
     mem::replace(&mut texts[id], String::new(alloc))
 }
 
-// Returns the texts in use, in the order of their new numbers. Each result is moved out of `texts`,
-// not copied. If equal texts have several old numbers, the text at the first of these numbers in
-// `numbers.order` is moved, and the others are dropped. The only error is `OutOfMemory`.
+// Returns the texts in use, each once, in the order of their new numbers. The texts are moved out
+// of `texts`, not copied. Among equal texts, the text whose old number comes first in
+// `numbers.order` is moved. All other texts are dropped. The only error is `OutOfMemory`.
+// `numbers` must be the new numbers of `texts` (`AreNumbered`).
 pub(crate) fn kept_texts(
     alloc: Global,
     mut texts: Vec<String>,

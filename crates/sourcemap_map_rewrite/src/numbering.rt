@@ -71,11 +71,11 @@ impl<'a> Numbering<'a> {
         Ok(number)
     }
 
-    // Finds the number of `text` in `ids`. A new text gets the next number. Records this number as
-    // the new number of the old number `id`, and appends `id` to `order`. Returns the new number.
-    // The caller must check that `id` has no new number yet. The old number `id` must be below the
-    // length of `numbers`. If `text` is new, `ids` must have fewer than 4294967295 texts. The only
-    // error is `OutOfMemory`.
+    // Returns the number of `text` in `ids`. If `ids` lacks `text`, first appends `text` to `ids`.
+    // Sets `numbers[id]` to the returned number, and appends `id` to `order`. The caller checks
+    // beforehand that `id` has no new number yet. The old number `id` must be below the length of
+    // `numbers`. If `ids` lacks `text`, `ids` must have fewer than 4294967295 texts. The only error
+    // is `OutOfMemory`.
     fn assign(&mut self, text: &'a str, id: u32) -> Result<u32>
         requires within { id < vec_len self.old.seen.numbers }
         requires below_max { id_of text.now self.old.ids ≡ None → length self.old.ids < 4294967295 }

@@ -42,8 +42,9 @@ fn renumber_each(
 
 // Returns the tokens with new source ids and new name ids, and a `Renumbering`. For each old source
 // id and each old name id, the `Renumbering` has the new id, or `NO_ID` if no token uses the old
-// id. The ids of equal texts become one new id. In a token, an id that is not an index of its list
-// becomes `NO_ID`. The only error is `OutOfMemory`.
+// id. The ids of equal texts become one new id. In a token, a source id past the end of `sources`
+// becomes `NO_ID`, and a name id past the end of `names` too. The only error is `OutOfMemory`.
+// Requires at most 4294967295 sources and at most 4294967295 names.
 pub(crate) fn renumber(
     alloc: Global,
     tokens: TokenList,

@@ -54,15 +54,17 @@ pub struct RewrittenParts {
     pub sources: Vec<String>,
     /// The contents of `sources`, by index; an empty list if contents are neither kept nor loaded.
     pub contents: Vec<Option<SourceView>>,
-    /// For each of `sources` its old id. If it had several, the id by which a token first uses it.
+    /// For each of `sources`, the old source id of the first token that uses this source.
     pub first_ids: Vec<u32>,
 }
 
 /// Rewrites the parts of a map. The list `with_root` contains the sources after resolution against
 /// `sourceRoot`; `None` means that resolution changes nothing. The prefix `~` means the common
 /// prefix of the absolute paths among `sources`. The option `with_names` is ignored; the caller
-/// applies it to `names` beforehand, with [`names_if`]. The errors are `Io` of kind `InvalidInput`
-/// if contents are to be loaded and the folder is not absolute, and `OutOfMemory`.
+/// applies it to `names` beforehand, with [`names_if`]. There must be at most 4294967295 sources
+/// and at most 4294967295 names. If `load_local_source_contents` is true and neither `base_path`
+/// nor `current_dir` starts with `/`, the error is `Io` of kind `InvalidInput`. The only other
+/// error is `OutOfMemory`.
 pub fn rewritten_parts<F: Files>(
     rt: &F,
     alloc: Global,
@@ -86,7 +88,7 @@ pub fn rewritten_parts<F: Files>(
     let prefixes = all_prefixes(alloc, options.strip_prefixes, sources.as_slice())?;
     let texts = into_rooted_or_plain(with_root, sources);
     let texts = kept_texts(alloc, texts, &numbers.sources)?;
-    // prefixes are cut later, because loading needs the whole source to find its file
+    // load contents before prefixes are stripped: the unstripped source leads to the file
     let contents = resulting_contents(
         rt,
         alloc,

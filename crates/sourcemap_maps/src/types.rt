@@ -1,4 +1,4 @@
-//! Regular maps, their tokens and iterators.
+//! Regular maps, their tokens and iterators, and the options of `rewrite`.
 
 pub use sourcemap_map_regular::iterators::{
     IgnoreListIter, NameIter, SourceContentsIter, SourceIter, TokenIter,
