@@ -2,11 +2,11 @@
 use Rattle.std.specs.Prelude.{◌≡◌, ℕ, ◌+◌, ◌*◌, ◌/◌, ◌%◌, ◌^◌, ◌≤◌, bit_xor, slice_get, IsSomeAnd}
 use Rattle.sourcemap.specs.Types.{MapValue}
 
--- the increment of the generator's state
+-- each draw of the generator splitmix64 first adds this increment to the state, modulo 2^64
 abbrev pub step : ℕ
 step = 11400714819323198485
 
--- a round of the generator splitmix64: an exclusive or with the shifted number, then a multiplication
+-- a mixing step of the generator splitmix64; in Rust notation `(n ^ (n >> shift)) * factor`, modulo 2^64
 abbrev pub stirred : ℕ → ℕ → ℕ → ℕ
 stirred shift factor n = (bit_xor n (n / 2 ^ shift) * factor) % 2 ^ 64
 

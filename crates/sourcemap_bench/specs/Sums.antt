@@ -18,7 +18,7 @@ worth (Some t) =
 abbrev pub lookup_sum : MapTree → List (ℕ × ℕ) → ℕ → ℕ
 lookup_sum t positions start = fold (λ sum p. mixed sum (worth (lookup t p))) start positions
 
--- the checksum `sum` after the numbers of these tokens are added to it, in order
+-- the new checksum after `worth` of each of these tokens is added to the checksum `sum`, in order
 abbrev pub with_all : ℕ → List TokenValue → ℕ
 with_all sum tokens = fold (λ sum t. mixed sum (worth (Some t))) sum tokens
 

@@ -38,7 +38,8 @@ SizeOfFlat t old new = (m : MapValue) × FlatAnswer t (Ok m) × (new ≡ counted
 abbrev pub SizeOfAdjusted : MapValue → MapValue → ℕ → ℕ → Type 0
 SizeOfAdjusted m n old new = (c : MapValue) × (adjusted m n ≡ Ok c) × (new ≡ counted old (length c.tokens))
 
--- the checksum after a round. For lookups it is specified only if sections are sorted at every level
+-- a round changes the checksum from `old` to `new`. For a `Lookup` in an index map whose sections are not sorted by
+-- offset at every level, `new` may be any checksum
 abbrev pub RoundGives : Work → ℕ → ℕ → Type 0
 RoundGives (Decode bytes) old new = SizeOfDecoded bytes.items old new
 RoundGives (DecodeReader bytes) old new = SizeOfDecoded bytes.items old new
@@ -50,7 +51,7 @@ RoundGives (Rewrite m) old new = new ≡ mixed old (length (rewritten no_removal
 RoundGives (Flatten i) old new = SizeOfFlat (index_tree (index_value i.value)) old new
 RoundGives (Compose m n) old new = SizeOfAdjusted m.value n.value old new
 
--- the checksum after this many rounds; before the first round it is 0
+-- `RoundsGive work n sum`: the checksum after `n` rounds is `sum`. Before the first round the checksum is 0
 abbrev pub RoundsGive : Work → ℕ → ℕ → Type 0
 RoundsGive work zero sum = sum ≡ 0
 RoundsGive work (suc n) sum = (before : ℕ) × RoundsGive work n before × RoundGives work before sum

@@ -7,7 +7,8 @@ use Rattle.sourcemap.specs.TreeEncoder.{RecordAnswer}
 use Rattle.sourcemap.specs.Trees.{MapTree}
 use Rattle.sourcemap.specs.declared.errors.Error.{Error}
 
--- the text of the decoded map was appended to the writer's bytes
+-- `bytes` decodes to a map. Appending the JSON text of this map to the writer's bytes `old` gave `new`. If `old` is
+-- `None`, the writer's bytes are unknown, and `new` may be anything
 abbrev pub IsWritten : List ℕ → Option (List ℕ) → Option (List ℕ) → Type 0
 IsWritten bytes old new = (t : MapTree) × BytesDecode bytes (Ok t)
     × ((text : List ℕ) × IsEncoded (RecordAnswer t) text × Appends old new text)

@@ -67,7 +67,8 @@ fn parse_repeat(word: &str, rounds: &str) -> Option<Command>
     Some(Command::Repeat(operation, rounds))
 }
 
-/// Parses `write`, or an operation and a decimal number below 2^32. `None` for other words.
+/// Parses `write`, or an operation and a decimal number below 2^32. The number may start with `+`.
+/// Returns `None` for other words.
 pub fn parse_words(words: &[String]) -> Option<Command>
     ensures { IfSome result (AskFor (map string_bytes words.now)) }
 {

@@ -7,7 +7,7 @@ ghost use Rattle.sourcemap_bench.specs.Sums.{mixed, worth, lookup_sum, token_sum
 
 use sourcemap::{DecodedMap, SourceMap, Token};
 
-/// Adds a number to a checksum.
+/// Adds a number to a checksum: returns `(31 * sum + number) % 2^32`.
 #[inline]
 pub fn add_to_sum(sum: u32, number: u32) -> u32
     ensures { result ≡ mixed sum number }
@@ -41,8 +41,9 @@ fn add_lookup(map: &DecodedMap, sum: u32, position: (u32, u32)) -> u32
     add_to_sum(sum, worth(map.lookup_token(line, column)))
 }
 
-/// Adds the lookups of these positions to a checksum. If the sections of an index map are not
-/// sorted at every level, the result is unspecified.
+/// Looks up each of these generated positions with `lookup_token`, in order. Adds `worth` of each
+/// result to the checksum `start`, and returns the new checksum. If the sections of an index map
+/// are not sorted by offset at every level, the checksum may be wrong.
 pub fn lookup_sum(map: &DecodedMap, positions: &[(u32, u32)], start: u32) -> u32
     ensures { IsInOrder (map_tree map.now)
         → result ≡ lookup_sum (map_tree map.now) positions.now start }
@@ -54,7 +55,8 @@ pub fn lookup_sum(map: &DecodedMap, positions: &[(u32, u32)], start: u32) -> u32
     sum
 }
 
-/// Adds all tokens to a checksum, in order.
+/// Adds `worth` of each token of the map to the checksum `start`, in order, and returns the new
+/// checksum.
 pub fn token_sum(map: &SourceMap, start: u32) -> u32
     ensures { result ≡ token_sum map.now start }
 {

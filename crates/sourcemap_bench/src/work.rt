@@ -33,7 +33,7 @@ pub enum Work {
     Rewrite(Box<SourceMap>),
     /// The index map to flatten.
     Flatten(Box<SourceMapIndex>),
-    /// The map to copy and adjust, and the adjustment.
+    /// The map to copy and adjust, and the map that `adjust_mappings` takes as `adjustment`.
     Compose(Box<SourceMap>, Box<SourceMap>),
 }
 
@@ -45,7 +45,8 @@ fn regular_map(alloc: Global, bytes: &[u8]) -> Result<Box<SourceMap>> {
     Ok(Box::new(alloc, into_regular(decode_slice(alloc, bytes)?)?)?)
 }
 
-// The maps on the first two lines.
+// The regular maps on the first two lines of `bytes`, one on each line. A missing line counts as
+// empty.
 fn regular_maps(alloc: Global, bytes: &[u8]) -> Result<(Box<SourceMap>, Box<SourceMap>)> {
     let mut lines = bytes.split(|byte| *byte == b'\n');
     let first = regular_map(alloc, lines.next().unwrap_or_default())?;
@@ -73,11 +74,11 @@ fn positions_in(alloc: Global, map: &DecodedMap) -> Result<Vec<(u32, u32)>> {
     }
 }
 
-/// Prepares the input of an operation. `bytes` has one map. For `Compose` it has two maps, one on
-/// each of the first two lines. For `Decode` and `DecodeReader` the input is the bytes, not yet
-/// decoded, and there is no error. For all other operations the maps are decoded first. Then, for
-/// `Lookup`, `drawn_positions` draws generated positions. If the map is an index map, the positions
-/// are drawn from the flattened map.
+/// Prepares the input of an operation. For `Compose`, `bytes` has two maps, one on each of the
+/// first two lines. For any other operation, `bytes` has one map. For `Decode` and `DecodeReader`,
+/// the input is `bytes`, not yet decoded, and there is no error. For all other operations, the maps
+/// are decoded. For `Lookup`, `drawn_positions` then draws generated positions. If the map is an
+/// index map, the positions are drawn from the flattened map.
 ///
 /// Returns the errors of `decode_slice`. The error is `IncompatibleSourceMap` if a map of `Tokens`,
 /// `Rewrite` or `Compose` is not regular, or if the map of `Flatten` is not an index map. `Lookup`

@@ -1,4 +1,5 @@
-//! Encodes the map, so that the bytes can be compared with those of another encoder.
+//! Decodes a map and encodes the map again, so that the bytes can be compared with those of another
+//! encoder.
 ghost use Rattle.std.specs.Prelude.{IfErr, OnOk};
 ghost use Rattle.sourcemap.specs.Answer.{UnlessMemory};
 ghost use Rattle.sourcemap_bench.specs.Written.{IsWritten, IsUnwritten};
@@ -8,8 +9,8 @@ use sourcemap::{Result, decode_slice};
 use std::alloc::Global;
 use std::io::Write;
 
-/// Decodes a map and writes it as compact JSON. Returns the errors of `decode_slice`, and `Io` if
-/// writing fails.
+/// Decodes a map and writes it as compact JSON. Returns the errors of `decode_slice`. The other
+/// errors are `OutOfMemory`, and `Io` if a write fails for another reason.
 pub fn write_map<W: Write>(alloc: Global, bytes: &[u8], output: &mut W) -> Result<()>
     ensures written { OnOk result
         (IsWritten bytes.now (W.contents output.old) (W.contents output.new)) }

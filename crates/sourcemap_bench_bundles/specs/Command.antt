@@ -6,6 +6,6 @@ use Rattle.std.specs.Str.Parse.{IsNumeral, digits_value, without_leading_plus}
 abbrev pub AreRounds : List ℕ → ℕ → Type 0
 AreRounds word n = IsNumeral 10 (without_leading_plus word) × (n ≡ digits_value 10 (without_leading_plus word))
 
--- the words of a run of `n` rounds: `split` and the number of rounds
+-- there are exactly two words: `split`, then the number of rounds. The value of this number is `n`
 abbrev pub AskFor : List (List ℕ) → ℕ → Type 0
 AskFor words n = (rounds : List ℕ) × (words ≡ codes "split" ∷ rounds ∷ []) × AreRounds rounds n

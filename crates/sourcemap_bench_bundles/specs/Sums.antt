@@ -6,7 +6,7 @@ use Rattle.sourcemap_bundle_split.specs.Split.{ModuleParts}
 abbrev pub mixed : ℕ → ℕ → ℕ
 mixed sum number = (31 * sum + number) % 2 ^ 32
 
--- the checksum `sum` after two numbers are added to it: the length of a module's text in bytes, and the number of
--- sources of its map
+-- the checksum `sum` after two numbers are added to it: first the byte count of a module's text, or 4294967295 if the
+-- count is greater; then the number of sources of the module's map
 abbrev pub with_module : ℕ → ModuleParts → ℕ
 with_module sum parts = mixed (mixed sum (min (length parts.text) 4294967295)) (length parts.map.sources)

@@ -20,9 +20,10 @@ pub enum Call {
     LocateReader,
     /// `locate-view`: `SourceView::sourcemap_reference`.
     LocateView,
-    /// `resolve`: the reference that is located in a slice, resolved against a URL.
+    /// `resolve`: locates the reference in a slice, and resolves the reference against a fixed URL.
     Resolve,
-    /// `resolve-path`: the reference that is located in a slice, resolved against a path.
+    /// `resolve-path`: locates the reference in a slice, and resolves the reference against a fixed
+    /// path.
     ResolvePath,
     /// `data-url`: `decode_data_url`.
     DataUrl,
@@ -32,7 +33,8 @@ pub enum Call {
     Detect,
     /// `detect-reader`: `is_sourcemap`.
     DetectReader,
-    /// `relative`: `make_relative_path` from the first line to the rest of the input.
+    /// `relative`: `make_relative_path`. The base is the first line, the target is the text after
+    /// that line. Without a `\n`, both are the whole input.
     Relative,
     /// `prefix`: `find_common_prefix` of all lines.
     Prefix,
@@ -67,28 +69,32 @@ pub enum Call {
 pub enum BuilderCall {
     /// `builder`: `add` of a token for each line, with the line as source and as name.
     Add,
-    /// `builder-raw`: `add_raw` of a token for each line, with the number on the line as generated
-    /// column, source id and name id.
+    /// `builder-raw`: `add_raw` of a token for each line. The number on the line is the generated
+    /// column, the source id and the name id.
     AddRaw,
     /// `builder-tokens`: `add_token` of each token of a map.
     AddTokens,
-    /// `builder-sources`: `add_source` and `set_source` of each line.
+    /// `builder-sources`: for each line, adds the line as a source, then calls `set_source` on that
+    /// source with the same line.
     SetSources,
-    /// `builder-contents`: `add_source` and `set_source_contents` of each line.
+    /// `builder-contents`: for each line, adds the line as a source, then calls
+    /// `set_source_contents` on that source with the same line.
     SetContents,
     /// `builder-file`: `set_file` of each line.
     SetFile,
-    /// `builder-root`: `set_source_root` of the first line, with a source for each line after it.
+    /// `builder-root`: adds each line after the first as a source, then calls `set_source_root`
+    /// with the first line.
     SetRoot,
-    /// `builder-ids`: `set_debug_id` of each line.
+    /// `builder-ids`: `set_debug_id` once for each line, with the debug id on the line. A line that
+    /// is not a debug id clears the debug id.
     SetDebugIds,
-    /// `builder-ignore`: `add_to_ignore_list` of the number on each line.
+    /// `builder-ignore`: `add_to_ignore_list` of the source id on each line.
     Ignore,
-    /// `builder-load`: `load_local_source_contents` from the current folder, with a source for each
-    /// line.
+    /// `builder-load`: adds each line as a source, then calls `load_local_source_contents`. Sources
+    /// are resolved against the current folder.
     Load,
-    /// `strip`: `strip_prefixes` with the words of the first line. Each line after the first is a
-    /// source.
+    /// `strip`: adds each line after the first as a source, then calls `strip_prefixes`. The first
+    /// line, split at each space, is the list of prefixes.
     Strip,
 }
 
@@ -101,13 +107,15 @@ pub enum IndexCall {
     Nest,
     /// `flatten-and-rewrite`: `SourceMapIndex::flatten_and_rewrite`.
     FlattenAndRewrite,
-    /// `sections`: `SourceMapIndex::new` of a section for each line, with the line as its URL.
+    /// `sections`: one `SourceMapIndex::new` with a section for each line. The line is the URL of
+    /// the section. If the line is a number n below 2^32, the section starts at generated line n,
+    /// else at generated line 0.
     Sections,
     /// `index-file`: `SourceMapIndex::set_file` once for each line after the first, with the line
     /// as the file name. The index map is on the first line of the input.
     SetFile,
-    /// `index-rows`: `adjust_sections_offset_rows` of the map on the first line, by the number on
-    /// each line after it.
+    /// `index-rows`: `adjust_sections_offset_rows` of the index map on the first line. Makes one
+    /// call for each line after the first, with the number on that line.
     AdjustRows,
     /// `section-urls`: `SourceMapSection::set_url` on sections of an index map. The index map is on
     /// the first line of the input. The next lines are the URLs, one for each section, in order.
@@ -122,11 +130,12 @@ pub enum IndexCall {
 /// A call on a whole map.
 #[derive(Clone, Copy)]
 pub enum MapCall {
-    /// `encode`: `encode_to` of a map, which is flattened if it is an index map.
+    /// `encode`: `encode_to`. An index map is flattened first. A Hermes map is an error.
     Encode,
-    /// `encode-in-parts`: `encode_in_parts` of a map, which is flattened if it is an index map.
+    /// `encode-in-parts`: `encode_in_parts`. An index map is flattened first. A Hermes map is an
+    /// error.
     EncodeInParts,
-    /// `to-data-url`: `to_data_url` of a map, which is flattened if it is an index map.
+    /// `to-data-url`: `to_data_url`. An index map is flattened first. A Hermes map is an error.
     ToDataUrl,
     /// `copy`: `clone` of a map, compared with the map.
     Copy,
@@ -138,7 +147,8 @@ pub enum MapCall {
     /// `rewrite-strip`: one `rewrite` of the regular map on the first line. The lines after the
     /// first are the prefixes to strip from sources.
     RewriteStripping,
-    /// `rewrite-load`: `rewrite` with contents from the current folder.
+    /// `rewrite-load`: `rewrite` of a regular map, with `load_local_source_contents`. Sources are
+    /// resolved against `sourceRoot`, then against the current folder.
     RewriteLoading,
 }
 
@@ -147,14 +157,15 @@ pub enum MapCall {
 pub enum Setter {
     /// `set-root`: `set_source_root` to the text after the first line.
     Root,
-    /// `set-sources`: `set_source` of the sources, in order, to the lines after the first.
+    /// `set-sources`: `set_source` on the sources, in order. Each line after the first is the new
+    /// text of one source. Extra lines are ignored. Sources without a line are not changed.
     Sources,
-    /// `set-contents`: `set_source_contents` of the sources, in order, to the lines after the
-    /// first.
+    /// `set-contents`: `set_source_contents` on the sources, in order. Each line after the first is
+    /// the contents of one source. Extra lines are ignored. Sources without a line are not changed.
     Contents,
     /// `set-file`: `set_file` to each line after the first.
     File,
-    /// `ignore`: `add_to_ignore_list` of the number on each line after the first.
+    /// `ignore`: `add_to_ignore_list` of the source id on each line after the first.
     Ignore,
 }
 

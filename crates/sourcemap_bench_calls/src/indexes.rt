@@ -13,7 +13,8 @@ use std::str;
 
 const INNER: &[u8] = b"{\"version\":3,\"sources\":[\"a.js\"],\"names\":[],\"mappings\":\"AAAA\"}";
 
-/// Makes a call on an index map, with `bytes` as its input. Returns a size of the result.
+/// Makes a call on an index map, with `bytes` as the input of the call. `SetFile` and `SetUrls`
+/// return a byte count. Each other call returns another count, for example of tokens or sections.
 pub fn size_of<F: Files>(rt: &F, alloc: Global, call: IndexCall, bytes: &[u8]) -> Result<usize> {
     match call {
         IndexCall::Nest => count_nested_tokens(alloc, bytes),
@@ -34,8 +35,8 @@ fn index_over(alloc: Global, map: DecodedMap) -> Result<SourceMapIndex> {
     Ok(SourceMapIndex::new(alloc, None, sections))
 }
 
-// Nests `depth` index maps in one another, or makes one if `depth` is 0. Returns the outermost.
-// The innermost index map holds a regular map.
+// Makes `depth` nested index maps, or one index map if `depth` is 0. Returns the outermost index
+// map. The innermost index map holds a regular map.
 fn levels(alloc: Global, depth: u32) -> Result<SourceMapIndex> {
     let inner = decode_slice(alloc, INNER)?;
     let mut index = index_over(alloc, inner)?;
@@ -45,7 +46,7 @@ fn levels(alloc: Global, depth: u32) -> Result<SourceMapIndex> {
     Ok(index)
 }
 
-// The number of tokens of the flat map of an index map. 0 for a map of another kind.
+// Flattens an index map, and returns the number of tokens. Returns 0 for a map of another kind.
 fn count_flat_tokens(map: &DecodedMap) -> Result<usize> {
     match map {
         DecodedMap::Index(index) => Ok(index.flatten()?.get_token_count() as usize),
@@ -53,10 +54,11 @@ fn count_flat_tokens(map: &DecodedMap) -> Result<usize> {
     }
 }
 
-// Makes nested index maps, as many as the number in `bytes` says. Then makes four checks: the
-// lookup of 0:0 finds a token, `Debug` prints the map, the map equals its copy, and the map equals
-// the one that is read back from its JSON value. Returns the number of tokens of the flattened map
-// plus the number of checks that succeed.
+// Makes nested index maps, as many as the number in `bytes` says. Makes one index map if the number
+// is 0, or if the trimmed text is not a number below 2^32. Then makes four checks: the lookup of
+// 0:0 finds a token, `Debug` prints the map, a copy equals the map, and the map's JSON value is
+// read back as an equal map. Returns the number of tokens of the flattened map plus the number of
+// checks that succeed.
 fn count_nested_tokens(alloc: Global, bytes: &[u8]) -> Result<usize> {
     let depth = str::from_utf8(bytes)?.trim().parse().unwrap_or(1);
     let map = DecodedMap::Index(levels(alloc, depth)?);

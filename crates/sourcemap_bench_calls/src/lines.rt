@@ -1,4 +1,4 @@
-//! The parts of the input, and the sizes of results.
+//! Splits the input and parses numbers. Counts the bytes of a map's sources and contents.
 
 use sourcemap::{Result, SourceMap};
 use std::str;

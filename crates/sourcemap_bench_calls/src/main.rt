@@ -24,7 +24,8 @@ use std::io::Read;
 use std::process::ExitCode;
 use std::rt::Files;
 
-// Returns a size of the result of a call. `main` prints it, so that the call is not optimised away.
+// Makes a call, and returns a number computed from the result. `main` prints this number, so that
+// the call is not optimised away.
 fn size_of<R: Files + Env + AllocGlobal>(
     rt: &R,
     alloc: Global,

@@ -9,7 +9,10 @@ use std::env;
 use std::env::Env;
 use std::rt::Files;
 
-/// Makes a call on a whole map, with `bytes` as its input. Returns a size of the result.
+/// Makes a call on a whole map, with `bytes` as the input of the call. `Copy` and `Value` compare
+/// two maps, and return 1 if the maps are equal, else 0. Each other call returns a byte count: of
+/// the written or printed map, of all sources (`RewriteStripping`), or of all contents
+/// (`RewriteLoading`).
 pub fn size_of<R: Files + Env + AllocGlobal>(
     rt: &R,
     alloc: Global,
@@ -38,7 +41,8 @@ pub fn equals_copy(map: &DecodedMap) -> Result<bool> {
     Ok(map.clone()? == *map)
 }
 
-/// Whether a map equals the map that is read back from its JSON value.
+/// Converts `map` to a JSON value, and reads a second map from this value. Returns whether the two
+/// maps are equal.
 pub fn equals_read_back(alloc: Global, map: &DecodedMap) -> Result<bool> {
     let value = map.to_value()?;
     Ok(DecodedMap::from_value(alloc, &value)? == *map)
@@ -56,7 +60,8 @@ fn print(alloc: Global, bytes: &[u8]) -> Result<usize> {
     debug_size(alloc, &map)
 }
 
-// 1 if the map in `bytes` equals the map that is read back from its JSON value, else 0.
+// Converts the map in `bytes` to a JSON value, and reads a second map from this value. Returns 1 if
+// the two maps are equal, else 0.
 fn read_back(alloc: Global, bytes: &[u8]) -> Result<usize> {
     let map = decode_slice(alloc, bytes)?;
     Ok(usize::from(equals_read_back(alloc, &map)?))
@@ -75,8 +80,8 @@ fn rewrite_stripping<F: Files>(rt: &F, alloc: Global, bytes: &[u8]) -> Result<us
     Ok(source_size(&map.rewrite(rt, &options)?))
 }
 
-// Rewrites a map, and loads contents from files of the current folder. Returns the byte count of
-// all contents.
+// Rewrites a regular map, and loads missing contents from files. Sources are resolved against
+// `sourceRoot`, then against the current folder. Returns the byte count of all contents.
 fn rewrite_loading<R: Files + Env + AllocGlobal>(
     rt: &R,
     alloc: Global,

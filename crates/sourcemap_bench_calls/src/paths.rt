@@ -16,7 +16,8 @@ pub fn relative(alloc: Global, bytes: &[u8]) -> Result<usize> {
     Ok(path.len())
 }
 
-/// The byte count of the common prefix of all lines, 0 if there is no common prefix.
+/// The byte count of the common prefix of the absolute paths among the lines. 0 if
+/// `find_common_prefix` finds no prefix.
 pub fn prefix(alloc: Global, bytes: &[u8]) -> Result<usize> {
     let common = find_common_prefix(alloc, str::from_utf8(bytes)?.lines())?;
     Ok(common.map_or(0, |path| path.len()))

@@ -58,7 +58,8 @@ pub fn resolve_reference_path(alloc: Global, bytes: &[u8]) -> Result<usize> {
     }
 }
 
-/// 1 if a data URL holds a map, otherwise the error of decoding it.
+/// 1 if `bytes` are a data URL that holds a map. Returns `Utf8` if `bytes` are not UTF-8. The other
+/// errors are those of `decode_data_url`.
 pub fn decode_url(alloc: Global, bytes: &[u8]) -> Result<usize> {
     let _map = decode_data_url(alloc, str::from_utf8(bytes)?)?;
     Ok(1)

@@ -3,8 +3,8 @@
 use sourcemap::{Result, SourceMapHermes};
 use std::alloc::Global;
 
-/// The byte count of the function names of all tokens of a Hermes map. The name is that of the
-/// function at the original position of the token.
+/// For each token of a Hermes map, looks up the name of the function at the original position (see
+/// `get_scope_for_token`). Returns the byte count of all names found.
 pub fn name_size(alloc: Global, bytes: &[u8]) -> Result<usize> {
     let map = SourceMapHermes::from_slice(alloc, bytes)?;
     let mut size = 0usize;

@@ -1,4 +1,4 @@
-//! Numbers of a segment, and identifiers.
+//! Parses and writes a segment. Finds an identifier.
 
 use sourcemap::Result;
 use sourcemap::js_identifiers::get_javascript_token;

@@ -1,4 +1,4 @@
-//! Views of texts, and walks along the tokens of a map.
+//! Measured calls on `SourceView`: a walk over tokens, the lines of a text, and slices of lines.
 
 use sourcemap::{Result, SourceMap, SourceView};
 use std::alloc::Global;
@@ -36,8 +36,9 @@ pub fn viewed(alloc: Global, bytes: &[u8]) -> Result<usize> {
     Ok(size)
 }
 
-// The byte count of a slice of a line, 0 if there is no such slice. The slice starts at column n
-// and spans n columns. Here n is an eighth of the byte count of the line.
+// The byte count of a slice of a line. The slice starts at column n and spans n columns, where n is
+// an eighth of the byte count of the line, rounded down. 0 if the line does not exist or has fewer
+// than 2n columns.
 fn slice_size(view: &SourceView, line: u32) -> usize {
     let length = view.get_line(line).map_or(0, |text| text.len());
     let eighth = u32::try_from(length / 8).unwrap_or(u32::MAX);

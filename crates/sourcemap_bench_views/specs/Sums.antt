@@ -4,7 +4,7 @@ use Rattle.sourcemap.specs.Lines.{line_bodies}
 use Rattle.sourcemap.specs.TokenWalk.{function_name}
 use Rattle.sourcemap.specs.Types.{MapValue}
 
--- the new checksum after `number` is added to the checksum `sum`
+-- the new checksum after `number` is added to the checksum `sum`: 31 times `sum`, plus `number`, modulo 2^32
 abbrev pub mixed : ℕ → ℕ → ℕ
 mixed sum number = (31 * sum + number) % 2 ^ 32
 
@@ -23,23 +23,25 @@ with_lengths sum lines = fold (λ sum line. counted sum (length line)) sum lines
 abbrev pub line_sum : List ℕ → ℕ → ℕ
 line_sum source start = with_lengths start (take 4294967296 (line_bodies source))
 
--- the searched name: no function of the timed texts has it
+-- the minified name that `name_sum` searches for. No function of the timed texts has this name
 abbrev pub absent_name : List ℕ
 absent_name = codes "nameOfNoFunction"
 
--- the number that a name adds to a checksum
+-- the number that is added to a checksum for a guessed name: the byte count of the name plus 1, at most 4294967295. If
+-- there is no name, the number is 0
 abbrev pub name_worth : Option (List ℕ) → ℕ
 name_worth None = 0
 name_worth (Some name) = min (length name + 1) 4294967295
 
--- the checksum `start` with one more number for each of these generated positions, in order. At each position,
--- `function_name` guesses the original name of the function named `absent_name` in the generated text `source`. The
--- number is the `name_worth` of the guessed name, or 0 if no name is guessed
+-- the result of adding one number to the checksum `start` for each of these generated positions, in order. At each
+-- position, `function_name` guesses the original name of the function with the minified name `absent_name` in the
+-- generated text `source`. The number is the `name_worth` of the guessed name, or 0 if no name is guessed
 abbrev pub name_sum : MapValue → (source : List ℕ) → List (ℕ × ℕ) → ℕ → ℕ
 name_sum m source positions start =
     fold (λ sum p. mixed sum (name_worth (function_name m source absent_name p))) start positions
 
--- the checksum after this many rounds; before the first round it is 0
+-- the checksum after the given number of rounds. The checksum before the first round is 0. `round` computes the
+-- checksum after a round from the checksum before the round
 abbrev pub rounds_sum : (ℕ → ℕ) → ℕ → ℕ
 rounds_sum round zero = 0
 rounds_sum round (suc n) = round (rounds_sum round n)

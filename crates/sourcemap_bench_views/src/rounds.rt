@@ -38,7 +38,8 @@ fn name_rounds(map: &SourceMap, view: &SourceView, starts: &[(u32, u32)], rounds
     sum
 }
 
-// The map is on the first line, the generated text after it.
+// The map is on the first line of `lines`. All text after this line is the generated text. If
+// `lines` has no `\n`, the text of the map counts as empty, so the call fails.
 fn guessed_rounds(alloc: Global, lines: &str, rounds: u32) -> Result<u32> {
     let (line, text) = lines.split_once('\n').unwrap_or_default();
     let map = SourceMap::from_slice(alloc, line.as_bytes())?;

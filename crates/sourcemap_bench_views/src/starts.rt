@@ -28,7 +28,7 @@ fn walks_over(count: usize) -> usize
 
 /// Returns the generated position of every 128th token of a map, from the last token down. If a
 /// walk of 128 tokens goes back from each of these tokens, the walks cover each token of the map
-/// once. The only error is `OutOfMemory`.
+/// once. Tokens after the first 4294967295 tokens are ignored. The only error is `OutOfMemory`.
 pub fn walk_starts(alloc: Global, map: &SourceMap) -> Result<Vec<(u32, u32)>>
     ensures all { IfOk result (λ starts.
         min (length map.now.tokens) 4294967295 ≤ 128 * vec_len starts) }

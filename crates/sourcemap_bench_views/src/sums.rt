@@ -36,7 +36,7 @@ pub fn line_sum(view: &SourceView, start: u32) -> u32
 }
 
 // The number that a name adds to a checksum: 0 for `None`, otherwise the byte count of the name
-// plus 1.
+// plus 1, at most 4294967295.
 fn name_worth(name: Option<&str>) -> u32
     ensures { result ≡ name_worth (option_copied name.entry) }
 {

@@ -25,8 +25,8 @@ AreAsBefore old new = (list_in new ≡ list_in old) × (list_in old ≡ None →
 abbrev pub if_given : {X : Type 0} → (given : Bool) → X → Option X
 if_given given x = cond given (Some x) None
 
--- The map of a new section. If `given` is false, the section has no map: `Some None`. If `given` is true, the section
--- gets the map that the handle holds. `None` is the error that the handle holds no map.
+-- The map of a new section. If `given` is false, the result is `Some None`: the section has no map. If `given` is true,
+-- the result is the map that the handle holds, or `None` (an error) if the handle holds no map.
 abbrev pub map_due : (given : Bool) → Option MapTree → Option (Option MapTree)
 map_due given tree = cond given (option_map Some tree) (Some None)
 

@@ -77,15 +77,17 @@ AddsNot texts text _ _ = ⊥
 abbrev pub with_tokens : BuilderValue → List MapToken → ℕ → BuilderValue
 with_tokens b tokens n = record b { tokens = b.tokens ++ map raw_token (take n tokens) }
 
--- The outcome of adding tokens. After success all `count` tokens were added, after out of memory fewer. Without a
--- builder no token was added, and the outcome is `WrongKind`.
+-- The outcome of adding `count` tokens. With a builder, success means that all tokens were added. The only error is out
+-- of memory; after this error fewer tokens were added. Without a builder, no token was added, and the error is
+-- `WrongKind`.
 abbrev pub AreAdded : Option BuilderValue → (count added : ℕ) → Result (Unit {0}) Failure → Type 0
 AreAdded (Some _) count added outcome =
     MatchResult outcome (λ _. added ≡ count) (λ failure. (failure ≡ Library OutOfMemory) × (added < count))
 AreAdded None count added outcome = (added ≡ 0) × (outcome ≡ Err WrongKind)
 
--- The error report of adding tokens. With a builder, the report is unchanged if all tokens were added. If fewer were
--- added, `Reports` holds for out of memory. Without a builder, no token was added, and `Reports` holds for `WrongKind`.
+-- The error report after adding `count` tokens. With a builder, either all tokens were added and the report is
+-- unchanged, or fewer were added and the report describes `OutOfMemory`. Without a builder, no token was added, and the
+-- report describes `WrongKind` or `OutOfMemory` (`Reports`).
 abbrev pub AddsAll : Option BuilderValue → (count added : ℕ) → (old new : ErrorReport) → Type 0
 AddsAll (Some _) count added old new =
     ((added ≡ count) × (new ≡ old)) ⊎ ((added < count) × ((code : ℕ) × Reports (Library OutOfMemory) code old new))

@@ -48,15 +48,15 @@ abbrev pub items_in : Option Held → Option (List (Result ItemValue Error))
 items_in (Some (Split items)) = Some (map item_value items.items)
 items_in _ = None
 
--- If `made` is `Ok item` and `Due` allows the result `due`, then `item` and `due` have the same value. If `made` is an
--- error, this error is `OutOfMemory`.
+-- If `made` is `Ok item`, `item` agrees with each result that `Due` allows: both have the same name, text and map, or
+-- both are the same error. If `made` is an error, this error is `OutOfMemory`.
 abbrev pub Makes : Result (Result SplitModule Error) Error → (Result ModuleParts Error → Type 0) → Type 0
 Makes made Due = MatchResult made (λ item. (due : Result ModuleParts Error) → Due due → item_value item ≡ due_value due) (λ e. e ≡ OutOfMemory)
 
 -- `tree` is an index map that can be flattened and has `x_facebook_offsets`. `held` has the items for the modules of
--- `bundle`, by rising module number. A module has no item if it can be read and its offset is null. Each other module
--- has one item. The item is the error `InvalidRamBundleEntry` in three cases: the module cannot be read, its number is
--- past the end of the offsets, or `parts_at` gives this error.
+-- `bundle`, by rising module number. Module `n` has no item if the module can be read and entry `n` of
+-- `x_facebook_offsets` is null. Each other module has one item. The item is the error `InvalidRamBundleEntry` in three
+-- cases: the module cannot be read, `x_facebook_offsets` has no entry `n`, or `parts_at` gives this error.
 abbrev pub IsSplit : Option BundleValue → Option MapTree → Option Held → Type 0
 IsSplit bundle tree held = (b : BundleValue) × (i : IndexValue) × (split : SplitValue) × (bundle ≡ Some b) × (tree ≡ Some (index_tree i))
     × Splits i (modules_of b) (Ok split) × (items_in held ≡ Some (map due_value (dues_in split)))
@@ -76,8 +76,8 @@ IsUnsplit bundle tree PastLimit = ⊥
 abbrev pub item_of : Option (List (Result ItemValue Error)) → ℕ → Option (Option (Result ItemValue Error))
 item_of items id = option_map (λ list. slice_get list id) items
 
--- The errors of reading an item: `InvalidRamBundleEntry` if its module has an error of any kind, `Absent` if there is
--- no such item, `WrongKind` if there is no split bundle.
+-- The errors of reading an item: `InvalidRamBundleEntry` for an item that is an error of any kind, `Absent` if there is
+-- no item at the index, `WrongKind` if there is no split bundle.
 abbrev pub IsNoItem : Option (Option (Result ItemValue Error)) → Failure → Type 0
 IsNoItem item (Library e) = (e ≡ InvalidRamBundleEntry) × (because : Error) × (item ≡ Some (Some (Err because)))
 IsNoItem item Absent = item ≡ Some None

@@ -75,12 +75,12 @@ abbrev pub as_regular : Result MapValue Error → Result MapTree Failure
 as_regular (Ok m) = Ok (leaf (regular m))
 as_regular (Err e) = Err (Library e)
 
--- the regular map adjusted by `adjustment`; maps of other kinds give `WrongKind`
+-- the regular map adjusted by `adjustment`, or the error of `adjusted`; `WrongKind` for maps of other kinds
 abbrev pub IsAdjusted : MapValue → MapTree → Result MapTree Failure → Type 0
 IsAdjusted adjustment (leaf (regular m)) due = due ≡ as_regular (adjusted m adjustment)
 IsAdjusted adjustment _ due = due ≡ Err WrongKind
 
--- the map adjusted by the map in another handle; `WrongKind` unless both are regular maps
+-- the map adjusted by the map in another handle, or the error of `adjusted`; `WrongKind` unless both are regular maps
 abbrev pub IsAdjustedBy : Option MapTree → MapTree → Result MapTree Failure → Type 0
 IsAdjustedBy (Some (leaf (regular adjustment))) t due = IsAdjusted adjustment t due
 IsAdjustedBy _ t due = due ≡ Err WrongKind

@@ -8,7 +8,7 @@ use Rattle.sourcemap_c_handles.specs.declared.errors.ErrorReport.{ErrorReport}
 use Rattle.sourcemap_c_handles.specs.declared.errors.Failure.{Failure}
 use Rattle.sourcemap_c_handles.specs.declared.errors.Failure.TheVariants.{Library, Absent, WrongKind, PastLimit}
 
--- `P`, unless the failure is out of memory
+-- true for the failure `Library OutOfMemory`; `P` for any other failure
 abbrev pub UnlessMemory : Failure → Type 0 → Type 0
 UnlessMemory (Library OutOfMemory) P = Unit {0}
 UnlessMemory _ P = P
@@ -59,14 +59,15 @@ IsNoText bytes _ = ⊥
 abbrev pub text_if : Bool → List ℕ → Option (List ℕ)
 text_if present text = cond present (Some text) None
 
--- The code and the value of a call that writes no report. The code is `SM_WRONG_KIND` for a handle of another kind,
--- `SM_ABSENT` if there is no value, otherwise `SM_OK`. The value is written only with `SM_OK`.
+-- The code and the value of a call that writes no report. The code is `SM_WRONG_KIND` if the handle is not of the kind
+-- that the call needs (`None`), and `SM_ABSENT` if there is no value (`Some None`). Otherwise the code is `SM_OK`. The
+-- call writes the value only if it returns `SM_OK`.
 abbrev pub ReturnsValue : {X : Type 0} → Option (Option X) → (code : ℕ) → (old new : X) → Type 0
 ReturnsValue None code old new = (code ≡ 33) × (new ≡ old)
 ReturnsValue (Some None) code old new = (code ≡ 32) × (new ≡ old)
 ReturnsValue (Some (Some x)) code old new = (code ≡ 0) × (new ≡ x)
 
--- the code for a handle of the right kind: `SM_OK`, or `SM_ABSENT` with nothing written
+-- the call returns `SM_OK`, or it returns `SM_ABSENT` and writes nothing
 abbrev pub IsAbsentUnlessOk : {X : Type 0} → (code : ℕ) → (old new : X) → Type 0
 IsAbsentUnlessOk code old new = code ≢ 0 → (code ≡ 32) × (new ≡ old)
 

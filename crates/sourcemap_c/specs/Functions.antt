@@ -11,7 +11,8 @@ use Rattle.sourcemap_index_model.specs.Meaning.{meaning}
 use Rattle.sourcemap_index_model.specs.WellFormed.{IsInOrder}
 use Rattle.sourcemap_c.specs.Codes.{IsAbsentUnlessOk, ReturnsValue}
 
--- The handle has a text; false if there is no map. If the map is in order, the text is the trace of these positions.
+-- `held` has a text. If the sections of the map are sorted at every level (`IsInOrder`), this text is the trace of
+-- `positions` (`trace_of`). Without a map, `IsTrace` is false.
 abbrev pub IsTrace : Option MapTree → (positions : List ℕ) → Option (List ℕ) → Type 0
 IsTrace None positions held = ⊥
 IsTrace (Some t) positions held = (text : List ℕ) × (held ≡ Some text) × (IsInOrder t → text ≡ trace_of (meaning t) positions)
@@ -20,19 +21,19 @@ IsTrace (Some t) positions held = (text : List ℕ) × (held ≡ Some text) × (
 abbrev pub Refuses : (due code : ℕ) → (old new : List ℕ) → Type 0
 Refuses due code old new = (code ≡ due) × (new ≡ old)
 
--- The name of a function, guessed from the generated text `source` and the minified name. The call writes
--- `function_name` and returns `SM_OK`, or returns `SM_ABSENT` if there is no such name. If `IsInOrderForName` does not
--- hold, the call may return either code, and may write any name with `SM_OK`. If the minified name is not UTF-8, the
--- call always returns `SM_UTF8`. The call writes nothing unless it returns `SM_OK`.
+-- The name of a function, guessed from the generated text `source` and the minified name. If the minified name is not
+-- UTF-8, the call returns `SM_UTF8`. For a UTF-8 name, the call writes `function_name` and returns `SM_OK`, or returns
+-- `SM_ABSENT` if `function_name` is `None`. But if `IsInOrderForName` does not hold, the call may return `SM_OK` with
+-- any name, or `SM_ABSENT`. The call writes only if it returns `SM_OK`.
 abbrev pub Guesses : MapTree → (source minified : List ℕ) → ℕ × ℕ → ℕ → (old new : List ℕ) → Type 0
 Guesses t source minified p code old new = (¬ IsUtf8 minified → Refuses 2 code old new)
     × (IsUtf8 minified → IsAbsentUnlessOk code old new)
     × (IsUtf8 minified → IsInOrderForName t (Some source) (Some minified) p → ReturnsValue (Some (function_name t (Some source) (Some minified) p)) code old new)
 
 -- The name of a function. A Hermes map stores the name. For a Hermes map, the call writes `function_name` and returns
--- `SM_OK`, or writes nothing and returns `SM_ABSENT` if there is no such name. If `IsInOrderForName` does not hold, the
--- call may return either code, and may write any name with `SM_OK`. For other maps the name is guessed from the
--- generated text `source`, and the code is `SM_WRONG_KIND` if `source` is `None`.
+-- `SM_OK`, or returns `SM_ABSENT` if `function_name` is `None`. But if `IsInOrderForName` does not hold, the call may
+-- return `SM_OK` with any name, or `SM_ABSENT`. For other maps, the call guesses the name from the generated text
+-- `source` (`Guesses`), or returns `SM_WRONG_KIND` if `source` is `None`. The call writes only if it returns `SM_OK`.
 abbrev pub Names : MapTree → (source : Option (List ℕ)) → (minified : List ℕ) → ℕ × ℕ → ℕ → (old new : List ℕ) → Type 0
 Names (leaf (hermes h)) source minified p code old new = IsAbsentUnlessOk code old new
     × (IsInOrderForName (leaf (hermes h)) None None p → ReturnsValue (Some (function_name (leaf (hermes h)) None None p)) code old new)
@@ -44,10 +45,10 @@ NamesIn None source minified p code old new = Refuses 33 code old new
 NamesIn (Some t) source minified p code old new = Names t source minified p code old new
 
 -- The name of the function at a bytecode offset of a Hermes map. The offset is a column of generated line 0. The call
--- writes `name_at_offset` and returns `SM_OK`, or returns `SM_ABSENT` if there is no such name. If a lookup of the
--- offset finds a token, and the functions of this token's source are unsorted, the call may return either code, and may
--- write any name with `SM_OK`. Without a Hermes map the call returns `SM_WRONG_KIND`. The call writes nothing unless it
--- returns `SM_OK`.
+-- writes `name_at_offset` and returns `SM_OK`, or returns `SM_ABSENT` if `name_at_offset` is `None`. But if a lookup of
+-- the offset finds a token, and the functions of this token's source are unsorted, the call may return `SM_OK` with any
+-- name, or `SM_ABSENT`. Without a Hermes map the call returns `SM_WRONG_KIND`. The call writes only if it returns
+-- `SM_OK`.
 abbrev pub NamesAt : Option MapTree → (offset : ℕ) → ℕ → (old new : List ℕ) → Type 0
 NamesAt (Some (leaf (hermes h))) offset code old new = IsAbsentUnlessOk code old new
     × (IfSome (lookup h.map (0, offset)) (λ t. IsInOrderAt h.scopes t.raw.src_id) → ReturnsValue (Some (name_at_offset h offset)) code old new)

@@ -45,7 +45,7 @@ name_in id t = option_and_then (λ m. name_of m id) (leaf_in t)
 abbrev pub contents_in : ℕ → MapTree → Option (List ℕ)
 contents_in id t = option_and_then (λ m. contents_of m id) (leaf_in t)
 
--- the first `n` items of `written` are the results of `view` for the items of `items` from index `first` on
+-- for each `i` below `n`, item `i` of `written` is `view` of item `first + i` of `items`, or neither item exists
 abbrev pub AreFrom : {X Y : Type 0} → (X → Y) → (first : ℕ) → List X → List Y → ℕ → Type 0
 AreFrom view first items written n =
     (i : ℕ) → i < n → slice_get written i ≡ option_map view (slice_get items (first + i))

@@ -37,7 +37,8 @@ bytes_in _ = None
 abbrev pub IsSameMap : (old new : Arc DecodedMap Global) → Type 0
 IsSameMap old new = (new ≡ arc_with_value old (arc_value new)) × (map_tree (arc_value new) ≡ map_tree (arc_value old))
 
--- the value of a handle is unchanged: `IsSameMap` holds for a map, and any other value equals the old value
+-- The value of a handle is unchanged. If `old` and `new` are both maps, `IsSameMap` holds for these maps. Otherwise
+-- `new` equals `old`.
 abbrev pub IsAsBefore : (old new : Option Held) → Type 0
 IsAsBefore (Some (Map old)) (Some (Map new)) = IsSameMap old new
 IsAsBefore old new = new ≡ old

@@ -7,12 +7,13 @@ use Rattle.sourcemap_index_model.specs.MapTree.{MapTree, index}
 use Rattle.sourcemap_c.specs.Getters.{AreFrom}
 use Rattle.sourcemap_c.specs.Codes.{IsNoText, ReturnsValue}
 
--- the list of lines at which the modules begin; `Some None` if an index map has no such list, `None` for other maps
+-- The lines at which the modules begin. `Some None` if the index map has no `x_facebook_offsets`. `None` if there is no
+-- index map.
 abbrev pub lines_in : Option MapTree → Option (Option (List (Option ℕ)))
 lines_in (Some (index parts _)) = Some parts.x_facebook_offsets
 lines_in _ = None
 
--- the path of the module with this id; `Some None` if an index map has no such path, `None` for other maps
+-- The path of module `id`. `Some None` if the index map has no path for this module. `None` if there is no index map.
 abbrev pub path_in : ℕ → Option MapTree → Option (Option (List ℕ))
 path_in id (Some (index parts _)) = Some (option_and_then (λ paths. slice_get paths id) parts.x_metro_module_paths)
 path_in id _ = None

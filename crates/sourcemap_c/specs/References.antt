@@ -25,8 +25,8 @@ abbrev pub IsFound : Option (Option Reference) → Option Held → Bool → Type
 IsFound (Some (Some reference)) held is_legacy = IsReference reference held is_legacy
 IsFound _ held is_legacy = ⊥
 
--- Why no reference was found. The failure is `Absent` if the text has no reference. It is an `Io` error of the kind
--- `InvalidData` if a line is not UTF-8 and no line before it has a reference.
+-- Why no reference was found. The failure is `Absent` if all lines are UTF-8 and no line has a reference. The failure
+-- is an `Io` error of the kind `InvalidData` if a line is not UTF-8 and no earlier line has a reference.
 abbrev pub IsNotFound : Option (Option Reference) → Failure → Type 0
 IsNotFound due (Library e) = (due ≡ None) × IsInvalidData e
 IsNotFound due Absent = due ≡ Some None
@@ -41,8 +41,8 @@ OfTexts url base Due due = IsUtf8 url × IsUtf8 base × Due due
 abbrev pub LeadsTo : (url base : List ℕ) → (Result (Option (List ℕ)) Error → Type 0) → Option Held → Type 0
 LeadsTo url base Due held = (text : List ℕ) × (bytes_in held ≡ Some text) × OfTexts url base Due (Ok (Some text))
 
--- Why there is no resolved reference: `Utf8` if a text is not UTF-8, otherwise `Absent` or an error of the library, as
--- `Due` allows.
+-- Why there is no resolved reference. The failure is `Utf8` if `url` or `base` is not UTF-8. Otherwise the failure is
+-- an error of the library that `Due` allows, or `Absent` if `Due` allows `Ok None`.
 abbrev pub LeadsNowhere : (url base : List ℕ) → (Result (Option (List ℕ)) Error → Type 0) → Failure → Type 0
 LeadsNowhere url base Due (Library e) = (IsNoText url e ⊎ IsNoText base e) ⊎ OfTexts url base Due (Err e)
 LeadsNowhere url base Due Absent = OfTexts url base Due (Ok None)
@@ -62,14 +62,14 @@ abbrev pub Refers : Result SourceMapRef Error → List ℕ → Type 0
 Refers (Ok found) url = (url_of found ≡ url) × IsUtf8 url
 Refers (Err e) url = LibraryUnless e (IsNoText url e)
 
--- The result of resolving the reference `url` against `base`, the URL of the generated text: `resolved base url`. The
--- result may also be `None` if `base` has 2^28 bytes or more, or if `url` and the parsed `base` together have 2^28
--- bytes or more. The only error is out of memory.
+-- The call resolves the reference `url` against `base`, the URL of the generated text. The call returns
+-- `resolved base url`. The call may instead return `None` if `base` has 2^28 bytes or more, or if `url` and the parsed
+-- `base` together have 2^28 bytes or more. The only error is out of memory.
 abbrev pub Resolves : (base url : List ℕ) → Result (Option (List ℕ)) Error → Type 0
 Resolves base url = UnlessLong (resolved base url) (IsLongJoin base url)
 
--- The result of resolving the reference `url` against `path`, the path of the generated text: `resolved_path path url`.
--- The result may also be `None` if the `file` URL of `path` has 2^28 bytes or more, or if `url` and the parsed `file`
--- URL together have 2^28 bytes or more. The only error is out of memory.
+-- The call resolves the reference `url` against `path`, the path of the generated text. The call returns
+-- `resolved_path path url`. The call may instead return `None` if the `file` URL of `path` has 2^28 bytes or more, or
+-- if `url` and the parsed `file` URL together have 2^28 bytes or more. The only error is out of memory.
 abbrev pub ResolvesPath : (path url : List ℕ) → Result (Option (List ℕ)) Error → Type 0
 ResolvesPath path url = UnlessLong (resolved_path path url) (IsLongJoin (url_text path false) url)

@@ -13,7 +13,8 @@ fitting numbers array = min (length numbers) (length array)
 abbrev pub overwritten : (numbers array : List ℤ) → List ℤ
 overwritten numbers array = take (fitting numbers array) numbers ++ drop (fitting numbers array) array
 
--- the result of decoding bytes as a segment: its numbers, its first error, or that the bytes are not UTF-8
+-- the result of decoding bytes as a segment: the numbers, the first error of the segment, or `Utf8` if the bytes are
+-- not UTF-8
 abbrev pub ParsingAnswers : List ℕ → Result (List ℤ) Error → Type 0
 ParsingAnswers bytes (Ok numbers) = IsUtf8 bytes × SegmentAnswers bytes (Ok numbers)
 ParsingAnswers bytes (Err e) = IsNoText bytes e ⊎ (IsUtf8 bytes × SegmentAnswers bytes (Err e))
@@ -25,7 +26,7 @@ pub record WritesNumbers (segment : List ℕ) (old new : List ℤ) (count : ℕ)
   pub written : new ≡ overwritten numbers old
   pub counted : count ≡ length numbers
 
--- the handle has the segment of these numbers
+-- the handle has the text of a segment with these numbers, each number in as few digits as possible
 abbrev pub HoldsSegment : List ℤ → Option (List ℕ) → Type 0
 HoldsSegment numbers (Some text) = Spells numbers text
 HoldsSegment numbers None = ⊥

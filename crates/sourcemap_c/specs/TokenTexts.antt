@@ -17,7 +17,8 @@ abbrev pub HoldsTextOf : (index : ℕ) → Option MapValue → (held : Option (L
 HoldsTextOf index None held = ⊥
 HoldsTextOf index (Some m) held = (text : List ℕ) × (text_of_token index m ≡ Some text) × (held ≡ Some text)
 
--- why there is no text: `Absent` if the map has no token with this index, `WrongKind` if there is no map with tokens
+-- Why there is no text: `WrongKind` if there is no regular or Hermes map, `Absent` if the map has no token with this
+-- index.
 abbrev pub LacksTextOf : (index : ℕ) → Option MapValue → Failure → Type 0
 LacksTextOf index None failure = failure ≡ WrongKind
 LacksTextOf index (Some m) failure = (failure ≡ Absent) × (text_of_token index m ≡ None)

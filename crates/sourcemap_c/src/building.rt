@@ -311,10 +311,12 @@ fn set_source(alloc: Global, builder: &mut Handle, id: u32, source: &[u8]) -> Ou
     }
 }
 
-/// Removes from each source the first of `prefixes` that the source starts with. Before that, `/`
-/// is added to each prefix that does not end with it. The builder remembers the text with which
-/// each source was added. If such a text is added again, `sm_builder_add_source` writes the same
-/// id.
+/// Removes from each source the first of `prefixes` that the source starts with. A prefix that does
+/// not end with `/` is used with a `/` appended: `a` turns `a/b` into `b`, and does not match `ab`.
+/// `~` has no special meaning. The builder remembers the text with which each source was added. If
+/// such a text is added again, `sm_builder_add_source` writes the same id. The errors are `Utf8` if
+/// a prefix is not UTF-8, `WrongKind` if the handle holds no builder, and `OutOfMemory`. After an
+/// error the value of the handle is unchanged.
 #[unsafe(no_mangle)]
 pub extern "C" fn sm_builder_strip_prefixes(
     alloc: Global,

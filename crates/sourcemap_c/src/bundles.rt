@@ -221,7 +221,11 @@ fn put_module<'a>(bundle: &'a RamBundle<'static>, id: usize, bytes: &mut &'a [u8
     }
 }
 
-/// Splits the bundle by its index map and fills `split` with the modules and their maps.
+/// Splits the bundle in `bundle` by the index map in `index`. Fills `split` with all items that the
+/// iterator of `split_ram_bundle` returns. An item is the name, the text and the map of a module,
+/// or an error. If an item is the error `OutOfMemory`, the call returns `OutOfMemory`. The other
+/// errors of the call are the errors of `split_ram_bundle`, and `WrongKind` if `bundle` holds no
+/// bundle or `index` holds no index map. After an error `split` is unchanged.
 #[unsafe(no_mangle)]
 pub extern "C" fn sm_bundle_split(
     alloc: Global,

@@ -18,14 +18,15 @@ use sourcemap_trace::trace_text;
 use std::alloc::Global;
 
 /// Looks up each generated position of a list, and fills `text` with the answers. The list has one
-/// position on each line. A position is written as `12:5`: the line, a colon and the column, both
-/// counted from 0. For each line of `positions`, `text` has one line. This line is the text of the
-/// closest token, `none` if there is no closest token, or `bad position` if the line of `positions`
+/// position on each line. A position is written as `12:5`: the line, a colon and the column. Both
+/// count from 0 and are at most 4294967295. For each line of `positions`, `text` has one line with
+/// the answer. The answer is the text that `sm_lookup_text` writes, for example `a.js:3:4 name=f`.
+/// The answer is `none` if there is no closest token, and `bad position` if the line of `positions`
 /// is not a position.
 ///
 /// If an index map has unsorted sections at any level, an answer may be `none` or the text of a
 /// token that is not the closest. The error is `SM_WRONG_KIND` if `map` holds no map. The only
-/// other error is `SM_OUT_OF_MEMORY`.
+/// other error is `SM_OUT_OF_MEMORY`. After an error the value of `text` is unchanged.
 #[unsafe(no_mangle)]
 pub extern "C" fn sm_trace(
     alloc: Global,
@@ -68,8 +69,16 @@ fn put_trace(alloc: Global, map: &DecodedMap, positions: &[u8], text: &mut Handl
     }
 }
 
-/// Borrows the name of the function at a generated position. A Hermes map stores the name. For
-/// other maps the name is guessed from the generated text in `view` and the minified name.
+/// Borrows the name of the function at a generated position. A Hermes map has names for line 0
+/// only. For a Hermes map the call ignores `minified` and `view`. For other maps the call guesses
+/// the name from the tokens, from `minified` (the minified name) and from the generated text in
+/// `view`.
+///
+/// Returns `SM_ABSENT` if there is no name, and `SM_WRONG_KIND` if `map` holds no map. For a map
+/// that is no Hermes map, the call also returns `SM_WRONG_KIND` if `view` holds no view, and
+/// `SM_UTF8` if `view` holds a view and `minified` is not UTF-8. The name may be wrong or missing
+/// if an index map has unsorted sections at any level, or if a source of a Hermes map has unsorted
+/// functions.
 #[unsafe(no_mangle)]
 pub extern "C" fn sm_function_name<'a>(
     map: &'a mut Handle,

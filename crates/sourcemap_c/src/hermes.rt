@@ -1,4 +1,4 @@
-//! Regular maps of Hermes maps.
+//! Copies the regular map in a Hermes map.
 ghost use Rattle.std.specs.Prelude.{◌≡◌, None, Some, option_and_then, option_map};
 ghost use Rattle.sourcemap_c_handles.specs.Handles.{held_in};
 ghost use Rattle.sourcemap_index.specs.Family.{map_tree};

@@ -1,4 +1,5 @@
-//! Lookups of generated positions.
+//! Lookups of generated positions. If an index map has unsorted sections at any level, the answer
+//! to a lookup may be wrong.
 ghost use Rattle.std.specs.Prelude.{◌≡◌, ◌+◌, ◌<◌, ◌≤◌, ◌^◌, ℕ, IfSome, None, Some, length, min, option_and_then, option_map, slice_get, unwrap_or};
 ghost use Rattle.std.specs.Borrow.{sem};
 ghost use Rattle.std.specs.Option.{option_copied};

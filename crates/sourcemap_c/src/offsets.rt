@@ -1,4 +1,5 @@
-//! Calls for the lines at which modules begin, for the paths of modules, and for relative paths.
+//! Calls that read the paths of modules, and the lines at which modules begin. A call that makes a
+//! relative path.
 ghost use Rattle.std.specs.Prelude.{◌≡◌, ◌≤◌, ◌-◌, ℕ, Some, length, min, slice_get};
 ghost use Rattle.std.specs.Borrow.{sem};
 ghost use Rattle.std.specs.Option.{option_and_then, option_copied};
@@ -17,12 +18,13 @@ use sourcemap_c_handles::Handle;
 use sourcemap_c_handles::errors::{ErrorReport, Failure, Outcome, finish};
 use std::alloc::Global;
 
-// `SM_NONE` of the header.
+// `SM_NONE` of the C header.
 pub(crate) const NONE: u32 = u32::MAX;
 
-/// Writes for each module number, from `first` on, the line at which the module begins. The value
-/// is `SM_NONE` if there is no module with the number. Writes as many values as exist and fit in
-/// `offsets`. Writes to `written` how many values were written.
+/// Writes to `offsets[i]` the generated line at which module `first + i` begins, or `SM_NONE` if
+/// this module does not exist. Stops at the end of `offsets`, or at the end of `x_facebook_offsets`
+/// in the map. Writes to `written` the number of items written to `offsets`. Returns `SM_ABSENT` if
+/// the map has no `x_facebook_offsets`, and `SM_WRONG_KIND` if `map` holds no index map.
 #[unsafe(no_mangle)]
 pub extern "C" fn sm_module_offsets(
     map: &mut Handle,

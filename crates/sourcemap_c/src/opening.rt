@@ -19,7 +19,7 @@ use sourcemap_c_handles::{Handle, Held};
 use std::alloc::Global;
 use std::sync::Arc;
 
-// `SM_INTERFACE` of the header.
+// `SM_INTERFACE` of the C header.
 const INTERFACE: u32 = 1;
 
 /// The version of the interface.
@@ -30,7 +30,8 @@ pub extern "C" fn sm_interface() -> u32
     INTERFACE
 }
 
-/// Returns what the handle holds, as a number `SM_KIND_..` of the header.
+/// Returns one of the numbers `SM_KIND_..` of the C header: the kind of the value in the handle, or
+/// `SM_KIND_EMPTY` if the handle is empty.
 #[unsafe(no_mangle)]
 pub extern "C" fn sm_kind(handle: &mut Handle) -> u32
     ensures kind { result ≡ number_of (kind_of (held_in handle.old)) }
@@ -157,7 +158,9 @@ fn put_another(alloc: Global, map: &Arc<DecodedMap>, other: &mut Handle) -> Outc
     }
 }
 
-/// Writes whether the bytes are a source map.
+/// Writes to `answer` whether the bytes are a source map, by the rules of `is_sourcemap_slice`. The
+/// call checks which keys are present and not null, but no value except `version`. So `sm_open` may
+/// still refuse the bytes.
 #[unsafe(no_mangle)]
 pub extern "C" fn sm_is_source_map(
     alloc: Global,

@@ -24,7 +24,10 @@ use sourcemap_c_handles::errors::{ErrorReport, Failure, Outcome, finish};
 use sourcemap_c_handles::no_files::NoFiles;
 use std::alloc::Global;
 
-/// Replaces an index map by the regular map that it is flattened to.
+/// Flattens an index map. Afterwards the handle holds a regular map instead. The error is
+/// `SM_CANNOT_FLATTEN` if a section at any level has no map, if there would be more than 4294967295
+/// sources or names, or if a token would move past line or column 4294967295. The error is
+/// `SM_WRONG_KIND` if the handle holds no index map. The only other error is `SM_OUT_OF_MEMORY`.
 #[unsafe(no_mangle)]
 pub extern "C" fn sm_flatten(alloc: Global, map: &mut Handle, error: &mut ErrorReport) -> u32
     ensures { Answers result error.old error.new
@@ -72,10 +75,10 @@ fn flat(map: &DecodedMap) -> Outcome<DecodedMap>
     }
 }
 
-/// Adjusts the map in `map` to a later version of its generated text. `adjustment` holds the map
-/// from the later version to the current version. The error is `SM_WRONG_KIND` unless both handles
-/// hold regular maps. The error is `SM_INCOMPATIBLE` if a token would move past column 4294967295.
-/// The only other error is `SM_OUT_OF_MEMORY`.
+/// Adjusts the map in `map` to a later version of the map's generated text. The map in `adjustment`
+/// has generated positions in the later text, and original positions in the earlier text. The error
+/// is `SM_WRONG_KIND` unless both handles hold regular maps. The error is `SM_INCOMPATIBLE` if a
+/// token would move past column 4294967295. The only other error is `SM_OUT_OF_MEMORY`.
 #[unsafe(no_mangle)]
 pub extern "C" fn sm_compose(
     alloc: Global,
@@ -166,11 +169,12 @@ fn compose_copy(map: &SourceMap, adjustment: &SourceMap) -> Result<SourceMap>
 /// list. If `with_names` is false, removes all names. If `with_contents` is false, removes all
 /// contents.
 ///
-/// Removes from each source the first of `prefixes` that the source starts with. Before that, `/`
-/// is added to each prefix that does not end with it. The prefix `~` means the common prefix of all
-/// sources that are absolute paths. To find it, the call uses the sources as the map stores them,
-/// not resolved against `sourceRoot`. The call tries the common prefix last. If the common prefix
-/// is empty or `/`, the call ignores `~`.
+/// Removes from each source the first of `prefixes` that the source starts with. If a prefix does
+/// not end with `/`, the call adds `/` to the prefix beforehand: `a` turns `a/b` into `b`. The
+/// prefix `~` stands for the common prefix of all sources that are absolute paths: `/a` for `/a/b`
+/// and `/a/bc`. The common prefix is computed from the sources as the map stores them, not resolved
+/// against `sourceRoot`. Unused sources count too. The common prefix is tried last. If the common
+/// prefix is empty or `/`, the call ignores `~`.
 ///
 /// The error is `SM_UTF8` if a prefix is not UTF-8. The error is `SM_WRONG_KIND` if `map` holds an
 /// index map or no map. The only other error is `SM_OUT_OF_MEMORY`.

@@ -1,4 +1,4 @@
-//! Texts of tokens.
+//! Calls that write a token as text, for example as `a.js:3:5 name=total`.
 ghost use Rattle.std.specs.Prelude.{◌≡◌, None, Some, option_and_then, option_map};
 ghost use Rattle.sourcemap_c_handles.specs.Handles.{held_in};
 ghost use Rattle.sourcemap_index.specs.Family.{map_tree};
@@ -15,7 +15,11 @@ use sourcemap_c_handles::Handle;
 use sourcemap_c_handles::errors::{ErrorReport, Failure, Outcome, finish};
 use std::alloc::Global;
 
-/// Fills `text` with the text of the token with this index.
+/// Fills `text` with the source, original line, original column and name of the token with this
+/// index, for example `a.js:3:5 name=total`. Line and column count from 0. The source is resolved
+/// against `sourceRoot`. Without a name, the text is `a.js:3:5`. Without a source, the text begins
+/// with `<unknown>:`. The errors are `SM_ABSENT` if no token has this index, `SM_WRONG_KIND` if
+/// `map` holds neither a regular nor a Hermes map, and `SM_OUT_OF_MEMORY`.
 #[unsafe(no_mangle)]
 pub extern "C" fn sm_token_text(
     alloc: Global,
@@ -84,7 +88,10 @@ fn put_token(alloc: Global, token: Token<'_>, text: &mut Handle) -> Outcome<()>
     }
 }
 
-/// Fills `text` with the text of the closest token to a generated position.
+/// Looks up a generated position, and fills `text` with the closest token, in the form that
+/// `sm_token_text` writes. The column is the `original_column` that `sm_lookup` writes. If an index
+/// map has unsorted sections at any level, the answer may be wrong. The errors are `SM_ABSENT` if
+/// there is no closest token, `SM_WRONG_KIND` if `map` holds no map, and `SM_OUT_OF_MEMORY`.
 #[unsafe(no_mangle)]
 pub extern "C" fn sm_lookup_text(
     alloc: Global,

@@ -1,4 +1,4 @@
-//! Views of texts, with their tables of lines.
+//! Views: each view holds a text and a table of the lines of this text.
 ghost use Rattle.std.specs.Prelude.{◌≡◌, None, Some, length, option_map, slice_get};
 ghost use Rattle.std.specs.Borrow.{sem};
 ghost use Rattle.std.specs.Option.{option_copied};
@@ -120,7 +120,10 @@ fn put_line<'a>(view: Option<&'a SourceView>, line: u32, text: &mut &'a [u8]) ->
     }
 }
 
-/// Borrows a slice of a line: `span` UTF-16 units from column `column` on.
+/// Borrows a slice of a line: `span` UTF-16 units from column `column` on. If the slice would start
+/// or end inside a surrogate pair, this start or end moves to the end of the pair. Returns
+/// `SM_ABSENT` if there is no such line, or if the line has fewer than `column + span` units.
+/// Returns `SM_WRONG_KIND` if the handle holds no view.
 #[unsafe(no_mangle)]
 pub extern "C" fn sm_view_slice<'a>(
     view: &'a mut Handle,

@@ -114,7 +114,8 @@ fn put_url_of(alloc: Global, encoded: &[u8], text: &mut Handle) -> Outcome<()>
     }
 }
 
-/// Borrows the text that a call put into the handle.
+/// Borrows the text that an earlier call, for example `sm_write`, put into the handle `bytes`.
+/// Returns `SM_WRONG_KIND` if the handle holds no such text.
 #[unsafe(no_mangle)]
 pub extern "C" fn sm_bytes_text<'a>(bytes: &'a mut Handle, text: &mut &'a [u8]) -> u32
     ensures* after { sem 𝓛 (EndsAsBefore bytes.entry) }

@@ -105,7 +105,7 @@ written text = min (length text) 255
 abbrev pub over : List ℕ → List ℕ → List ℕ
 over text old = take (written text) text ++ 0 ∷ drop (written text + 1) old
 
--- Reports.
+-- The report that a call writes, and the code that the call returns.
 
 abbrev pub IsWritten : Code → Numbers → List ℕ → ErrorReport → ErrorReport → Type 0
 IsWritten code numbers text old new = new ≡ record {
@@ -118,7 +118,8 @@ IsWritten code numbers text old new = new ≡ record {
   text = over text old.text;
 }
 
--- the report of a failure; the text of an error of std is not specified
+-- `new` is `old` after the report of `failure` was written to `old`. The written text is `failure_text failure`. If
+-- `failure_text failure` is `None` (for `Io` and `Utf8`), the definition allows any text.
 abbrev pub IsOf : Failure → ErrorReport → ErrorReport → Type 0
 IsOf failure old new = (text : List ℕ) × IsWritten (code_of failure) (failure_numbers failure) text old new × IfSome (failure_text failure) (λ due. text ≡ due)
 

@@ -9,6 +9,6 @@ use Rattle.sourcemap_c_handles.specs.declared.held.Held.{Held}
 abbrev pub held_in : Handle → Option Held
 held_in handle = handle.sealed.content
 
--- when the borrow `handle` ends, the handle holds the value that `handle.now` holds
+-- when the borrow `handle` ends, the borrowed handle holds what `handle.now` holds
 abbrev pub EndsAsBefore : MutBor Handle → Fml
 EndsAsBefore handle = follows_so the_row the_row handle.ghost_name none (λ _ _. ⊤) (λ n. held_in n ≡ held_in handle.now)

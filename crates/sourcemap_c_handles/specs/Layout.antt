@@ -5,7 +5,7 @@ use Rattle.sourcemap_map_regular.specs.Token.{TokenValue, says}
 use Rattle.sourcemap_c_handles.specs.declared.layout.Found.{Found}
 use Rattle.sourcemap_c_handles.specs.declared.layout.MapToken.{MapToken}
 
--- the struct of a stored token
+-- the `MapToken` with the fields of `raw`
 abbrev pub map_token : RawToken → MapToken
 map_token raw = record {
   line = raw.dst_line;
@@ -28,8 +28,9 @@ raw_token token = record {
   is_range = token.is_range;
 }
 
--- The struct of a token that a lookup found. The struct has the stored fields of the token, with one exception: the
--- `extra_columns` of the token are added to the original column. A sum above 4294967295 becomes 4294967295.
+-- The `MapToken` of a token that a lookup found. `original_column` is the sum of `token.raw.src_col` and
+-- `token.extra_columns`, but at most 4294967295. The other fields are those of `token.raw`. `extra_columns` is 0 unless
+-- the token is a range token on the line of the looked-up position.
 abbrev pub found_token : TokenValue → MapToken
 found_token token = record (map_token token.raw) { original_line = (says token).line; original_column = (says token).column }
 

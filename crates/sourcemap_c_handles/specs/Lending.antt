@@ -1,4 +1,4 @@
--- A `Sealed` after a borrow of its value has ended.
+-- The content of a `Sealed` when a borrow of this content ends.
 use Rattle.std.specs.Prelude.{Some}
 use Rattle.std.specs.Borrow.{Fml, Lends, MutBor}
 use Rattle.sourcemap_c_handles.specs.contracts.held.Held.{the_row as held_row}

@@ -50,7 +50,7 @@ pub enum Failure {
     PastLimit,
 }
 
-/// The result of a call before it is reported to C.
+/// The result of a call before the result is reported to C.
 pub type Outcome<T> = std::result::Result<T, Failure>;
 
 /// The struct `sm_error` of the C header.
@@ -150,7 +150,7 @@ fn error_code(error: &Error) -> Code
     }
 }
 
-// The numbers of a report.
+// The fields `number`, `start`, `size` and `length` of an `ErrorReport`.
 #[derive(Clone, Copy)]
 pub(crate) struct Numbers {
     number: u32,

@@ -19,7 +19,7 @@ pub enum Held {
     Bundle(RamBundle<'static>),
     /// The modules of a split RAM bundle. For an invalid module, the list has the error.
     Split(Vec<Result<SplitModule>>),
-    /// A text that a call returned.
+    /// A text that a call made.
     Bytes(Vec<u8>),
     /// The sections of an index map that is being made.
     Sections(Vec<SourceMapSection>),

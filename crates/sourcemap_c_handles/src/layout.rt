@@ -67,7 +67,7 @@ pub struct SectionStart {
 }
 
 impl MapToken {
-    /// The struct of a stored token.
+    /// The `MapToken` with the fields of `raw`.
     pub fn of_raw(raw: RawToken) -> MapToken
         ensures { result ≡ map_token raw }
     {
@@ -97,10 +97,10 @@ impl MapToken {
         }
     }
 
-    /// The struct of a token that a lookup found. The struct has the stored fields of the token,
-    /// with one exception. If the token is a range token on the line of the looked-up position, the
-    /// columns from the token to this position are added to the original column. A sum above
-    /// 4294967295 becomes 4294967295.
+    /// The `MapToken` of a token that a lookup found. `original_column` is `token.get_src_col()`,
+    /// and the other fields are those of `token.get_raw_token()`. If the token is a range token on
+    /// the line of the looked-up position, `get_src_col` adds the columns from the token to this
+    /// position. A sum above 4294967295 becomes 4294967295.
     pub fn of_found(token: &Token<'_>) -> MapToken
         ensures { result ≡ found_token (token_value token.now) }
     {

@@ -1,5 +1,5 @@
-//! A file system without files. `rewrite` takes a file system as a parameter, but reads no file if
-//! `load_local_source_contents` is false. Such a call can pass `NoFiles`.
+//! A file system without files. `rewrite` takes a file system as a parameter. If the option
+//! `load_local_source_contents` is false, `rewrite` reads no file, and a caller can pass `NoFiles`.
 ghost use Rattle.std.specs.Prelude.{IsErr};
 
 use std::alloc::Allocator;

@@ -47,7 +47,7 @@ token_line t =
     ++ token_text (says t) ++ range_mark t ++ newline
 
 -- the line that is printed for a lookup: the text of the closest token, or `none`. For an index map with unsorted
--- sections, the token is unspecified
+-- sections, the line may have the text of any token, or `none`
 abbrev pub IsLookupLine : MapTree → ℕ × ℕ → List ℕ → Type 0
 IsLookupLine t p text = (found : Option TokenValue) × (text ≡ found_text found ++ newline) × (IsInOrder t → found ≡ lookup t p)
 
@@ -92,7 +92,8 @@ traced t (Ok positions) = Ok (trace_of (meaning t) positions)
 traced t (Err e) = Err e
 
 -- the output of a command for a map, or the error of the command; `compose` also takes an adjustment. A map of the
--- wrong kind is reported before other errors. `trace` also needs positions, so it has no output here
+-- wrong kind is reported before other errors. `Returns` is false for `trace`, which also needs positions (see
+-- `ReturnsWithFile`)
 abbrev pub Returns : Command → MapTree → Option MapTree → Result (List ℕ) Error → Type 0
 Returns (Lookup line col) t _ answer = IsOkAnd answer (IsLookupLine t (line, col))
 Returns Tokens (leaf l) _ answer = answer ≡ Ok (flat_map token_line (tokens_from (held l) 0))
@@ -111,7 +112,8 @@ abbrev pub FileDecodes : Result (List ℕ) Error → Result MapTree Error → Ty
 FileDecodes (Ok bytes) decoded = BytesDecode bytes decoded
 FileDecodes (Err e) decoded = decoded ≡ Err e
 
--- the output of a command for a map; the file holds the adjustment of `compose` or the positions of `trace`
+-- the output of a command for a map, or the first error; the file holds the adjustment of `compose` or the positions
+-- of `trace`
 abbrev pub ReturnsWithFile : Result (List ℕ) Error → Command → MapTree → Result (List ℕ) Error → Type 0
 ReturnsWithFile file (Compose path) t answer = Then (FileDecodes file) (λ other a. Returns (Compose path) t (Some other) a) answer
 ReturnsWithFile file (Trace _) t answer = answer ≡ traced t file
@@ -140,7 +142,8 @@ Ends words bytes file (answered answer) =
     (command : Command) × AskFor words command × ReturnsOnBytes command bytes file answer
 Ends words bytes file misused = AskForNone words
 
--- the text of an error and a newline; std does not specify the texts of its own errors
+-- the text of an error and a newline. For an error of std (`Io`, `Utf8`), any text is allowed, because std specifies
+-- no text
 abbrev pub IsRefusal : Error → List ℕ → Type 0
 IsRefusal e text =
     (line : List ℕ) × IfSome (error_text e) (λ known. line ≡ known) × (text ≡ line ++ newline)
@@ -181,8 +184,8 @@ abbrev pub MayBeRead : Result (List ℕ) Error → Type 0
 MayBeRead (Ok bytes) = Unit {0}
 MayBeRead (Err e) = UnlessReadFails e ⊥
 
--- the first argument is the preloaded result of reading a file, or `None` if nothing is preloaded. If there is a
--- preloaded result, `P` holds for this result. Otherwise `P` holds for at least one result that `MayBeRead` allows
+-- the first argument is the result of reading a file, or `None` if this result is unknown. If the result is known, `P`
+-- holds for the result. If the result is unknown, `P` holds for at least one result that `MayBeRead` allows
 abbrev pub WithFile : Option (Result (List ℕ) Error) → (Result (List ℕ) Error → Type 0) → Type 0
 WithFile (Some file) P = P file
 WithFile None P = (file : Result (List ℕ) Error) × MayBeRead file × P file
@@ -199,14 +202,15 @@ abbrev pub MayEnd : List (List ℕ) → (bytes : List ℕ) → (file : Result (L
 MayEnd words bytes file (answered (Err e)) = Ends words bytes file (answered (Err e)) ⊎ IsCutShort words e
 MayEnd words bytes file ending = Ends words bytes file ending
 
--- the text of this error was printed, or the text of `OutOfMemory` because the text of this error could not be
--- allocated
+-- the text of this error and a newline were printed, or the text of `OutOfMemory` and a newline. The program prints the
+-- text of `OutOfMemory` if the text of this error could not be allocated
 abbrev pub PrintsRefusal : Error → Option (List ℕ) → Option (List ℕ) → Type 0
 PrintsRefusal e old new = (reported : Error) × ((reported ≡ e) ⊎ (reported ≡ OutOfMemory))
     × ((printed : List ℕ) × IsRefusal reported printed × Appends old new printed)
 
--- The reply, or the error instead of it, was printed, and the run ended with this status. The last two arguments are
--- what standard output has before and after the run.
+-- `Ok reply`: the text of the reply was printed, and the run ended with the status of the reply. `Err e`: the error was
+-- printed as `PrintsRefusal` states, and the run ended with status 1. `old` and `new` are the contents of standard
+-- output before and after the run.
 abbrev pub IsPrinted : Result Reply Error → ℕ → Option (List ℕ) → Option (List ℕ) → Type 0
 IsPrinted (Ok reply) status old new =
     (status ≡ reply.status) × Appends old new (string_bytes reply.text)
@@ -217,7 +221,8 @@ abbrev pub IsWriteError : Error → Type 0
 IsWriteError e = (cause : IoError) × FromIo cause e
 
 -- a run with these words ends with this status, and changes standard output from `old` to `new`. `input` holds the
--- bytes of standard input; if it is `None`, these may be any bytes
+-- bytes of standard input. If `input` is `None`, standard input may hold any bytes. Reading the file that the words
+-- name may have any result that `MayBeRead` allows
 abbrev pub Runs : List (List ℕ) → Option (List ℕ) → ℕ → Option (List ℕ) → Option (List ℕ) → Type 0
 Runs words input status old new = Reading input (λ bytes. WithFile None (λ file.
     (ending : Ending) × MayEnd words bytes file ending

@@ -64,7 +64,8 @@ fn trace<F: Files>(
     trace_text(alloc, map, positions.as_slice())
 }
 
-// A file is opened only after the map is decoded, so an invalid map is reported first.
+// The map is decoded before FILE is opened. If decoding fails, FILE is not opened, and the result
+// is the decoding error.
 fn execute<F: Files>(
     rt: &F,
     alloc: Global,
@@ -120,11 +121,12 @@ fn usage_reply(alloc: Global) -> Result<Reply>
 /// - Status 0: the output of the command, as returned by `apply`, or for `Trace` by `trace_text`.
 /// - Status 1: the text of the first error and a newline. Errors are checked in this order:
 ///   `decode_slice` returns an error for `bytes`; the file could not be read; the file of `Compose`
-///   does not decode; the command returns an error. `decode_slice` returns `Io` only if the junk
-///   header is invalid.
+///   does not decode; the command returns an error. An `Io` error says that a junk header is
+///   invalid, or that the file could not be read. std does not specify the text of an `Io` error.
 /// - Status 2: the usage, for words that are no command.
 ///
-/// The only error is `OutOfMemory`.
+/// The only error is `OutOfMemory`. No reply reports this error, even if `file` is
+/// `Err(OutOfMemory)`.
 pub fn reply_to<F: Files>(
     rt: &F,
     alloc: Global,
@@ -135,7 +137,8 @@ pub fn reply_to<F: Files>(
     ensures answer { MatchResult result
         (IsReplyTo (map string_bytes words.now) bytes.items (file_read file))
         (λ e. e ≡ OutOfMemory) }
-    // The reply is right for every ending that `Ends` allows, not just for one of them.
+    // `answer`: the reply has the text and the status of some ending that `Ends` allows. `only`:
+    // the reply has the text and the status of every ending that `Ends` allows.
     ensures only { IfOk result (λ reply. (due : Ending)
         → Ends (map string_bytes words.now) bytes.items (file_read file) due
         → IsReply due reply) }
@@ -242,7 +245,7 @@ pub fn run<F: Files, R: Read, W: Write>(
 
 /// Law: the same words, bytes and file have one reply. The only exception is the text of a reply
 /// that reports an error of std, because std does not specify this text. An error of std means that
-/// a junk header is invalid or that a read of the file failed.
+/// a junk header is invalid, or that the file could not be opened or read.
 pub fn replies_are_determined()
     ensures { (words : List (List ℕ)) (bytes : List ℕ) (read : Result (List ℕ) Error) (a b : Ending)
         → Ends words bytes read a → Ends words bytes read b

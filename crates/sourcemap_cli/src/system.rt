@@ -10,9 +10,9 @@ use std::env::Env;
 use std::io::{ErrorKind, Write};
 use std::{env, io};
 
-/// Returns the arguments of the process after the program's name. If an argument is not UTF-8,
-/// returns an empty list, which is not a command. Returns `OutOfMemory` if memory runs out. Any
-/// other error of the environment is `Io`.
+/// Returns the arguments of the process after the program's name. If the name or an argument is not
+/// UTF-8, returns an empty list, which is not a command. The error is `OutOfMemory` if memory runs
+/// out, and `Io` if the arguments cannot be read for any other reason.
 pub fn words<R: Env + AllocGlobal>(rt: &R) -> Result<Vec<String>>
     ensures error { IfErr result (λ e. UnlessMemory e (IsIo e)) }
 {

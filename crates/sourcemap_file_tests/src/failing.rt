@@ -1,4 +1,4 @@
-// Files whose reads fail.
+// Loading of contents from files that cannot be opened or read, or have wrong or no metadata.
 use crate::checks::check;
 use crate::folders::count_or_error;
 use sourcemap::{Result, SourceMapBuilder};
@@ -22,7 +22,8 @@ fn file<'a>(path: &'a str, bytes: &'a [u8], fails: bool, size: Option<u64>) -> F
 
 // Six files: `/a.js`; `/grown.js`, whose metadata report too few bytes; `/cut.js`, whose metadata
 // report too many; `/late.js`, which fails after its first byte; `/strange.js`, without metadata;
-// and `/never.js`, which cannot be opened. All errors have this kind.
+// and `/never.js`, which cannot be opened. Errors of opening and reading these files have the kind
+// `kind`.
 fn failing_files(kind: ErrorKind) -> FakeFiles<'static, 6> {
     FakeFiles {
         paths: [

@@ -5,7 +5,8 @@ use std::os::unix::fs::symlink;
 use std::rt::{Env, Files};
 use std::{env, fs, io};
 
-/// Creates a folder of this name in the current one and returns its absolute path.
+/// Creates an empty folder of this name in the current directory, and returns the absolute path of
+/// the folder. A folder that already has this name is removed first.
 pub fn folder<R: Files + Env + AllocGlobal>(rt: &R, name: &str) -> io::Result<String> {
     let _ = fs::remove_dir_all(rt, name);
     fs::create_dir(rt, name)?;
@@ -55,7 +56,8 @@ pub fn expand_folder(alloc: Global, folder: &str, text: &str) -> Result<String> 
     }
 }
 
-/// The count of loaded files, or the text of the error.
+/// The number of loaded files, or the text of the error. The text of an `Io` error of kind
+/// `InvalidInput` is `invalid input`.
 pub fn count_or_error(alloc: Global, loaded: Result<usize>) -> Result<String> {
     match loaded {
         Ok(count) => Ok(format!(in alloc; "{count}")?),
@@ -80,7 +82,7 @@ fn count_contents(builder: &SourceMapBuilder, count: u32) -> usize {
 /// Calls `load_local_source_contents`, and calls it once more if the first call returns
 /// `OutOfMemory`. Contents that the first call loaded stay in the builder, so the second call loads
 /// only contents that are still missing. Returns the number of loaded contents. If there is a
-/// second call, contents from the first call are counted only for sources with ids below `count`.
+/// second call, contents from the first call count only for source ids below `count`.
 ///
 /// The error is `Io` of kind `InvalidInput` if neither `base` nor `current` is absolute. Any other
 /// error is `OutOfMemory`, from the second call.

@@ -54,7 +54,7 @@ fn load_text<F: Files>(
     Ok(out)
 }
 
-// `@` stands for the path of the folder.
+// `@` at the start of a source, of `current` or of `base` stands for the path of the test's folder.
 struct Row {
     about: &'static str,
     sources: &'static [&'static str],
@@ -260,7 +260,8 @@ fn contents_are_loaded(rt: HostRuntime) -> io::Result<()> {
     fs::remove_dir_all(&rt, "contents_are_loaded")
 }
 
-// The count of loaded files, the length of the first, and whether its bytes are right.
+// Loads `long.js`. Returns the number of loaded files, the length of the contents in bytes, and
+// whether the contents equal `bytes`.
 fn long_loaded<F: Files>(rt: &F, alloc: Global, folder: &str, bytes: &[u8]) -> Result<String> {
     let mut builder = builder(alloc, folder, &["long.js"], None)?;
     let count = builder.load_local_source_contents(rt, folder, None)?;

@@ -81,7 +81,7 @@ static ANSWERS: [(&str, Getter, &str); 13] = [
     (FULL, Getter::Section(0), r#"1 4 (1, 4) Some("u") false"#),
     (FULL, Getter::Section(1), "2 0 (2, 0) None true"),
     (FULL, Getter::Section(2), "none"),
-    // Sections are numbered in the order of their offsets, and not of the text.
+    // Sections are numbered in the order of their offsets, not in their order in the text.
     (
         UNSORTED,
         Getter::Section(0),

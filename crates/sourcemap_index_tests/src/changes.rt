@@ -23,7 +23,7 @@ enum Change {
     Map(u32),
     // the section of this number gets a new map: an index map without sections
     NewMap(u32),
-    // the debug id of the map of the section of this number is removed
+    // in the section of this number, the debug id of the map is removed
     DebugId(u32),
 }
 
@@ -141,7 +141,8 @@ fn apply_change(alloc: Global, change: Change) -> Result<String> {
     change_text(alloc, &mut *make_index(alloc)?, change)
 }
 
-// A change, and what the index is afterwards.
+// A change, and the result of `change_text`: `file` and the sections of the changed index map, and
+// whether the map of the second section has a debug id.
 static CHANGES: [(Change, &str); 11] = [
     (
         Change::Nothing,

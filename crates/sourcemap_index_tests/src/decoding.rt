@@ -62,7 +62,7 @@ static TEXTS: [(&str, &str); 19] = [
     ),
     (r#"{"sections":null,"mappings":"A"}"#, "a regular map"),
     // A map that has `x_facebook_sources` but no `sections` is decoded as a Hermes map. The same
-    // holds for the map of a section. A null value counts as missing.
+    // holds for the map of a section. If `x_facebook_sources` is null, it counts as missing.
     (
         r#"{"x_facebook_sources":[],"mappings":"A"}"#,
         "a Hermes map",
@@ -110,8 +110,8 @@ static TEXTS: [(&str, &str); 19] = [
         r#"{"sections":[{"offset":{"line":0,"column":0},"map":{"mappings":"AAAAAA"}},{"offset":{"line":1,"column":0},"map":{"x_facebook_sources":[],"mappings":"!"}}]}"#,
         "got 6 segments, expected 4 or 5",
     ),
-    // The whole record is read before the map of any section is decoded. So the error is the
-    // missing column of the second section, not the invalid mappings of the first section.
+    // The fields of all sections are read before any mappings are decoded. So the error is for the
+    // missing column of the second section, not for the invalid mappings of the first section.
     (
         r#"{"sections":[{"offset":{"line":0,"column":0},"map":{"mappings":"!"}},{"offset":{"line":1}}]}"#,
         "bad json: a field has the wrong type",
@@ -153,8 +153,8 @@ static INDEXES: [(&str, &str); 8] = [
         r#"1:2 None a map;3:0 Some("p") no map;"#,
     ),
     (r#"{"sections":[]}"#, ""),
-    // A record without sections is `IncompatibleSourceMap`. Its mappings are not decoded, so
-    // invalid mappings do not change the error.
+    // If `sections` is missing or null, the error is `IncompatibleSourceMap`. The mappings are not
+    // decoded, so invalid mappings do not change the error.
     (
         r#"{"mappings":"!"}"#,
         "encountered incompatible sourcemap format",

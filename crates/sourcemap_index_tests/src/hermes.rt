@@ -82,7 +82,8 @@ fn read_back(alloc: Global, value: &Value) -> Result<Value> {
     DecodedMap::from_value(alloc, value)?.into_value()
 }
 
-// Writes the map of a text, reads it back, and returns the text that it is then written as.
+// Decodes a text, and writes the map as a JSON value. Then reads the JSON value back, and returns
+// the JSON text of the map that was read back.
 fn written_again(alloc: Global, text: &str) -> Result<String> {
     let value = value_of(alloc, text)?;
     value_text(alloc, read_back(alloc, &value))
@@ -123,7 +124,7 @@ fn kinds(alloc: Global, text: &str) -> Result<String> {
     Ok(format!(in alloc; "{regular}; {hermes}")?)
 }
 
-// A text, and its errors as a regular map and as a Hermes map.
+// A text, and the errors of reading the text as a regular map and as a Hermes map.
 static KINDS: [(&str, &str); 3] = [
     (SHORT, "encountered incompatible sourcemap format; no error"),
     (

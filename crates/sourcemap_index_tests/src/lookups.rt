@@ -10,7 +10,8 @@ use std::alloc::Global;
 const TWO: &str =
     r#"{"version":3,"sections":[{"offset":{"line":0,"column":0},"map":{"version":3,"sources":["a.js"],"names":[],"mappings":"AAAA"}},{"offset":{"line":10,"column":4},"map":{"version":3,"sources":["b.js"],"names":[],"mappings":"AAAA"}}]}"#;
 
-// Only on the first line of a section do columns count from its offset.
+// On the first line of a section, columns count from the offset's column. On later lines, columns
+// count from 0. So the tokens of this section are at 2:4, 2:8 and 3:4.
 const LINES: &str =
     r#"{"sections":[{"offset":{"line":2,"column":4},"map":{"sources":["a.js"],"mappings":"AAAA,IAAI;IACA"}}]}"#;
 
@@ -76,7 +77,7 @@ static POSITIONS: [(&str, u32, u32, &str); 28] = [
     (HERMES, 2, 7, "b.js:0:7"),
 ];
 
-/// The text of a token.
+/// The text of a token, or `none` if there is no token.
 pub fn token_text(alloc: Global, token: Option<Token<'_>>) -> Result<String> {
     match token {
         None => Ok(String::from_str(alloc, "none")?),
@@ -119,7 +120,8 @@ static FLAT_POSITIONS: [(&str, u32, u32, &str, &str); 4] = [
     (MIXED, 0, 9, "b.js:0:0", "a.js:0:0"),
 ];
 
-/// The text of a token of the flattened map of an index.
+/// Flattens `index`, and looks the position up in the flattened map. Returns the text of the token,
+/// or `none` if there is no token. The errors are those of `flatten`.
 pub fn flat_token_text(
     alloc: Global,
     index: &SourceMapIndex,

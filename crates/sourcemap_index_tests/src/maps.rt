@@ -7,7 +7,7 @@ use sourcemap::types::{DecodedMap, SourceMapIndex};
 use sourcemap_test_support::results::{box_result, error_of};
 use std::alloc::Global;
 
-/// The map of a text.
+/// Decodes a text to a map of any kind. The errors are those of `decode_slice`.
 pub fn map_of(alloc: Global, text: &str) -> Result<Box<DecodedMap>> {
     box_result(alloc, decode_slice(alloc, text.as_bytes()))
 }

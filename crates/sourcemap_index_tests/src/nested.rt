@@ -52,8 +52,9 @@ fn read(alloc: Global, depth: usize) -> Result<String> {
     looked_up(alloc, map_of(alloc, text.as_str()))
 }
 
-// How many index maps are nested, and what their text is read as. In the JSON text, each index map
-// adds three levels of nesting, and the innermost map adds two.
+// The number of nested index maps, and the result of decoding their JSON text. The result is the
+// text of the token at 0:0, or the error. In the JSON text, each index map adds three levels of
+// nesting, and the innermost map adds two. JSON text of more than 127 levels is not decoded.
 static TEXTS: [(usize, &str); 4] = [
     (20, "a.js:0:0"),
     (41, "a.js:0:0"),
@@ -168,9 +169,9 @@ fn write_nested(alloc: Global, depth: usize) -> Result<String> {
     written_text(alloc, &*nested_index(alloc, depth)?)
 }
 
-// The number of nested index maps, and the result of decoding the text that they are written to.
-// The result is the text of the token at 0:0 and whether the decoded map equals the written map, or
-// the error. Maps of any depth are written, but JSON text of more than 127 levels is not decoded.
+// The number of nested index maps, and the result of decoding the JSON text written for them. The
+// result is the text of the token at 0:0 and whether the decoded map equals the written map, or the
+// error. Maps of any depth are written, but JSON text of more than 127 levels is not decoded.
 static WRITTEN: [(usize, &str); 4] = [
     (20, "a.js:0:0 true"),
     (41, "a.js:0:0 true"),

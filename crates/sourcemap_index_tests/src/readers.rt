@@ -27,7 +27,8 @@ static TEXTS: [&str; 4] = [
     concat!(")]}'\r\n", r#"{"sources":["a.js"],"mappings":"AAAA"}"#),
 ];
 
-// A reader of these bytes, which fails after so many reads.
+// A reader of the bytes of `text`. Of the reads that do not return `Interrupted`, the first `reads`
+// succeed. Each later one fails with an error of kind `kind`.
 fn halting_reader(text: &str, reads: usize, kind: ErrorKind) -> HaltingReader<'_> {
     HaltingReader::new(text.as_bytes(), reads, kind)
 }
@@ -92,7 +93,8 @@ enum Kind {
     Index,
 }
 
-// The error of a reader that fails after so many reads.
+// Reads `text` as a map of kind `kind`. The reader fails after `reads` successful reads. Returns
+// the text of the error, or `no error`.
 fn read_error(alloc: Global, kind: Kind, text: &str, reads: usize) -> Result<String> {
     let reader = halting_reader(text, reads, ErrorKind::TimedOut);
     match kind {

@@ -23,11 +23,11 @@ const THREE: &[u8] =
 const AT_FIVE: &str =
     r#"{"sections":[{"offset":{"line":0,"column":0},"map":{"sources":["a.js"],"mappings":";;;;;AAAA,EAAE;AAAA"}}],"x_facebook_offsets":[5]}"#;
 
-// A line for each of the three modules.
+// The index map of `THREE`. The three modules are on the generated lines 5, 6 and 7.
 const LINE_BY_LINE: &str =
     r#"{"sections":[{"offset":{"line":0,"column":0},"map":{"sources":["a.js"],"sourcesContent":["A"],"names":["n"],"mappings":";;;;;AAAAA,EAAE;AAAA;AACAA"}}],"x_facebook_offsets":[5,6,7]}"#;
 
-// A bundle, its index map, and its items or why there are none.
+// A bundle, its index map, and the text that `split_text` returns for them.
 struct Row {
     about: &'static str,
     bundle: &'static [u8],
@@ -211,7 +211,8 @@ fn parts_text(alloc: Global, name: &str, source: &str, map: SourceMap) -> Result
     Ok(format!(in alloc; "{name} [{source}] {record}")?)
 }
 
-// The name, the text and the map of a module, or its error.
+// For `Ok`, the name, the text and the map of the module. For `Err`, the text of the error, but
+// `OutOfMemory` is returned as `Err`.
 fn item_text(alloc: Global, item: Result<(String, SourceView, SourceMap)>) -> Result<String> {
     match item {
         Ok((name, view, map)) => parts_text(alloc, name.as_str(), view.source(), map),
@@ -295,8 +296,8 @@ fn split_where_memory_fails(alloc: Global) -> Result<String> {
     Ok(format!(in alloc; "{count} | {again}")?)
 }
 
-// If one allocation of the test fails, only the item that needed it is lost, and the bundle is
-// split completely by the next call.
+// If one allocation fails while an item is made, only this item is `OutOfMemory`. The other items
+// are as in `ITEMS`. The next call of `split_ram_bundle` then returns all items.
 #[test]
 fn an_error_of_an_item_costs_no_other(rt: HostRuntime) {
     check(

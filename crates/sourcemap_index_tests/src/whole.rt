@@ -33,7 +33,7 @@ const HERMES: &str =
 const SHARED: &str =
     r#"{"sections":[{"offset":{"line":0,"column":0},"map":{"sources":["a.js"],"sourcesContent":["x"],"mappings":"AAAA"}},{"offset":{"line":1,"column":0},"map":{"sources":["a.js"],"sourcesContent":["y"],"mappings":"AAAA","ignoreList":[0]}}]}"#;
 
-// Only on the first line of a section do columns count from its offset.
+// The column of a section's offset moves only the tokens on the first line of the section.
 const INDENTED: &str =
     r#"{"sections":[{"offset":{"line":10,"column":4},"map":{"sources":["a.js"],"mappings":"AAAA;AAAA"}}]}"#;
 
@@ -53,7 +53,7 @@ fn flat(alloc: Global, text: &str) -> Result<String> {
     again(|| map_text(alloc, index.flatten()))
 }
 
-// An index, and its flattened map or the error.
+// Each row: an index map, and what `flatten` returns: a map or an error.
 static FLAT: [(&str, &str); 13] = [
     (
         TWO,
@@ -98,8 +98,9 @@ static FLAT: [(&str, &str); 13] = [
         r#"{"sections":[{"offset":{"line":0,"column":0},"map":{"sections":[{"offset":{"line":0,"column":0},"url":"inner"}]}},{"offset":{"line":1,"column":0},"url":"outer"}]}"#,
         "cannot flatten the indexed sourcemap: Section has an unresolved sourcemap: inner",
     ),
-    // The nested index map has a token on line 4294967295, the last line. Flattening would move
-    // this token down by one line, so it returns an error.
+    // The nested index map has a token on line 4294967295, the last line. The section that holds
+    // the nested index map starts on line 1. Flattening returns an error, because the token would
+    // move past the last line.
     (
         r#"{"sections":[{"offset":{"line":1,"column":0},"map":{"sections":[{"offset":{"line":4294967295,"column":0},"map":{"sources":["a.js"],"mappings":"AAAA"}}]}}]}"#,
         "cannot flatten the indexed sourcemap: a position passes 4294967295",
@@ -135,8 +136,8 @@ fn flat_rewritten<F: Files>(
 const UNUSED: &str =
     r#"{"sections":[{"offset":{"line":0,"column":0},"map":{"sources":["x.js","a.js"],"sourcesContent":["x","y"],"mappings":"ACAA"}}]}"#;
 
-// An index map, whether names are kept, and whether contents are loaded from files. Then its
-// flattened map after the rewriting, or the error.
+// Each row: an index map, whether names are kept, whether contents are loaded from files, and what
+// `flatten_and_rewrite` returns: a map or an error.
 static REWRITTEN: [(&str, bool, bool, &str); 6] = [
     (
         TWO,
@@ -212,8 +213,9 @@ const TWO_ROWS: &str =
 const FOUR_ROWS: &str =
     r#"{"sections":[{"offset":{"line":0,"column":0}},{"offset":{"line":10,"column":0}},{"offset":{"line":20,"column":0}},{"offset":{"line":4294967295,"column":0}}]}"#;
 
-// An index map, and the number of rows to move its sections down. Then whether the sections can
-// move, and the sections after the call.
+// Each row: an index map, the number of lines to move its sections down, and the wanted text. The
+// text begins with `true` if the sections are moved, otherwise with `false`. The list of the
+// sections after the call follows.
 static MOVED: [(&str, u32, &str); 8] = [
     (TWO_ROWS, 0, "true 0:0 None no map;10:0 None no map;"),
     (
@@ -280,8 +282,9 @@ fn moved_to(alloc: Global, text: &str, rows: u32, after: &str) -> Result<String>
     moved_beside(alloc, &mut *index_of(alloc, text)?, rows, &*after)
 }
 
-// An index map, the number of rows to move its sections down, and the expected index map. Then
-// whether the sections can move, and whether the index map afterwards equals the expected one.
+// Each row: an index map, the number of lines to move its sections down, the expected index map
+// after the call, and the wanted text. The text says whether the sections are moved, and whether
+// the index map after the call equals the expected index map.
 static MOVED_WHOLE: [(&str, u32, &str, &str); 4] = [
     (FILED, 0, FILED, "true true"),
     (FILED, 4294967294, FILED_LOWER, "true true"),
@@ -338,7 +341,7 @@ fn index_written_to(alloc: Global, text: &str) -> Result<String> {
     text_of(bytes)
 }
 
-// An index, and the text that it is written as.
+// Each row: the text of an index map, and the text written for the decoded index map.
 static WRITTEN: [(&str, &str); 9] = [
     (
         r#"{"sections":[],"debugId":"0123456789abcdef0123456789abcdef"}"#,
@@ -359,7 +362,8 @@ static WRITTEN: [(&str, &str); 9] = [
         r#"{"sections":[{"offset":{"line":0,"column":0},"map":{"sections":[],"x_facebook_offsets":[5,null],"x_metro_module_paths":["a.js"]}}],"x_metro_module_paths":["b.js"]}"#,
         r#"{"sections":[{"map":{"sections":[],"sources":null,"version":3,"x_facebook_offsets":[5,null],"x_metro_module_paths":["a.js"]},"offset":{"column":0,"line":0},"url":null}],"sources":null,"version":3,"x_metro_module_paths":["b.js"]}"#,
     ),
-    // A regular map and a Hermes map write neither list.
+    // `x_facebook_offsets` and `x_metro_module_paths` of a regular map or a Hermes map are not
+    // written.
     (
         r#"{"sections":[{"offset":{"line":0,"column":0},"map":{"mappings":"A","x_facebook_offsets":[5],"x_metro_module_paths":["a.js"]}},{"offset":{"line":1,"column":0},"map":{"mappings":"A","x_facebook_offsets":[5],"x_metro_module_paths":["a.js"],"x_facebook_sources":[]}}]}"#,
         r#"{"sections":[{"map":{"mappings":"A","names":[],"sources":[],"version":3},"offset":{"column":0,"line":0},"url":null},{"map":{"mappings":"A","names":[],"sources":[],"version":3,"x_facebook_sources":[]},"offset":{"column":0,"line":1},"url":null}],"sources":null,"version":3}"#,

@@ -25,10 +25,10 @@ const LONGEST: usize = 1 << 12;
 // The writer that a map is written to.
 #[derive(Clone, Copy)]
 enum Way {
-    // one that fails after so many bytes
+    // a writer whose writes fail after this many bytes; `None` is no limit
     Failing(Option<usize>),
-    // one that is interrupted before each byte, and takes at most this many bytes in total; `None`
-    // is no limit
+    // a writer that is interrupted before each byte, and takes at most this many bytes in total;
+    // `None` is no limit
     Halting(Option<usize>),
     // a buffer that the `to_writer` of the map's kind consumes
     Buffered,

@@ -108,8 +108,9 @@ fn adjustment(alloc: Global, rows: &[Row]) -> Made {
     make_map(alloc, rows, &["n"], &["t.js"])
 }
 
-// Adjusts a map. If memory runs out, the call is repeated. But if the failed call changed the map,
-// this returns an error that no adjustment returns.
+// Adjusts `map`. Before the call, `map` and `before` are equal. If memory runs out and `map` is
+// unchanged, repeats the call. If memory runs out and `map` is changed, returns `NotARamBundle`, an
+// error that no adjustment returns.
 fn adjust_again(map: &mut SourceMap, before: &SourceMap, by: &SourceMap) -> Result<()> {
     match map.adjust_mappings(by) {
         Err(Error::OutOfMemory) if *map != *before => Err(Error::NotARamBundle),
@@ -354,9 +355,9 @@ fn adjusted_maps_have_these_tokens_and_no_others(rt: HostRuntime) {
 }
 
 // Label. The tokens of the original map, then the tokens of the adjustment. A new position, then an
-// old position. The adjustment moves the old position to the new position. The text of a token. A
-// lookup of the new position in the adjusted map must find a token with this text. So must a lookup
-// of the old position in the original map. A `+` at the end of the text marks a range token.
+// old position: the adjustment moves the old position to the new position. The text of a token; a
+// final `+` marks a range token. Two lookups must find a token with this text: a lookup of the old
+// position in the original map, and a lookup of the new position in the adjusted map.
 static ALIKE: [(&str, [&[Row]; 2], [(u32, u32); 2], &str); 9] = [
     (
         "where a token was cut",

@@ -31,8 +31,8 @@ fn parts_text(alloc: Global, map: &SourceMap) -> Result<String> {
     Ok(format!(in alloc; "{head:?} {sources:?} {contents:?} {names:?}")?)
 }
 
-// How many tokens, sources and names there are, by getter and then by iterator. Then how many
-// contents, and whether there are names.
+// The numbers of tokens, sources and names: first from the getters, then from the iterators. Then
+// the number of items of `source_contents`, and the result of `has_names`.
 fn counts_text(alloc: Global, map: &SourceMap) -> Result<String> {
     let counts = (
         map.get_token_count(),
@@ -68,7 +68,8 @@ fn token_text(alloc: Global, token: Option<Token<'_>>) -> Result<String> {
     Ok(format!(in alloc; "{position:?} {source:?} {texts:?} {ids:?} {is:?}")?)
 }
 
-// The original column and the range flag of the raw token, and how many tokens its map has.
+// The original column and the range flag of the raw token, and the number of tokens in the map.
+// `none` without a token.
 fn raw_text(alloc: Global, token: Option<Token<'_>>) -> Result<String> {
     let Some(token) = token else {
         return Ok(String::from_str(alloc, "none")?);
@@ -93,7 +94,8 @@ fn answer(alloc: Global, getter: Getter) -> Result<String> {
     describe(alloc, &*map, getter)
 }
 
-// The second token leads to the second source and has no name.
+// A getter, and the text that `describe` returns for this getter and the map `FULL`. The second
+// token of `FULL` leads to the second source and has no name.
 static ANSWERS: [(Getter, &str); 7] = [
     (
         Getter::Texts,

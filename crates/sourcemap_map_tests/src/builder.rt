@@ -24,11 +24,11 @@ enum Step<'a> {
     Name(&'a str),
     // `add`: generated position, original line and column, source, name
     Token((u32, u32), (u32, u32), &'a str, Option<&'a str>),
-    // `add_raw` without a name: generated position, original line and column, source id, whether it
-    // is a range token
+    // `add_raw` without a name: generated position, original line and column, source id, whether
+    // the token is a range token
     Raw((u32, u32), (u32, u32), Option<u32>, bool),
-    // `add_token` with a token of another map: the text of that map, the token's column on line 0,
-    // whether the name is added too
+    // `add_token` with a token of another map: the JSON text of that map, the column where the
+    // token is looked up on line 0, whether the token's name is added too
     Found(&'a str, u32, bool),
 }
 
@@ -133,8 +133,8 @@ fn state(alloc: Global, builder: &SourceMapBuilder) -> Result<String> {
     Ok(out)
 }
 
-// Whether a failed step left the text of `state` unchanged. A failed `add` or `add_token` may have
-// appended to this text, because these calls can add the token's source and then fail.
+// Whether `state` returns the same text before and after a failed step. For `add` and `add_token`,
+// `after` only has to start with `before`: the call can add the token's source and then fail.
 fn is_as_before(step: &Step<'_>, before: &str, after: &str) -> bool {
     match step {
         Step::Token(_, _, _, _) => after.starts_with(before),
@@ -155,7 +155,8 @@ fn take_again(
     take(alloc, builder, step)
 }
 
-// Takes a step. If memory runs out, `is_as_before` must hold, and the step is repeated.
+// Takes a step. If memory runs out, calls `is_as_before`. If `is_as_before` returns true, the step
+// is taken once more. Otherwise, the error is `IncompatibleSourceMap`.
 fn take_twice(alloc: Global, builder: &mut SourceMapBuilder, step: &Step<'_>) -> Result<Answer> {
     let before = state(alloc, builder)?;
     match take(alloc, builder, step) {
@@ -178,8 +179,9 @@ fn built(alloc: Global, steps: &[Step<'_>]) -> Result<SourceMapBuilder> {
     Ok(builder)
 }
 
-// Appends `-`, an id as a number, or a token as in `0:5=1:1:4#0+`. The parts of a token are its
-// generated position, source id, original line and column, name id, and `+` for a range token.
+// Appends `-`, an id as a number, or a token as in `0:5=1:1:4#0+`. Then appends a space. The parts
+// of a token are its generated position, source id, original line and column, name id, and `+` for
+// a range token.
 fn push_answer(out: &mut String, answer: Answer) -> Result<()> {
     match answer {
         Answer::Done => out.push('-')?,
@@ -344,7 +346,7 @@ static ROWS: [Row; 7] = [
     },
 ];
 
-// File and root, sources 0 and 2, contents of source 0.
+// File and `sourceRoot`, sources 0 and 2, whether source 0 has contents, contents of source 0.
 fn describe(alloc: Global, builder: Result<SourceMapBuilder>) -> Result<String> {
     let builder = builder?;
     let head = (builder.get_file(), builder.get_source_root());

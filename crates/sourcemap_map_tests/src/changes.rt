@@ -70,8 +70,9 @@ fn set_contents(map: &mut SourceMap, id: u32, text: &str) -> Result<()> {
     }
 }
 
-// Makes a change. Returns `+` if it changed the map, else `=`. If memory runs out, the change is
-// repeated. But if the failed call changed the map, this returns `!`.
+// Makes a change. If memory runs out and `map` differs from `before`, returns `!`. If memory runs
+// out and `map` equals `before`, makes the change once more. After a successful change, returns `+`
+// if `map` differs from `before`, else `=`.
 fn mark_beside(map: &mut SourceMap, before: &SourceMap, change: &Change<'_>) -> Result<char> {
     let mut outcome = make(map, change);
     if matches!(outcome, Err(Error::OutOfMemory)) {

@@ -1,4 +1,5 @@
-// Decoding of maps from bytes and data URLs, and its errors.
+// Decoding of maps from bytes and data URLs, and the errors of decoding. Also copies and debug ids
+// of decoded maps, and the writing of data URLs.
 use crate::answers::id_text;
 use crate::checks::check;
 use crate::lookups::token_text;
@@ -139,7 +140,8 @@ fn proper_beginnings_of_a_text_are_no_json(rt: HostRuntime) {
     }
 }
 
-// Whether a map equals its copy, and whether the two differ once the map has lost its debug id.
+// Whether a map equals its copy. Then, after `set_debug_id(None)`, whether the map differs from the
+// copy and has no debug id.
 fn compare_copy(map: &mut DecodedMap) -> Result<(bool, bool)> {
     let copy = map.clone()?;
     let is_same = copy == *map;
@@ -159,7 +161,7 @@ fn maps_of_any_kind_are_copied(rt: HostRuntime) -> Result<()> {
     Ok(())
 }
 
-// Label, a text, and the debug id of its map.
+// Label and a text to decode. Then the debug id of the decoded map, or `none`.
 static DEBUG_IDS: [(&str, &str, &str); 3] = [
     ("no key", r#"{"mappings":""}"#, "none"),
     (

@@ -1,11 +1,12 @@
-//! Which texts are identifiers, and which identifier a text starts with.
+//! Which texts are identifiers, and which identifier the first word of a text starts with.
 use crate::checks::check;
 use sourcemap::Result;
 use sourcemap::js_identifiers::{get_javascript_token, is_valid_javascript_identifier};
 use sourcemap_test_support::results::optional_text;
 use std::alloc::Global;
 
-// A text, whether it is an identifier, and the identifier that its first word starts with.
+// A text. Then whether the whole text is an identifier, and the longest identifier at the start of
+// the first word of the text, or `none`.
 static TEXTS: [(&str, &str); 32] = [
     ("foo_$123", "true [foo_$123]"),
     (" foo", "false [foo]"),

@@ -1,7 +1,8 @@
 //! Tests of the facade `sourcemap`, mostly with regular maps. They cover decoding of bytes, data
 //! URLs and records, construction from parts and by builders, lookups, changes, rewriting and
 //! encoding. They also cover views of texts, names of functions, JavaScript identifiers, and the
-//! texts of errors. One module, `lines`, tests line tables of the crate `sourcemap_core`.
+//! texts of errors. One module, `lines`, tests line tables and byte offsets of UTF-16 columns, both
+//! through the facade `sourcemap_core`.
 #![tactic(auto)]
 
 #[cfg(test)]

@@ -44,7 +44,7 @@ fn tables_hold_where_lines_begin_and_end(rt: HostRuntime) {
 }
 
 // Line ends, the position where they start, and the length of the text. All other characters are
-// `a`. The text is read in blocks of bytes, and these line ends are near the edges of blocks.
+// `a`. The text is read in blocks of 64 bytes. These line ends are near multiples of 32.
 static ENDS: [(&str, usize, usize); 27] = [
     ("\n", 30, 64),
     ("\n", 31, 64),
@@ -133,7 +133,7 @@ fn line_ends_at_the_edges_of_blocks_are_found(rt: HostRuntime) -> Result<()> {
     Ok(())
 }
 
-// A line, a column in UTF-16 units, and its position in bytes.
+// A line, a column in UTF-16 units, and the byte offset of the column in the line.
 static COLUMNS: [(&str, u64, &str); 14] = [
     ("abc", 0, "Some(0)"),
     ("abc", 3, "Some(3)"),

@@ -1,4 +1,5 @@
-// Maps made of tokens: lookups in them, their text, and lookups after they are read back.
+// Lookups in maps made from tokens, and the JSON text of these maps. Each lookup is repeated after
+// the map was converted to a record and decoded again.
 use crate::checks::check;
 use crate::samples::{Made, bare, map_text, range_map, readme, record_of};
 use sourcemap::decoder::decode_regular;
@@ -19,8 +20,9 @@ static README: [Lookup; 6] = [
     (u32::MAX, u32::MAX, "coolstuff.js:2:8"),
 ];
 
-// For a range token on the line of the position, the number of columns from the token to the
-// position is added to the original column. For a range token on an earlier line, nothing is added.
+// Lookups in `range_map`. Its range token has generated and original position 0:5. A lookup on the
+// token's line, 4 columns after the token, prints original column 5 + 4. A lookup on a later line
+// prints original column 5.
 static RANGED: [Lookup; 3] = [
     (0, 4, "coolstuff.js:0:0"),
     (0, 9, "coolstuff.js:0:9"),

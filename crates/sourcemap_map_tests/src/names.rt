@@ -1,4 +1,4 @@
-// Names of functions, guessed from a map and a view of the generated text.
+// Tests of the original names of functions, of the views of contents, and of `rev_token_iter`.
 use crate::checks::check;
 use sourcemap::decoder::decode_slice;
 use sourcemap::{DecodedMap, Result, SourceMap, SourceView, Token};
@@ -17,20 +17,21 @@ const INDEX: &str =
 const HERMES: &str =
     r#"{"sources":["a.js"],"names":[],"mappings":"AAAA,EAAC;AAAA","x_facebook_sources":[[{"names":["<global>","f"],"mappings":"AAA,CCA"}]]}"#;
 
-// A map, a line, a column, what a function is called in the text, and its name in the source.
+// A map, a generated position, a minified name, and the original name found, or `none`.
 static NAMES: [(&str, (u32, u32), &str, &str); 17] = [
     (MAP, (0, 9), "b", "foo"),
-    // After the token of the name, and on a later line.
+    // Two positions after the token named `foo`: one on line 0, one on line 1.
     (MAP, (0, 13), "b", "foo"),
     (MAP, (1, 0), "b", "foo"),
     // Another name, and two that are no identifiers.
     (MAP, (0, 9), "c", "none"),
     (MAP, (0, 9), "b.c", "none"),
     (MAP, (0, 9), "", "none"),
-    // Before the token of the name. The closest token is that of the word `function`.
+    // Two positions before the token named `foo`. Their closest token is at the word `function`.
     (MAP, (0, 0), "b", "none"),
     (MAP, (0, 8), "b", "none"),
-    // The text is searched at positions of the section's map, not of the index map.
+    // In the index map the token named `foo` is at (2, 12), in the section's map at (0, 9). The
+    // identifier is read at (0, 9) of `TEXT`.
     (INDEX, (2, 12), "b", "foo"),
     (INDEX, (3, 0), "b", "foo"),
     (INDEX, (2, 12), "c", "none"),
@@ -52,8 +53,8 @@ fn map_of(alloc: Global, text: &str) -> Result<Box<DecodedMap>> {
     Ok(Box::new(alloc, map)?)
 }
 
-// A regular map in a box. The box saves the prover no steps. `SourceMap` has a hand-written `Drop`,
-// and the prover follows such a drop in one step.
+// A regular map in a box. This box saves the prover no steps: the prover follows the hand-written
+// `Drop` of `SourceMap` in one step.
 fn regular_of(alloc: Global, text: &str) -> Result<Box<SourceMap>> {
     let map = SourceMap::from_slice(alloc, text.as_bytes())?;
     Ok(Box::new(alloc, map)?)
@@ -88,34 +89,44 @@ fn names_of_functions_are_guessed_by_maps(rt: HostRuntime) {
     }
 }
 
-// A map, whether the call has a minified name, whether it has a view, and the answer.
-static LESS: [(&str, bool, bool, &str); 9] = [
-    (MAP, true, true, "foo"),
-    (MAP, false, true, "none"),
-    (MAP, true, false, "none"),
-    (MAP, false, false, "none"),
-    (INDEX, false, true, "none"),
-    (INDEX, true, false, "none"),
-    (HERMES, true, false, "f"),
-    (HERMES, false, true, "f"),
-    (HERMES, false, false, "f"),
+// A map, a generated position, whether a minified name is passed, whether a view is passed. Then
+// the name, or `none`.
+type Row = (&'static str, (u32, u32), bool, bool, &'static str);
+
+static LESS: [Row; 10] = [
+    (MAP, (0, 9), true, true, "foo"),
+    (MAP, (0, 9), false, true, "none"),
+    (MAP, (0, 9), true, false, "none"),
+    (MAP, (0, 9), false, false, "none"),
+    (INDEX, (2, 12), true, true, "foo"),
+    (INDEX, (2, 12), false, true, "none"),
+    (INDEX, (2, 12), true, false, "none"),
+    (HERMES, (0, 9), true, false, "f"),
+    (HERMES, (0, 9), false, true, "f"),
+    (HERMES, (0, 9), false, false, "f"),
 ];
 
-fn name_with(alloc: Global, map: &str, with_name: bool, with_view: bool) -> Result<String> {
+fn name_with(
+    alloc: Global,
+    map: &str,
+    position: (u32, u32),
+    with_name: bool,
+    with_view: bool,
+) -> Result<String> {
     let view = SourceView::new(alloc, TEXT)?;
     let map = map_of(alloc, map)?;
     let minified = if with_name { Some("b") } else { None };
     let view = if with_view { Some(&view) } else { None };
-    describe(alloc, &*map, (0, 9), minified, view)
+    describe(alloc, &*map, position, minified, view)
 }
 
 #[test]
 fn maps_but_hermes_maps_need_a_name_and_a_view(rt: HostRuntime) {
-    for (map, with_name, with_view, want) in LESS.iter() {
+    for (map, position, with_name, with_view, want) in LESS.iter() {
         check(
             &rt,
             map,
-            name_with(rt.alloc(), map, *with_name, *with_view),
+            name_with(rt.alloc(), map, *position, *with_name, *with_view),
             want,
         );
     }
@@ -146,8 +157,8 @@ fn each_kind_of_map_names_functions(rt: HostRuntime) {
     check(&rt, "hermes", name_by_kind(rt.alloc(), HERMES, (0, 7)), "f");
 }
 
-// The column of the last token of the second line, and the name that a search for the function `b`
-// finds from this token. `with_second_line` makes the map.
+// The column of the last token on line 1, and the name found for the function `b`, or `none`. The
+// search starts at this token. `with_second_line` makes the map.
 static FAR: [(u32, &str); 4] = [(0, "foo"), (99, "foo"), (125, "foo"), (126, "none")];
 
 // `MAP` with a second generated line. This line has one token at each column from 0 to `last`. None
@@ -205,8 +216,8 @@ fn line_of_source(alloc: Global, id: u32, line: u32) -> Result<String> {
     line_text(alloc, map.get_source_view(id), line)
 }
 
-// Like `line_of_source`, but takes the source from the token with index `id`. For the ids 0 to 2,
-// this token has the source with the same id. The token with index 3 has no source.
+// Like `line_of_source`, but takes the source from token `id`. Tokens 0, 1 and 2 have the sources
+// 0, 1 and 2. Token 3 has no source. There are no other tokens.
 fn line_of_token(alloc: Global, id: u32, line: u32) -> Result<String> {
     let map = regular_of(alloc, WITH_CONTENTS)?;
     let view = match map.get_token(id as usize) {
@@ -255,7 +266,8 @@ fn walk_tokens(alloc: Global, text: &str, last: usize) -> Result<String> {
     walk_text(alloc, &view, map.get_token(last))
 }
 
-// The index of a token, and the positions and identifiers along the walk back from it.
+// The index of a token. Then the items of `rev_token_iter` from this token: the generated position
+// of a token, and the identifier at this position. Token 3 does not exist.
 static WALKS: [(usize, &str); 4] = [
     (2, "0:5 def; 0:4 def; 0:3 none; "),
     (1, "0:4 def; 0:3 none; "),

@@ -29,8 +29,8 @@ fn tokens_are_ordered_by_their_answers(rt: HostRuntime) {
     check(&rt, "order", answer, "Some((true, false, true))");
 }
 
-// Label, a position, and whether `seek` finds a token for it. Then the generated position and the
-// source id of the next token.
+// Label, and a position for `seek`. Then what `seek` returns, and the generated position and the
+// source id of the token that `next` returns after `seek`, or `none`.
 static SOUGHT: [(&str, u32, u32, &str); 5] = [
     ("before all tokens", 0, 1, "false (0, 2) 0"),
     ("at the first of two tokens", 0, 2, "true (0, 2) 4"),

@@ -1,6 +1,6 @@
-// Encoding in parts writes the same text as encoding at once. The tests also encode a token on a
-// far line. Some writers take one byte a write. Some of these writers also interrupt every other
-// write, or stop after a number of bytes.
+// Encoding in parts writes the same text as encoding at once. One test encodes a token on a far
+// line. `NarrowWriter` and `HaltingWriter` take at most one byte in each write. Some tests also
+// limit the bytes in total. `HaltingWriter` returns `Interrupted` from every second write.
 use crate::checks::check;
 use crate::samples::{Made, NONE, make_map, mixed_map, range_map, readme};
 use crate::writing::{BARE, WRITTEN, cut_writing, outcome_text, regular};
@@ -28,8 +28,8 @@ fn are_line_ends(buf: &[u8]) -> bool {
 }
 
 impl Write for LineCounter {
-    // If the first and last byte of a piece end lines, all its bytes are assumed to end lines. A
-    // piece of line ends is then counted at once, without a loop over its bytes.
+    // If `buf` starts and ends with `;`, all bytes of `buf` are assumed to be `;`. These line ends
+    // are counted at once, without a loop.
     fn write(&mut self, buf: &[u8]) -> io::Result<usize> {
         self.longest = self.longest.max(buf.len());
         if are_line_ends(buf) {
@@ -78,9 +78,8 @@ fn far_lines_take_little_memory(rt: HostRuntime) {
     check(&rt, "a far line", far_text(rt.alloc()), want);
 }
 
-// The text that `encode_in_parts` writes, followed by the text of its error, if any. Out of memory
-// is returned as an error. The writer takes one byte in each write, and at most `left` bytes in
-// total. `None` is no limit.
+// Writes the map with `encode_in_parts`, and returns the `outcome_text`. The writer takes one byte
+// in each write, and at most `left` bytes in total. `None` is no limit.
 fn held_text(alloc: Global, map: &SourceMap, left: Option<usize>) -> Result<String> {
     let mut writer = NarrowWriter {
         held: Vec::new(alloc),
@@ -129,7 +128,8 @@ fn parts_are_the_text_of_made_maps(rt: HostRuntime) {
     check_same(&rt, alloc, "many tokens", many(alloc));
 }
 
-// A map with mappings that take several pieces, and contents that are longer than a piece.
+// In JSON, the `mappings` of this map take some 24 KB, and the contents some 18 KB. Both are longer
+// than a piece of `encode_in_parts`, some 16 KB.
 fn many(alloc: Global) -> Made {
     let text = many_text(alloc)?;
     regular(alloc, text.as_str())

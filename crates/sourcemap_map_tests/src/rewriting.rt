@@ -161,7 +161,7 @@ fn names_and_contents_are_left_out(rt: HostRuntime) {
     }
 }
 
-// A current directory and a base path that make no absolute folder.
+// A current directory and a base path. Neither path is absolute.
 static RELATIVE: [(Option<&str>, Option<&str>); 3] = [
     (None, None),
     (None, Some("src")),

@@ -134,7 +134,8 @@ pub fn map_text(alloc: Global, map: Made) -> Result<String> {
     record_written(alloc, Box::into_inner(map?).into_raw_sourcemap())
 }
 
-/// The text of a record, which is consumed.
+/// The JSON text of a record. Consumes the record. Returns the error of `record` if there is one.
+/// The only other error is out of memory.
 pub fn record_written(alloc: Global, record: Result<RawSourceMap>) -> Result<String> {
     value_written(alloc, record?.into_value(alloc))
 }

@@ -6,8 +6,8 @@ use sourcemap::types::{RawToken, SourceMap};
 use sourcemap_test_support::results::box_result;
 use std::alloc::Global;
 
-// A position, and how many comparisons its lookup may take at least and at most. Then the text of
-// `steps_text`.
+// A position. Then the least and the greatest number of comparisons allowed for a lookup of the
+// position. Then the text that `steps_text` returns.
 type Counted = ((u32, u32), u32, u32, &'static str);
 
 // A token at this position, identified by its original column.
@@ -87,8 +87,9 @@ fn most_steps(map: &SourceMap) -> u32 {
     most
 }
 
-// Whether some lookup among 3,000 tokens at distinct columns counts at least eight comparisons. A
-// comparison has three outcomes. So seven comparisons distinguish at most 2,187 answers.
+// Whether some lookup on line 2 makes at least eight comparisons. In `long_line`, line 2 has 3,000
+// tokens at distinct columns. A comparison has three outcomes. So lookups with at most seven
+// comparisons can find at most 2,187 (3^7) different tokens.
 fn counts_enough(alloc: Global, map: Made) -> Result<String> {
     let is_enough = most_steps(&*map?) >= 8;
     Ok(format!(in alloc; "{is_enough}")?)

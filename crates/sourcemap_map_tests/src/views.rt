@@ -9,10 +9,10 @@ const SMILES: &str = "abc👌def\nblah";
 
 const MIXED: &str = "\r\n\né👌👌x\r\n\r";
 
-// A text. A line, a column, and a length in UTF-16 units. The slice of this length that starts at
-// the column.
+// A text; a line, a column and a length; and the slice of this length from this column, or `none`.
+// Columns and lengths are in UTF-16 units.
 static SLICES: [(&str, (u32, u32, u32), &str); 49] = [
-    // A slice that ends inside of a surrogate pair has the whole pair.
+    // An end inside of a surrogate pair moves after the pair.
     (SMILES, (0, 0, 3), "[abc]"),
     (SMILES, (0, 3, 1), "[👌]"),
     (SMILES, (0, 3, 2), "[👌]"),
@@ -190,7 +190,7 @@ fn copies_are_equal_and_print_their_text(rt: HostRuntime) {
     check(&rt, "copy", copy_view(rt.alloc(), "a\nb", "a\r\nb"), want);
 }
 
-// A text, and the reference to a source map in it.
+// A text, and the first reference to a source map in the text, or `None`.
 static REFERENCES: [(&str, &str); 3] = [
     (
         "a\n//@ sourceMappingURL=x.map \n//# sourceMappingURL=y.map",

@@ -166,12 +166,12 @@ fn walks_find_the_identifier_at_each_position(rt: HostRuntime) {
     }
 }
 
-// The tokens of a walk back, for the text `function b(){}`. The first field is the number of tokens
-// on line 1. These tokens come first and have no names. The text has no line 1. The second field
-// has the column and the name of each token on line 0, in the order of the walk.
+// A walk back over the text `function b(){}`. The walk can start with tokens on line 1, past the
+// end of the text. These tokens have no names. The first field is the number of these tokens. The
+// second field has the column and the name of each token on line 0, in the order of the walk.
 type Walk = (u32, &'static [(u32, &'static str)]);
 
-// Label, a name in the generated text, a walk, and the name that is guessed.
+// Label, the minified name to look for, a walk, and the guessed original name, or `none`.
 static NAMES: [(&str, &str, Walk, &str); 10] = [
     (
         "the name after the word",

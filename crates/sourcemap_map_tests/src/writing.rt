@@ -202,8 +202,8 @@ fn put(alloc: Global, text: &str, call: Call, writer: &mut NarrowWriter) -> Resu
     }
 }
 
-// What a writer holds at the end, and the error of the call if there is one. The writer takes at
-// most `left` bytes.
+// Writes the map `text` with `call`, and returns the `outcome_text`. The writer takes at most
+// `left` bytes, or all bytes if `left` is `None`.
 fn held_text(alloc: Global, text: &str, call: Call, left: Option<usize>) -> Result<String> {
     let mut writer = NarrowWriter {
         held: Vec::new(alloc),
@@ -213,7 +213,9 @@ fn held_text(alloc: Global, text: &str, call: Call, left: Option<usize>) -> Resu
     outcome_text(alloc, writer.held.as_slice(), outcome)
 }
 
-/// What a writer holds, and after it the text of the error if there is one.
+/// Returns `held`, the bytes that a writer holds, as text. If `outcome` is an error, a space and
+/// the text of the error follow. Returns an error if `outcome` is `OutOfMemory`, if memory runs
+/// out, or if `held` is not UTF-8.
 pub fn outcome_text(alloc: Global, held: &[u8], outcome: Result<()>) -> Result<String> {
     match outcome {
         Ok(()) => Ok(String::from_str(alloc, str::from_utf8(held)?)?),
@@ -246,8 +248,10 @@ fn bytes_are_written_one_by_one(rt: HostRuntime) {
     }
 }
 
-// Writes a map to a writer. The buffer of the writer has capacity for the whole text, so no write
-// allocates. If memory runs out, the writer must still be empty, and the call is repeated.
+// Writes a map to an empty writer, and returns the `outcome_text`. The buffer of the writer has
+// capacity for the whole text, so no write allocates. If memory runs out before the first byte is
+// written, the function calls `encode_to` once more. If memory runs out later in the first call,
+// the result is `a part was written`.
 fn encode_again<M: Encodable>(alloc: Global, map: &M, writer: &mut NarrowWriter) -> Result<String> {
     let mut outcome = encode_to(alloc, map, writer);
     if matches!(outcome, Err(Error::OutOfMemory)) {
@@ -284,8 +288,9 @@ fn nothing_is_written_without_memory(rt: HostRuntime) {
     }
 }
 
-/// The expected `outcome_text` if the writer takes `most` characters of this text and then fails
-/// with a broken pipe. The only error is out of memory.
+/// Returns the first `most` characters of `text`, then ` broken pipe`. `outcome_text` returns the
+/// same if a writer takes these characters and then fails with a broken pipe. The only error of
+/// this function is `OutOfMemory`.
 pub fn cut_writing(alloc: Global, text: &str, most: usize) -> Result<String> {
     let mut out = String::new(alloc);
     for letter in text.chars().take(most) {

@@ -132,8 +132,8 @@ static NOT_REGULAR: [(&str, &str); 5] = [
     (REGULAR, HERMES),
 ];
 
-// The adjustment moves column 0 to the last column, so the second token of the map would pass the
-// last column.
+// The adjustment moves column 0 to column 4294967295, the greatest column. The adjustment would
+// move the second token of the map from column 1 to column 4294967296.
 const PAST_THE_LAST_COLUMN: (&str, &str) = (
     r#"{"sources":["o.js"],"mappings":"AAAA,CAAC"}"#,
     r#"{"sources":["t.js"],"mappings":"+/////HAAA"}"#,

@@ -59,8 +59,8 @@ fn is_line(text: &[u8], want: &str) -> bool {
     text.strip_suffix(b"\n") == Some(want.as_bytes())
 }
 
-// Calls `reply_to` once, with the input and the file of a row. Returns whether the status of the
-// reply is the status of the row, and the text of the reply is the text of the row and a newline.
+// Calls `reply_to` once, with the input and the file of a row. Returns whether the reply has the
+// status of the row, and the text of the row plus a newline.
 fn replies_with(rt: &HostRuntime, words: &[String], row: &Row<'_>) -> Result<bool, Fail> {
     let bytes = Vec::from_slice(rt.alloc(), row.input.as_bytes())?;
     let file = Vec::from_slice(rt.alloc(), row.file.as_bytes())?;

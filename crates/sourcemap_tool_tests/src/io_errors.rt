@@ -1,4 +1,4 @@
-// Failing readers and writers, and errors on standard error.
+// Tests with readers and writers that fail, and tests of `report_error`.
 use crate::memory::{unless_cut_out, unless_out};
 use crate::runs::{MAP, USAGE, words_of};
 use sourcemap::{Error, decode};
@@ -57,7 +57,7 @@ fn a_run_on_a_reader_that_fails_is_refused(rt: HostRuntime) -> Result<(), Fail> 
     Ok(())
 }
 
-// Whether decoding returns the error of a reader that fails after `left` bytes.
+// Whether `decode` returns an `Io` error for a reader that fails after `left` bytes.
 fn is_read_error(rt: &HostRuntime, left: usize) -> Result<bool, Error> {
     match decode(rt.alloc(), slow(Some(left))) {
         Err(Error::OutOfMemory) => Err(Error::OutOfMemory),
@@ -73,10 +73,10 @@ fn a_reader_that_fails_is_not_decoded(rt: HostRuntime) -> Result<(), Fail> {
     Ok(())
 }
 
-// Whether a run prints `want` on a writer that takes one byte per write. Then, for each `left` from
-// 0 to `want.len()`, a run uses a writer that fails after `left` calls. Calls of `write` and of
-// `flush` both count. Each of these runs must return `Io` and write exactly the first `left` bytes
-// of `want`. The only error is out of memory.
+// The first run uses a writer that takes one byte per write, and must print `want`. For each `left`
+// from 0 to `want.len()`, a further run uses a writer that fails after `left` calls of `write` or
+// `flush`. A further run must return `Io` and write exactly the first `left` bytes of `want`.
+// Returns whether all runs do so. The only error of `is_written` is out of memory.
 fn is_written(rt: &HostRuntime, words: &[String], want: &[u8]) -> Result<bool, Fail> {
     let mut output = narrow(rt, None);
     let status = run(rt, rt.alloc(), words, &mut slow(None), &mut output)?;
@@ -103,7 +103,8 @@ fn a_writer_that_fails_ends_the_run(rt: HostRuntime) -> Result<(), Fail> {
 // The output of `lookup 0 5`.
 const LOOKED_UP: &[u8] = b"coolstuff.js:0:4 name=x\n";
 
-// Whether a run prints `LOOKED_UP` on a writer that is interrupted before each byte.
+// Whether a run prints `LOOKED_UP` and ends with status 0. The writer is interrupted before each
+// byte.
 fn is_written_when_interrupted(rt: &HostRuntime, words: &[String]) -> Result<bool, Fail> {
     let mut output = halting(rt, None);
     let status = run(rt, rt.alloc(), words, &mut slow(None), &mut output)?;
@@ -170,8 +171,8 @@ fn errors_are_reported_unless_the_reader_is_gone(rt: HostRuntime) -> Result<(), 
 
 const FULL: &[u8] = b"no storage space\n";
 
-// Whether `report_error` writes exactly `want` to the writer `halting(rt, left)`. Returns the
-// errors of `report_error`.
+// Whether `report_error` writes exactly `want` to the writer `halting(rt, left)`. If `report_error`
+// returns an error, the result is this error.
 fn is_reported_when_interrupted(
     rt: &HostRuntime,
     error: &Error,

@@ -1,9 +1,9 @@
-// Recognises runs that ran out of memory.
+// Two checks whether a run ran out of memory.
 use sourcemap::Error;
 
 const NO_MEMORY: &[u8] = b"out of memory\n";
 
-/// Returns `OutOfMemory` if this status and output report it.
+/// Returns `OutOfMemory` if the status of a run is 1 and the output is `NO_MEMORY`.
 pub fn unless_out(status: u8, output: &[u8]) -> Result<(), Error> {
     if status == 1 && output == NO_MEMORY {
         return Err(Error::OutOfMemory);

@@ -1,4 +1,5 @@
-// Runs at the limits of input, out of memory, and with unreadable files.
+// Runs with incomplete, deeply nested or large maps, with reads that fail, and with unreadable
+// files.
 use crate::memory::unless_out;
 use crate::runs::{MAP, is_run, words_of};
 use sourcemap::Error;
@@ -82,7 +83,8 @@ fn tokens_at_one_position_are_looked_up(rt: HostRuntime) -> Result<(), Fail> {
     Ok(())
 }
 
-// Whether a run ends with this status and output. `OutOfMemory` fails the test unless expected.
+// Whether a run ends with this status and output. If the run runs out of memory and `text` is not
+// `NO_MEMORY`, the result is the error `OutOfMemory`.
 fn ends<F: Files>(
     rt: &HostRuntime,
     files: &F,
@@ -126,8 +128,9 @@ fn failing_reads_are_reported(rt: HostRuntime) -> Result<(), Fail> {
     Ok(())
 }
 
-// A label and the words of the run. The next two values are `bytes` and `left` of the file,
-// then come the kind of the error and `fails_on_open`. The last value is the status and the output of the run.
+// A label and the words of the run. The next four values are `bytes` and `left` of `FakePath`,
+// `kind` of `FakeFiles`, and `fails_on_open` of `FakePath`. The last value is the status and the
+// output of the run.
 type Row = (
     &'static str,
     &'static str,

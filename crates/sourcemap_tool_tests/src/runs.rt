@@ -1,4 +1,4 @@
-// Runs of the program.
+// Tests of `run`, `reply_to`, `parse_words` and `apply`.
 use crate::memory::unless_out;
 use sourcemap::decode_slice;
 use sourcemap_cli::command::{Command, parse_words};
@@ -126,7 +126,8 @@ pub fn words_of(alloc: Global, line: &str) -> Result<Vec<String>, AllocError> {
     Ok(words)
 }
 
-/// Whether a run prints this text, ends with this status and leaves `left` bytes of its input.
+/// Whether a run prints this text, ends with this status and leaves the last `left` bytes of the
+/// input unread.
 pub fn is_run(
     rt: &HostRuntime,
     words: &[String],
@@ -221,7 +222,7 @@ fn ask_for(alloc: Global, line: &str, command: Option<Command>) -> Result<bool, 
     Ok(parse_words(alloc, words.as_slice())? == command)
 }
 
-// Whether a command without a file prints `want` for `MAP`.
+// Whether `apply` returns `want` for `MAP`. False for `Compose` and `Trace`, which name a file.
 fn command_prints(rt: &HostRuntime, command: &Command, want: &str) -> Result<bool, Fail> {
     match command {
         Command::Compose(_) | Command::Trace(_) => Ok(false),

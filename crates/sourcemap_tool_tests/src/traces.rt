@@ -17,7 +17,7 @@ const RANGED: &str = r#"{"sources":["a.js"],"mappings":"AAAO","rangeMappings":"B
 
 const HERMES: &str = r#"{"sources":["a.js"],"mappings":"AAAA","x_facebook_sources":[]}"#;
 
-// No token is before the section.
+// An index map whose only token has the generated position 5:0.
 const LATE: &str =
     r#"{"sections":[{"offset":{"line":5,"column":0},"map":{"sources":["a.js"],"mappings":"AAAA"}}]}"#;
 
@@ -157,7 +157,7 @@ fn is_run(
     Ok(ended == status && output.as_slice() == text.as_bytes())
 }
 
-// Whether `reply_to` returns this text for a map and positions.
+// Whether `reply_to` returns status 0 and this text for a map and positions.
 fn replies_with(
     rt: &HostRuntime,
     words: &[String],
@@ -189,8 +189,8 @@ fn runs_answer_positions(rt: HostRuntime) -> Result<(), Fail> {
     Ok(())
 }
 
-// Whether a run prints `broken pipe` and a newline and ends with status 1, if reads of its file of
-// positions fail after `left` bytes.
+// Whether a run prints `broken pipe` and a newline, and ends with status 1. Reading the file of
+// positions, `a.txt`, fails after `left` bytes.
 fn is_refused(rt: &HostRuntime, words: &[String], left: usize) -> Result<bool, Fail> {
     let files = FakeFiles::of_text("a.txt", "0:5\nx", Some(left));
     is_run(rt, &files, words, MAP, 1, "broken pipe\n")

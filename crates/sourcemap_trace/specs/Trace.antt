@@ -4,13 +4,14 @@ use Rattle.sourcemap.specs.Token.{token_text}
 use Rattle.sourcemap.specs.Types.{Meaning}
 use Rattle.sourcemap_trace.specs.Positions.{lines_of, position_of}
 
--- the text of a meaning; `none` if there is no meaning
+-- the text of the meaning of a position, for example `a.js:3:4 name=f`. The meaning is what the closest token says. If
+-- there is no closest token, the text is `none`
 abbrev pub meaning_text : Option Meaning → List ℕ
 meaning_text (Some says) = token_text says
 meaning_text None = codes "none"
 
--- the answer to the position that a line names, given the meaning of each position; `bad position` if the line
--- names no position
+-- the answer to a line that names this position: the text of the meaning that `meaning` gives to the position. If the
+-- line names no position (`None`), the answer is `bad position`
 abbrev pub answer_at : (ℕ × ℕ → Option Meaning) → Option (ℕ × ℕ) → List ℕ
 answer_at meaning (Some position) = meaning_text (meaning position)
 answer_at meaning None = codes "bad position"

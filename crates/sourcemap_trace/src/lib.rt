@@ -1,5 +1,6 @@
-//! A symbolicator: a map answers lists of positions. The contract of `trace_text` relies on two
-//! contracts of the library only: those of `DecodedMap::lookup_token` and of printing a token.
+//! A symbolicator: looks up lists of generated positions in a map. The proof of `trace_text` uses
+//! only two contracts of the library: the contract of `DecodedMap::lookup_token`, and the contract
+//! of printing a token.
 #![tactic(auto)]
 
 mod positions;

@@ -80,10 +80,12 @@ fn push_token(text: &mut String, map: &DecodedMap, line: u32, col: u32) -> Resul
 }
 
 /// A law: two maps that mean the same at every position give the same answers to each list of
-/// positions. `read_back` says that `t` and `back` give the same answers too, under two premises.
-/// First, `value` decodes to a map that restores `t`. `DecodedMap::to_value` promises this for the
-/// value of a well-formed map. Second, `value` decodes to `back`. `DecodedMap::from_value` promises
-/// this for the value that it decodes and the map that it returns.
+/// positions. `read_back` says that `t` and `back` give the same answers, under two premises:
+///
+/// - `value` decodes to some map that restores `t` (`Restores`). `DecodedMap::to_value` promises
+///   this premise for a well-formed map `t` and the returned `value`.
+/// - `value` decodes to `back`. `DecodedMap::from_value` promises this premise for the argument
+///   `value` and the returned map `back`.
 pub fn maps_read_back_answer_alike()
     ensures alike { (s t : MapTree) (positions : List ℕ) → MeansTheSame s t
         → trace_of (meaning s) positions ≡ trace_of (meaning t) positions }

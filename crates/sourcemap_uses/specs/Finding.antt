@@ -1,4 +1,4 @@
--- Where the map of a generated text is, by the reference in the text and the path of the text.
+-- Where the map of a generated text is. The first reference in the text and the path of the text determine the answer.
 use Rattle.std.specs.Prelude.{◌≡◌, ℕ, false, List, Option, Some, None, string_bytes, MatchOption, Result, Ok, IsErrAnd}
 use Rattle.sourcemap.specs.AnyMap.{map_tree}
 use Rattle.sourcemap.specs.Embedded.{EmbeddedAnswer}
@@ -12,7 +12,7 @@ use Rattle.sourcemap.specs.declared.errors.Error.{Error}
 use Rattle.sourcemap_uses.specs.declared.finding.FoundMap.{FoundMap}
 use Rattle.sourcemap_uses.specs.declared.finding.FoundMap.TheVariants.{Embedded, File, Nowhere}
 
--- a map in the text, the path of a file, or neither
+-- the map embedded in a generated text, the path of the file with the map, or neither
 pub data FoundValue : Type 0 where
   embedded : MapTree → FoundValue
   file : List ℕ → FoundValue
@@ -27,13 +27,15 @@ abbrev pub file_at : Option (List ℕ) → FoundValue
 file_at (Some path) = file path
 file_at None = nowhere
 
--- the file that a URL resolves to, relative to the path of the text that has the URL. The answer is `nowhere` if the
--- URL resolves to no file, and may also be `nowhere` if the path or the URL is long
+-- the file that `url` resolves to against `path`, the path of the text that has the URL. The answer is `nowhere` if
+-- `resolved_path` is `None`. The answer may also be `nowhere` if the `file` URL of `path` and `url` together have 2^28
+-- bytes or more (`IsLongJoin`). The only error is `OutOfMemory`
 abbrev pub FileOfUrl : List ℕ → List ℕ → Result FoundValue Error → Type 0
 FileOfUrl url path answer =
     Then (UnlessLong (resolved_path path url) (IsLongJoin (url_text path false) url)) (λ found a. a ≡ Ok (file_at found)) answer
 
--- the map embedded in a `data:` URL; for any other URL, the file that the URL resolves to, or `nowhere`
+-- the map embedded in a `data:` URL, or the error of decoding this URL; for any other URL, the file that the URL
+-- resolves to, or `nowhere`
 abbrev pub MapOfUrl : List ℕ → List ℕ → Result FoundValue Error → Type 0
 MapOfUrl url path answer =
     Then (EmbeddedAnswer url) (λ held a. MatchOption held (FileOfUrl url path a) (λ m. a ≡ Ok (embedded m))) answer
@@ -42,10 +44,10 @@ abbrev pub url_in : Reference → List ℕ
 url_in (usual url) = url
 url_in (legacy url) = url
 
--- where the map of a text is. The first argument is the result of `first_reference` for the text, and `path` is the
--- path of the text. `Some None` means that all lines are UTF-8 and no line has a reference: the answer is `nowhere`.
--- `None` means that a line is not UTF-8, and that no line before it has a reference: the answer is an error, `Io` of
--- kind `InvalidData`. For a reference, `MapOfUrl` says the answer for the URL of the reference
+-- where the map of a text is; `path` is the path of the text. The first argument is the `first_reference` of the text.
+-- For `None`, the answer is the error `Io` of kind `InvalidData`: a line is not UTF-8, and no earlier line has a
+-- reference. For `Some None`, the answer is `nowhere`: all lines are UTF-8, and no line has a reference. For
+-- `Some (Some reference)`, `MapOfUrl` determines the answer for the URL of `reference`
 abbrev pub MapByReference : Option (Option Reference) → List ℕ → Result FoundValue Error → Type 0
 MapByReference None path answer = IsErrAnd answer IsInvalidData
 MapByReference (Some None) path answer = answer ≡ Ok nowhere

@@ -14,6 +14,6 @@ abbrev pub HasFirstOf : (old new : BuilderValue) → List (List ℕ) → Type 0
 HasFirstOf old new sources =
     (added rest : List (List ℕ)) × (sources ≡ added ++ rest) × (new ≡ fold with_source old added)
 
--- the builder after a call of `set_source`: the source with this id is now this text
+-- the builder after a call of `set_source`: in `sources`, `text` replaces the source with this id
 abbrev pub with_display_text : BuilderValue → ℕ → List ℕ → BuilderValue
 with_display_text b id text = record b { sources = slice_set b.sources id text }

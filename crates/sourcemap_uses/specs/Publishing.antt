@@ -4,7 +4,7 @@ use Rattle.sourcemap.specs.Reading.{BytesHaveResult, RegularDecodes}
 use Rattle.sourcemap.specs.Rewrite.{Removal}
 use Rattle.sourcemap.specs.Types.{MapValue, Meaning, meaning, contents_of}
 
--- removes names and contents, and cuts no prefix from a source
+-- removes names and source contents; the sources keep their prefixes
 abbrev pub no_details : Removal
 no_details = record { with_names = false; with_contents = false; prefixes = [] }
 

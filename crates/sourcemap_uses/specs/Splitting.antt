@@ -25,13 +25,14 @@ first_text p [] = Ok []
 first_text p (Ok parts ∷ _) = Ok (printed (meaning parts.map p))
 first_text p (Err e ∷ _) = Err e
 
--- `answer` is the error that `Splits` gives if the bundle cannot be split. If the bundle can be split, `answer` is
+-- If the bundle cannot be split, `answer` is the error of splitting (`Splits`). If the bundle can be split, `answer` is
 -- `first_text p items`, where `items` are the items of the split bundle
 abbrev pub TracesFirst : IndexValue → List (Result ModuleValue Error) → ℕ × ℕ → Result (List ℕ) Error → Type 0
 TracesFirst i modules p answer = Then (Splits i modules) (λ split a. a ≡ first_text p (dues_in split)) answer
 
--- `flat` is the flattened map of the index map. `found` is the first module whose item in `x_facebook_offsets` is not
--- null, and no module before it gives an error. `first` is this item: the line of the bundle on which `found` begins.
+-- `flat` is the flattened map of the index map. `found` is the first module whose offset in `x_facebook_offsets` is not
+-- null. `first` is this offset: the line of the bundle on which `found` begins. No module before `found` gives an
+-- error.
 pub record IsFirstModule (i : IndexValue) (modules : List (Result ModuleValue Error)) (flat : MapValue) (found : ModuleValue) (first : ℕ) : Type 0 where
   pub flat_is : flat_of (index_tree i) ≡ Ok flat
   pub offsets : List (Option ℕ)

@@ -8,9 +8,12 @@ use sourcemap::errors::JsonFault;
 /// What can be done about an error.
 #[derive(Clone, Copy, Debug, PartialEq, Eq)]
 pub enum Advice {
-    /// Read or write again: a reader or a writer failed, or the junk header is invalid.
+    /// Read or write again: a reader or a writer failed, or the junk header is invalid. Also for
+    /// the other `Io` errors: a search for a reference meets a line that is not UTF-8, or contents
+    /// are to be loaded but neither `base_path` nor `current_dir` is absolute.
     ReadAgain,
-    /// Look at what was fetched: it is not UTF-8 or not JSON. It may be an error page.
+    /// Look at what was fetched: it is not UTF-8, or does not parse as JSON (`JsonFault::Parse`).
+    /// It may be an error page.
     LookAtInput,
     /// Fix the tool that wrote the map: a field has the wrong type, or the mappings are invalid or
     /// refer to a source or name that does not exist.

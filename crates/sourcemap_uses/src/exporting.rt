@@ -14,10 +14,10 @@ use std::alloc::Global;
 use std::io::Write;
 
 /// Writes a map to a file, or to any writer, in pieces. If the map is well-formed, the written
-/// bytes decode to a map with the same meaning at every position. The decoded map has the same
-/// parts, but may lack repeated tokens, name ids that name nothing, and contents that belong to no
-/// source. The errors are `Io` if a write fails, and `OutOfMemory`. After an error the file may
-/// hold a part of the text.
+/// bytes decode to a map with the same meaning at every position. The decoded map may lack three
+/// things: tokens equal to the token before them, name ids that name nothing, and contents that
+/// belong to no source. All else is kept. The errors are `OutOfMemory`, and `Io` if a write fails
+/// for another reason. After an error the file may hold a part of the text.
 pub fn export<W: Write>(alloc: Global, map: &SourceMap, file: &mut W) -> Result<()>
     ensures written { OnOk result ((text : List ℕ)
         × Appends (W.contents file.old) (W.contents file.new) text

@@ -15,7 +15,7 @@ pub enum FoundMap {
     Embedded(DecodedMap),
     /// In the file with this path.
     File(String),
-    /// The text has no reference, or one that resolves to no file.
+    /// The text has no reference, or one that `SourceMapRef::resolve_path` resolves to no file.
     Nowhere,
 }
 

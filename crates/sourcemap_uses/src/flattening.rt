@@ -51,10 +51,10 @@ fn keeps_meaning(before: Option<Token<'_>>, after: Option<Token<'_>>) -> bool
 
 /// Returns whether flattening keeps what an index map returns for a position: the source, the
 /// original line and column, the name, and whether the token is a range token. The result is true
-/// if the index map has no token for the position. It is true for every position if, at every
-/// level, the start and all tokens of each section are before the start of the next section. The
-/// sections must be sorted at every level, as in every decoded index map; otherwise the result is
-/// unspecified. Returns the errors of `SourceMapIndex::flatten`.
+/// if the index map has no token for the position. The result is true for every position if, at
+/// every level of nesting, the offset and all tokens of each section are before the offset of the
+/// next section. If the sections of a level are not sorted by offset, the result may be wrong.
+/// Decoding sorts the sections of every level. Returns the errors of `SourceMapIndex::flatten`.
 pub fn is_kept_flat(index: &SourceMapIndex, line: u32, col: u32) -> Result<bool>
     ensures exact { IfOk result (λ is_kept. IsInOrder (index_tree (index_value index.now))
         → DecidesWhetherKept is_kept (index_tree (index_value index.now)) (line, col)) }

@@ -1,5 +1,4 @@
-//! Finds the function that contains a bytecode offset, and rewrites a map without changing the
-//! function of any offset.
+//! Finds the function that contains a bytecode offset. Shrinks a Hermes map.
 ghost use Rattle.std.specs.Prelude.{Err, IfErr, IfOk, IsOkUnless, Ok, option_map, string_bytes};
 ghost use Rattle.sourcemap.specs.Answer.{Gives, UnlessMemory};
 ghost use Rattle.sourcemap.specs.Hermes.{hermes_value};
@@ -16,9 +15,9 @@ use std::alloc::Global;
 use std::rt::Files;
 
 /// Returns the name of the function that contains a bytecode offset, by the Hermes map in `bytes`.
-/// Returns `None` if the map has no token or no function name for the offset. If the functions of
-/// the source that the offset maps to are not sorted by position, the result is unspecified.
-/// Returns the errors of `SourceMapHermes::from_slice`.
+/// Returns `None` if the map has no token or no function name for the offset. The result may be
+/// wrong if the token has a source whose functions are not sorted by start position. Returns the
+/// errors of `SourceMapHermes::from_slice`.
 pub fn function_at(alloc: Global, bytes: &[u8], offset: u32) -> Result<Option<String>>
     ensures name { IfOk result
         (λ name. IsNameAt bytes.now offset (option_map string_bytes name)) }
@@ -44,10 +43,10 @@ fn name_at(alloc: Global, map: &SourceMapHermes, offset: u32) -> Result<Option<S
     }
 }
 
-/// Returns a copy that is rewritten with default options: without unused sources and names. The
-/// copy has the same scope for each token, and the same function name for each bytecode offset, if
-/// the regular map in `map` is well-formed and no two of its sources resolve to the same text. The
-/// only error is `OutOfMemory`.
+/// Returns a copy, rewritten with default options: sources and names that no token uses are
+/// removed. Each token keeps its scope, and each bytecode offset keeps its function name, if the
+/// regular map in `map` is well-formed and no two sources resolve against `sourceRoot` to the same
+/// text. The only error is `OutOfMemory`.
 pub fn shrink_copy<F: Files>(rt: &F, map: &SourceMapHermes) -> Result<SourceMapHermes>
     ensures value { Gives hermes_value result (Ok (rewritten no_removal (hermes_value map.now))) }
     ensures scopes { IsWellFormed (hermes_value map.now).map

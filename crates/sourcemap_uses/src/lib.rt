@@ -1,5 +1,5 @@
-//! Common tasks with source maps, one short function each. Proved only from the public clauses and
-//! laws of `sourcemap`.
+//! Common tasks with source maps, one short function each. Each function is proved with only the
+//! public contracts and laws of `sourcemap`.
 #![tactic(auto)]
 
 pub mod adjusting;

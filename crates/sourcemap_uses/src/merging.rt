@@ -45,9 +45,9 @@ pub fn add_sources(builder: &mut SourceMapBuilder, map: &SourceMap) -> Result<()
     Ok(())
 }
 
-/// Adds `source` to a builder, replaces it by `display` as `set_source` does, and returns the id of
-/// the source. Returns the errors of `add_source`. After an error the builder is unchanged, or as
-/// after `add_source` alone.
+/// Adds `source` to a builder, then replaces this source by `display`, as `set_source` does.
+/// Returns the id of the source. The errors are those of `add_source`. After an error the builder
+/// is unchanged, or `source` is added but not replaced.
 pub fn add_source_displayed_as(
     builder: &mut SourceMapBuilder,
     source: &str,

@@ -11,9 +11,9 @@ use std::alloc::Global;
 use std::rt::Files;
 
 /// Returns the map in `bytes`, encoded without names and source contents. The new map maps each
-/// position to the same original position. Like every rewritten map, it has only the sources that
-/// tokens use, resolved against `sourceRoot`, and no ignore list. Returns the errors of
-/// `SourceMap::from_slice`.
+/// position to the same original position. Sources that no token uses are removed. The other
+/// sources are resolved against `sourceRoot`. The new map has no `sourceRoot` and no ignore list.
+/// Returns the errors of `SourceMap::from_slice`.
 pub fn publish<F: Files>(rt: &F, alloc: Global, bytes: &[u8]) -> Result<Vec<u8>>
     ensures published { IfOk result (λ text. Publishes bytes.now text.items) }
     ensures error { IfErr result

@@ -14,8 +14,9 @@ use std::alloc::Global;
 
 /// Encodes a map. If the map is well-formed, and index maps are nested at most 40 levels deep (the
 /// outermost index map is level 1), the bytes decode to a map with the same meaning at every
-/// position. That map has the same parts, but may lack repeated tokens, name ids that name nothing,
-/// and contents that belong to no source. The only error is `OutOfMemory`.
+/// position. The decoded map is of the same kind and has the same fields and sections. Only three
+/// things may be missing: tokens equal to the token before them, name ids that name nothing, and
+/// contents that belong to no source. The only error is `OutOfMemory`.
 pub fn save(alloc: Global, map: &DecodedMap) -> Result<Vec<u8>>
     ensures reads_back { IfOk result (λ text. IsWellFormed (map_tree map.now)
         → levels (map_tree map.now) ≤ 40

@@ -12,19 +12,22 @@ use sourcemap::ram_bundle::{RamBundle, split_ram_bundle};
 use sourcemap::{Result, SourceMap, SourceMapIndex};
 use std::alloc::Global;
 
-/// Looks up a position in the first module of a bundle, by the map of the module. Lines count from
-/// 0 at the first line of the module. Modules whose item in `x_facebook_offsets` is null are
-/// skipped. Returns the original position as a token prints it, or an empty text if there is no
-/// token or no module. Returns the error of `split_ram_bundle`, or else the error that its iterator
-/// gives for this module. Any other error is `OutOfMemory`.
+/// Looks up a position in the map of the first module of a bundle. A module whose offset in
+/// `x_facebook_offsets` is null is skipped, unless reading the module from the bundle fails. Lines
+/// count from 0 at the first line of the module. Returns the original position as text, in the
+/// format of `lookup_text`. The text is empty if there is no module, or if the module's map has no
+/// token at or before the position.
 ///
-/// The flattened index map gives the same text for line `first + line` and column `col`. Here
-/// `first` is the item of the module in `x_facebook_offsets`: the line of the bundle on which the
-/// module starts. There are two premises:
+/// Returns the error if `split_ram_bundle` fails, or if the first item of its iterator is an error.
+/// Any other error is `OutOfMemory`.
 ///
-/// - This position is in the module, before the end of the module's text.
-/// - A lookup of this position in the flattened index map finds a token, and the generated position
-///   of the token is in the module, before the end of the module's text.
+/// Let `first` be the offset of the module in `x_facebook_offsets`: the line of the bundle on which
+/// the module starts. Let `p` be line `first + line` and column `col`. For `p`, the flattened index
+/// map gives the same text if both conditions hold:
+///
+/// - `p` is in the module, before the end of the module's text.
+/// - A lookup of `p` in the flattened index map finds a token, and the generated position of the
+///   token is in the module, before the end of the module's text.
 pub fn trace_first_module<'a>(
     alloc: Global,
     bundle: &'a RamBundle<'a>,

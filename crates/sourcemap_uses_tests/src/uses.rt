@@ -173,19 +173,19 @@ fn a_hermes_map_is_shrunk(rt: HostRuntime) -> std::result::Result<(), Fail> {
     Ok(())
 }
 
-// Maps position 3:0 of a later text to position 0:18 of the generated text of `MAP`.
+// Maps 3:0 in the output of a later build step to 0:18 in the generated text of `MAP`.
 const LATER: &str = r#"{"version":3,"sources":["mid.js"],"mappings":";;;AAAkB"}"#;
 
-// A map with one range token. `RANGED_LATER` maps column 2 of a later text to column 10 of the
-// generated text of `RANGED`.
+// A map with one range token. `RANGED_LATER` maps 0:2 in the output of a later build step to 0:10
+// in the generated text of `RANGED`.
 const RANGED: &str = r#"{"sources":["a.js"],"mappings":"AAAO","rangeMappings":"B"}"#;
 
 const RANGED_LATER: &str = r#"{"sources":["t.js"],"mappings":"EAAU"}"#;
 
-// A map, an adjustment, a position of the later text, and its original position. `LATER` moves the
-// generated positions 0:18 and 0:19 of `MAP` to 3:0 and 3:1. `RANGED_LATER` moves the generated
-// position 0:13 of `RANGED` to 0:5. Positions before the first mapped position have no original
-// position.
+// A map, the map of a later build step, a position in the output of this step, and the original
+// position that `lookup_adjusted` returns. `LATER` moves the generated positions 0:18 and 0:19 of
+// `MAP` to 3:0 and 3:1. `RANGED_LATER` moves the generated position 0:13 of `RANGED` to 0:5. For
+// positions before the first token of the adjusted map, the result is `None`.
 static ADJUSTED_LOOKUPS: [(&str, &str, (u32, u32), &str); 5] = [
     (
         MAP,
@@ -421,14 +421,14 @@ fn indexes_are_compared_with_their_flat_maps(rt: HostRuntime) -> std::result::Re
             "{text} {line} {col}"
         );
     }
-    // errors of flattening are returned also where the index map has no token
+    // `linked` has no token for 0:0 but cannot be flattened, so `is_kept_flat` returns an error.
     let linked = r#"{"sections":[{"offset":{"line":1,"column":0},"url":"u"}]}"#;
     assert!(rt; is_refused(alloc, linked)?);
     Ok(())
 }
 
-// Links the second section and a missing section. Returns whether only the second section then has
-// a URL.
+// Calls `link` for the second section, and for a third section that does not exist. Returns whether
+// the second section then has the URL `u` and the first section has no URL.
 fn is_linked(index: &mut SourceMapIndex) -> Result<bool> {
     link(index, 1, "u")?;
     link(index, 2, "v")?;
@@ -450,7 +450,7 @@ fn a_section_is_linked(rt: HostRuntime) -> std::result::Result<(), Fail> {
     Ok(())
 }
 
-// Looks up a position after the map was saved and read again.
+// Decodes the map in `text`, encodes it with `save`, and looks up a position in the encoded map.
 fn lookup_once_saved(alloc: Global, text: &str, line: u32, col: u32) -> Result<Option<String>> {
     let bytes = save(alloc, &decode_slice(alloc, text.as_bytes())?)?;
     lookup_text(alloc, bytes.as_slice(), line, col)
