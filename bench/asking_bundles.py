@@ -1,8 +1,9 @@
 """Questions to the library, and to the reference program, about RAM bundles. A question is a list of a word and what
 it asks with; each answer is a line of JSON, or `panic` of the reference:
 
-    modules BYTES NUMBERS   whether bytes are a bundle, and its type, how many modules it may have, its startup code, the
-                            modules of these numbers, and the first twelve in turn, or what is wrong
+    modules BYTES NUMBERS   whether bytes begin with the header of a bundle, and its type, how many modules it may have,
+                            its startup code, the modules of these numbers, and the first twelve in turn, or what is
+                            wrong
     folder PATH NUMBERS     the same of the file bundle with its startup code at a path
     split BYTES INDEX       the first twenty texts and maps that a bundle is split into by an index map, or what is wrong
     split-folder PATH INDEX the same of a file bundle

@@ -8,16 +8,17 @@ the reference:
     resolve URL BASE        the URL that a reference resolves to, or null
     path URL PATH           the same of paths
     embedded URL            the kind of the map in a data URL, null for another URL, or what is wrong
-    relative BASE TARGET    the way from one path to another
+    relative BASE TARGET    the path from the folder of the file BASE to TARGET
     map BYTES               whether bytes are a map, by a slice and by a reader
     load CURRENT BASE SOURCES
                             how many contents a builder loads of sources, or what is wrong, and all contents then
     rewrite CURRENT BASE SOURCES
                             the sources and the contents of a map, after a rewriting that loads contents
-    cut null null SOURCES   the same after one that cuts off what the sources have in common
+    cut null null SOURCES   the same after one that strips the common prefix of the absolute sources
 
 BYTES is a text with a character for each byte; so is a path that is answered. CURRENT is the folder that the program
-runs in, and BASE, if it is not null, a path after it. SOURCES are lists of a source and its contents, or null.
+runs in. After CURRENT, BASE is null or a path. A BASE that is not absolute is joined to CURRENT. SOURCES are lists of a
+source and its contents, or null.
 """
 # what the program over the library uses for these questions, and its functions for them
 USES = '''use sourcemap::detector::{

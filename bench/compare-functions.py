@@ -23,7 +23,7 @@ no map has a text or functions. No reason excuses an answer that is not that of 
 - token twice: the reference's walk comes to its first token twice, since that token's index is one too high where it
   stands before the position
 - pairs: the text has characters of two UTF-16 units, where the reference counts on from the middle of one
-- no order: functions of a source are unsorted, so that any name of one of them, or none, is right
+- no order: functions of a source are unsorted, so that the rules leave the name open
 """
 import argparse, collections, json, pathlib, random, re, sys
 from asking import Case, answers_here, answers_there, is_too_long

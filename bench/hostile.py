@@ -525,10 +525,11 @@ def map_and_text(columns, text):
 
 
 def views_of(tokens, most):
-    """The runs on a text and a map that has so many tokens on its longest line, for a size. A walk reads the text once.
-    Names are asked for from every 128th token, and each time the line is read up to the token once, white space to its
-    end: `most` nanoseconds for each character and each name. Where a line is searched for each of the 128 tokens, a run
-    takes many times as long."""
+    """The runs on a text and a map that has so many tokens on its longest line, for a size. In a walk only the first
+    search in a line starts at the start of the line. Names are asked for from every 128th token. Each time one search
+    goes from the start of the line to the token, and through white space after the token: `most` nanoseconds for each
+    character and each name. If a search from the start is made for each of the 128 tokens, a run takes many times as
+    long."""
     def calls_times_line(size, given, written):
         return given + math.ceil(tokens(size) / 128) * size
     return [Run(BENCH_CALLS, ['walk'], most=50), Run(BENCH_VIEWS, ['names', '1'], count=calls_times_line, most=most)]

@@ -134,7 +134,7 @@ def relative_path(base, target, ways=()):
 
 
 def common_prefix(paths, ways=()):
-    """What paths have in common, those among them that are absolute; None without anything."""
+    """The common prefix of those paths that are absolute, in whole parts; None if it is empty or `/` alone."""
     parts = [re.split(r'(?=[/\\])', path) for path in paths if ROOTED.match(path)]
     parts.sort(key=len)
     if 'forgotten' in ways and parts:
@@ -145,7 +145,7 @@ def common_prefix(paths, ways=()):
 
 
 def cut_sources(sources, ways=()):
-    """The sources of a map that is rewritten without what they have in common."""
+    """The sources of a map that is rewritten without the common prefix of its absolute sources."""
     prefix = common_prefix(sources, ways)
     front = prefix if prefix is None or prefix.endswith('/') else f'{prefix}/'
     return [source[len(front):] if front and source.startswith(front) else source for source in dict.fromkeys(sources)]

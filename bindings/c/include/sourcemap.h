@@ -83,7 +83,7 @@ typedef uint32_t sm_code;
 #define SM_IO 1u                    /* a junk header is invalid, or a line of a generated text is not UTF-8 */
 #define SM_UTF8 2u                  /* bytes that should be text are not UTF-8 */
 #define SM_RANGE 3u                 /* a range of `size` bytes from `start` passes the `length` of a bundle */
-#define SM_BAD_JSON 4u              /* number 0: not JSON; 1: a field has the wrong type */
+#define SM_BAD_JSON 4u              /* number 0: the text does not parse; 1: the JSON is no source map */
 #define SM_VLQ_LEFTOVER 5u          /* a segment ends within a number */
 #define SM_VLQ_NO_VALUES 6u         /* a segment has no number */
 #define SM_VLQ_OVERFLOW 7u          /* a number of a segment is too large */
@@ -242,8 +242,10 @@ void sm_close(sm_handle *handle);
 /* Fills `map` with the map that these bytes hold: JSON, after a junk header if
 ** there is one. The bytes are not kept. Returns SM_OK, or an error of the bytes:
 ** SM_IO, SM_BAD_JSON, SM_VLQ_..., SM_BAD_..., SM_INVALID_BASE64, SM_INCOMPATIBLE.
-** Bytes that are not UTF-8, and JSON deeper than 127 levels, are SM_BAD_JSON with
-** number 0. sm_kind() says which kind of map it is. */
+** SM_BAD_JSON has number 0 if the text is not UTF-8 or not JSON, has more than 127
+** levels, has a number too large for a double, or escapes one half of a surrogate pair
+** without the other. The number is 1 if the JSON is no object, if a field has the wrong
+** type, or if a required field is missing. sm_kind() says which kind of map it is. */
 sm_code sm_open(sm_map *map, const uint8_t *bytes, size_t length, sm_error *error);
 
 /* Fills `map` with the map in a `data:` URL. The bytes are not kept. Returns SM_OK;
@@ -367,7 +369,9 @@ sm_code sm_module_path(sm_map *map, uint32_t id, sm_text *text);
 **
 ** An index map searches its closest section alone. That is the first section that
 ** begins at the position, or else the last one that begins before it. If this section
-** has no map, or its map has no closest token, the index map has none either.
+** has no map, or its map has no closest token, the index map has none either. If the
+** sections are not in the order of their positions at every level, an answer may be
+** wrong or missing: see sm_sections_add().
 */
 
 /* Writes the closest token. Returns SM_OK; SM_ABSENT if there is none; SM_WRONG_KIND
@@ -416,23 +420,25 @@ sm_code sm_lookup_name(sm_map *map, uint32_t line, uint32_t column, sm_text *tex
 sm_code sm_lookup_text(sm_map *map, uint32_t line, uint32_t column, sm_bytes *text, sm_error *error);
 
 /* Fills `text` with the answers to a list of generated positions. Each line of
-** `positions` is one, as LINE:COLUMN, both counted from 0. For each line `text` has
-** one line. It is the original position, as SOURCE:LINE:COLUMN, with ` name=NAME` if
-** there is a name; `none` if the position has no closest token; `bad position` if the
-** line is not a position. If the token has no source, SOURCE is `<unknown>`. In a map
-** that was opened, LINE and COLUMN of such a token are 4294967295. Returns SM_OK, or
-** SM_WRONG_KIND if `map` holds no map. sm_bytes_text() reads the answers. */
+** `positions` is one, as LINE:COLUMN. Both count from 0 and are at most 4294967295. For
+** each line `text` has one line. It is the original position, as SOURCE:LINE:COLUMN,
+** with ` name=NAME` if there is a name; `none` if the position has no closest token;
+** `bad position` if the line is not a position. If the token has no source, SOURCE is
+** `<unknown>`. In a map that was opened, LINE and COLUMN of such a token are
+** 4294967295. Returns SM_OK, or SM_WRONG_KIND if `map` holds no map. sm_bytes_text()
+** reads the answers. */
 sm_code sm_trace(sm_map *map, const uint8_t *positions, size_t length, sm_bytes *text, sm_error *error);
 
 /* The name of the function that contains a generated position. The text is borrowed
 ** from `map`, not from `view`. SM_ABSENT if there is no name.
 ** A Hermes map has names for positions on line 0 alone. For it the call looks at
 ** neither `minified` nor `view`. If the functions of the source that the position
-** leads to are not in order, the name is unspecified.
+** leads to are not in order, the name may be wrong or missing.
 ** For other maps the name is guessed from the tokens, the generated text in `view`, and
 ** the minified name of the function. In an index map the name is guessed from the
-** tokens of one map: the map that contains the closest token. The name is guessed even
-** if that map is a Hermes map.
+** tokens of one map: the map that contains the closest token. The text in `view` is
+** read at the positions of the tokens in that map: the start of the section is not
+** added. The name is guessed even if that map is a Hermes map.
 ** SM_WRONG_KIND if `map` holds no map, or if `view` holds no view and the map is not a
 ** Hermes map. SM_UTF8 if the name is to be guessed and `minified` is not UTF-8. */
 sm_code sm_function_name(sm_map *map, uint32_t line, uint32_t column, const uint8_t *minified, size_t length,
@@ -442,7 +448,7 @@ sm_code sm_function_name(sm_map *map, uint32_t line, uint32_t column, const uint
 ** bytecode. The offset is a generated column of line 0. The text is borrowed from
 ** `map`. SM_ABSENT if there is no name; SM_WRONG_KIND if the handle holds no Hermes
 ** map. If the functions of the source that the offset leads to are not in order, the
-** name is unspecified. */
+** name may be wrong or missing. */
 sm_code sm_hermes_function_name(sm_map *map, uint32_t offset, sm_text *text);
 
 /*
@@ -464,10 +470,11 @@ sm_code sm_hermes_function_name(sm_map *map, uint32_t offset, sm_text *text);
 ** the longest path of whole parts with which each of these sources begins. These are
 ** the sources before they are resolved, also the unused ones. If only one source is an
 ** absolute path, the common path is this whole source. If the common path is empty or
-** `/`, `~` cuts nothing. A Hermes map keeps its scopes. If several sources resolve to
-** one text, only one of them keeps its scopes: the source of the first token that uses
-** one of these sources. SM_UTF8 if a prefix is not UTF-8; SM_WRONG_KIND of an index
-** map, and if the handle holds no map. */
+** `/`, `~` removes nothing. Sources that resolve to one text become one source. Sources
+** that become equal only when prefixes are removed stay separate. A Hermes map keeps its
+** scopes. If several sources resolve to one text, only one of them keeps its scopes:
+** the source of the first token that uses one of these sources. SM_UTF8 if a prefix is
+** not UTF-8; SM_WRONG_KIND of an index map, and if the handle holds no map. */
 sm_code sm_rewrite(sm_map *map, bool with_names, bool with_contents, const sm_text *prefixes, size_t count,
                    sm_error *error);
 
@@ -475,9 +482,9 @@ sm_code sm_rewrite(sm_map *map, bool with_names, bool with_contents, const sm_te
 ** index map, the regular map gives it the same original position, source and name. One
 ** condition: in the index map, and in each index map inside of it, each section begins
 ** before the next one, and all of its tokens are before the start of the next one.
-** SM_CANNOT_FLATTEN if a section has no map, if there would be more than 4294967295
-** sources or names, or if the line or the column of a token would pass 4294967295;
-** SM_WRONG_KIND if the handle holds no index map. */
+** SM_CANNOT_FLATTEN if a section at any level has no map, if there would be more than
+** 4294967295 sources or names, or if the line or the column of a token would pass
+** 4294967295; SM_WRONG_KIND if the handle holds no index map. */
 sm_code sm_flatten(sm_map *map, sm_error *error);
 
 /* Adjusts a regular map by the regular map `adjustment`. `map` is the map of the first
@@ -514,9 +521,9 @@ sm_code sm_set_debug_id(sm_map *map, bool present, const sm_debug_id *id, sm_err
 ** that id; SM_WRONG_KIND of an index map, and if the handle holds no map. */
 sm_code sm_set_source(sm_map *map, uint32_t id, const uint8_t *text, size_t length, sm_error *error);
 
-/* Sets or removes the contents of a source. SM_UTF8 if the text is not UTF-8;
-** SM_ABSENT if there is no source of that id; SM_WRONG_KIND of an index map, and if
-** the handle holds no map. */
+/* Sets or removes the contents of a source. Contents past the last source are dropped.
+** SM_UTF8 if the text is not UTF-8; SM_ABSENT if there is no source of that id;
+** SM_WRONG_KIND of an index map, and if the handle holds no map. */
 sm_code sm_set_contents(sm_map *map, uint32_t id, bool present, const uint8_t *text, size_t length, sm_error *error);
 
 /* Adds a source to the ignore list; SM_OK also if it is in the list. SM_ABSENT if
@@ -575,12 +582,12 @@ sm_code sm_sections_new(sm_sections *sections, sm_error *error);
 /* Changes `sections`: adds a section that begins at this generated position. If
 ** `has_map` is true, the section has a copy of `map`. If `has_url` is true, it has the
 ** URL of a map. It may have both or neither. Sections keep the order in which they are
-** added. If this is not the order of their positions, the answers of lookups in the
-** index map are unspecified. If `has_url` is false, the URL is not read. If
-** `has_map` is false, the handle `map` may hold anything. The pointers are not null
-** even so. SM_UTF8 if `has_url` is true and the URL is not UTF-8; SM_WRONG_KIND if
-** `sections` holds no list of sections, or if `has_map` is true and `map` holds no
-** map. */
+** added. If this is not the order of their positions, a lookup in the index map may
+** give a wrong answer or none. The same holds if the index map is in a section of
+** another one. If `has_url` is false, the URL is not read. If `has_map` is false, the
+** handle `map` may hold anything. The pointers are not null even so. SM_UTF8 if
+** `has_url` is true and the URL is not UTF-8; SM_WRONG_KIND if `sections` holds no list
+** of sections, or if `has_map` is true and `map` holds no map. */
 sm_code sm_sections_add(sm_sections *sections, uint32_t line, uint32_t column, bool has_url, const uint8_t *url,
                         size_t length, bool has_map, sm_map *map, sm_error *error);
 
@@ -664,11 +671,11 @@ sm_code sm_builder_ignore_source(sm_builder *builder, uint32_t id, sm_error *err
 
 /* Adds tokens, in any order. Ids that the builder does not have are kept, and name
 ** nothing. If a source id other than SM_NONE names nothing, the map can be written, but
-** sm_open() refuses the written text: SM_BAD_SOURCE_REFERENCE. The original position
-** of a token without a source is not written. Returns how many of the tokens were
-** added, counted from the first: all, or fewer if memory ran out, or 0 if the handle
-** holds no builder. If it holds a builder and all were added, `error` is as it was.
-** Else the code in `error` is SM_OUT_OF_MEMORY or SM_WRONG_KIND. After
+** sm_open() refuses the written text: SM_BAD_SOURCE_REFERENCE. Neither the original
+** position nor the name of a token without a source is written. Returns how many of the
+** tokens were added, counted from the first: all, or fewer if memory ran out, or 0 if
+** the handle holds no builder. If it holds a builder and all were added, `error` is as
+** it was. Else the code in `error` is SM_OUT_OF_MEMORY or SM_WRONG_KIND. After
 ** SM_OUT_OF_MEMORY make the call again with the tokens that are not added yet. */
 size_t sm_builder_add_tokens(sm_builder *builder, const sm_token *tokens, size_t count, sm_error *error);
 
@@ -792,10 +799,12 @@ sm_code sm_bundle_count(sm_bundle *bundle, size_t *modules);
 ** holds no bundle. Then `bytes` is as it was. */
 sm_code sm_bundle_startup(sm_bundle *bundle, sm_text *bytes, sm_error *error);
 
-/* The bytes of a module. They are borrowed from `bundle`, and need not be UTF-8.
-** SM_ABSENT if the module of that number is missing, SM_INVALID_BUNDLE_INDEX if the
-** number is past the last, SM_RANGE if the module or its entry passes the end of the
-** bundle, SM_INVALID_BUNDLE_ENTRY if the entry is invalid, SM_WRONG_KIND if the handle
+/* The bytes of a module, without the last byte. The last byte should be 0, but is not
+** checked. The bytes are borrowed from `bundle`, and need not be UTF-8. SM_ABSENT if
+** the module of that number is missing: the entry has offset 0 and length 0.
+** SM_INVALID_BUNDLE_INDEX if the number is past the last, SM_RANGE if the entry, or the
+** module without its last byte, passes the end of the bundle, SM_INVALID_BUNDLE_ENTRY
+** if the entry has length 0 and an offset other than 0, SM_WRONG_KIND if the handle
 ** holds no bundle. On each of these `bytes` is as it was. */
 sm_code sm_bundle_module(sm_bundle *bundle, size_t id, sm_text *bytes, sm_error *error);
 

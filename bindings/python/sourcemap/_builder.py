@@ -18,7 +18,7 @@ _BLOCK = 4096
 class NewToken(NamedTuple):
     """A token for `Builder.add_tokens`, with its source and its name by id.
 
-    For a token without a source leave out `line` and `column`: they are not written.
+    For a token without a source leave out `line`, `column` and `name_id`: they are not written.
     """
 
     generated_line: int
@@ -110,7 +110,8 @@ class Builder(HandleOwner):
     def add(self, generated_line: int, generated_column: int, *, source: Optional[str] = None,
             line: Optional[int] = None, column: Optional[int] = None, name: Optional[str] = None,
             is_range: bool = False) -> None:
-        """Adds a token, and its source and name if they are new."""
+        """Adds a token, and its source and name if they are new. If the call fails, the source and the name may have
+        been added."""
         token = NewToken(generated_line, generated_column, line, column,
                          None if source is None else self.add_source(source),
                          None if name is None else self.add_name(name), is_range)

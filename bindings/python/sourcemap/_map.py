@@ -442,9 +442,9 @@ class Map(HandleOwner):
         return Answers(shared._opened(), copied, memoryview(found)[:count * FOUND.size])
 
     def trace(self, positions: str) -> str:
-        """The answers to a list of positions, LINE:COLUMN on each line, both counted from 0. The answer to each is a
-        line SOURCE:LINE:COLUMN, with ` name=NAME` if there is a name. It is `none` if the position has no closest
-        token, and `bad position` if the line of the list is no position.
+        """The answers to a list of positions, LINE:COLUMN on each line. Both count from 0 and are at most 4294967295.
+        The answer to each is a line SOURCE:LINE:COLUMN, with ` name=NAME` if there is a name. It is `none` if the
+        position has no closest token, and `bad position` if the line of the list is no position.
 
         >>> import sourcemap
         >>> map = sourcemap.Map.load('bundle.js.map')
@@ -460,8 +460,10 @@ class Map(HandleOwner):
         """The name of the function that contains a generated position; None if it is not known.
 
         A Hermes map has the names itself, but only for line 0, where `column` is the offset in the bytecode. On other
-        lines it gives None. With other maps the name is guessed from the generated text in `view` and the minified name
-        of the function.
+        lines it gives None. If the functions of a source are not in order, the name may be wrong or missing. With other
+        maps the name is guessed from the tokens, the generated text in `view` and the minified name of the function. In
+        an index map `view` is read at the positions of the tokens in the map of their section: the start of the section
+        is not added.
         """
         line, column = uint32('line', line), uint32('column', column)
         text = View('') if view is None else view
@@ -470,8 +472,8 @@ class Map(HandleOwner):
             return self._text(library.function_name, line, column, *pointer_to(minified), text._at)
 
     def hermes_function_name(self, offset: int) -> Optional[str]:
-        """Of a Hermes map: the name of the function at an offset of the bytecode; None if it is not known. `WrongKind`
-        of any other map."""
+        """Of a Hermes map: the name of the function at an offset of the bytecode; None if it is not known. If the
+        functions of a source are not in order, the name may be wrong or missing. `WrongKind` of any other map."""
         return self._text(library.hermes_function_name, uint32('offset', offset))
 
     # Changes
@@ -487,8 +489,9 @@ class Map(HandleOwner):
         `names=False` removes all names, `contents=False` all contents. Raises `WrongKind` of an index map.
 
         Cuts from each source the first of `strip_prefixes` that it begins with. A prefix without `/` at its end gets
-        one. The prefix `'~'` stands for a folder: the longest that all sources which are absolute paths before they
-        are resolved have in common. It is tried last.
+        one. The prefix `'~'` is tried last. It stands for the common path of all sources that are absolute paths before
+        they are resolved: `/a` for `/a/b` and `/a/bc`. Unused sources count too. If the common path is empty or `/`,
+        `'~'` removes nothing.
 
         >>> import sourcemap
         >>> map = sourcemap.Map.loads('{"version":3,"sources":["/x/a.js","/x/b.js"],"names":[],"mappings":"ACAA"}')

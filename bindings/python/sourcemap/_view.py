@@ -104,7 +104,7 @@ def resolve(url: str, base: str) -> Optional[str]:
 def resolve_path(url: str, path: str) -> Optional[str]:
     """The path that the reference `url` leads to from `path`, the path of its text. None if it leads to no path, such
     as a `data:` URL or a URL that is not of a file, or if `path` does not begin with `/`. May also be None if
-    `url` and the `file:` URL of `path`, with its escapes, together have 2^28 bytes or more.
+    `url` and the `file:` URL of `path`, with its escapes and each `..`, together have 2^28 bytes or more.
 
     >>> import sourcemap
     >>> sourcemap.resolve_path('../m/a.js.map', '/x/y/a.js')

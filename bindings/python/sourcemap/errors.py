@@ -56,7 +56,12 @@ class Scroll(SourceMapError, ValueError):
 
 
 class BadJson(SourceMapError, ValueError):
-    """The text is not JSON (`number` 0), or a field has the wrong type (`number` 1)."""
+    """The text can't be read as the JSON of a source map.
+
+    `number` is 0 if the text is not JSON or not UTF-8, has more than 127 levels, has a number too large for a float, or
+    escapes one half of a surrogate pair without the other. `number` is 1 if the JSON is no object, if a field has the
+    wrong type, or if a required field is missing.
+    """
 
     code = 4
 

@@ -175,8 +175,10 @@ impl SourceMapBuilder {
     /// For each source without contents, reads its contents from a local file. The
     /// path of the file is the text of the source, as it was added, resolved against
     /// the folder `base_path`. A relative `base_path` counts from the current
-    /// folder, and none is the current folder. Files that can't be read, or are not
-    /// UTF-8, are left out. Returns how many were read. Fails with
+    /// folder, and none is the current folder. A source is skipped if it leads to no
+    /// path of a file, or if its file can't be read or is not UTF-8. A source may also
+    /// be skipped if the `file` URL of the folder and the source together have about
+    /// 2^28 bytes or more. Returns how many sources got contents. Fails with
     /// [`Error::Io`](crate::Error::Io) if the current folder is unknown.
     pub fn load_local_source_contents(&mut self, base_path: Option<&Path>) -> Result<usize> {
         let folder = local::folder(base_path)?;

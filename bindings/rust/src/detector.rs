@@ -38,8 +38,8 @@ impl SourceMapRef {
     /// Returns the path that the reference leads to from the path of its text.
     /// Returns none if the reference is a `data:` URL or leads to no path of a file.
     /// Returns none if `minified_path` is not UTF-8 or does not begin with `/`. May
-    /// also return none if the `file` URL of `minified_path`, with its escapes, and
-    /// the reference together have 2^28 bytes or more.
+    /// also return none if the `file` URL of `minified_path`, with its escapes and each
+    /// `..`, and the reference together have 2^28 bytes or more.
     pub fn resolve_path(&self, minified_path: &Path) -> Option<PathBuf> {
         resolve_path(self.get_url(), minified_path)
     }

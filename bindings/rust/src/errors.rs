@@ -14,15 +14,14 @@ pub type Result<T> = std::result::Result<T, Error>;
 /// Why a call failed.
 #[derive(Debug)]
 pub enum Error {
-    /// A reader, a writer or a file failed, a junk header is malformed, or a line of
-    /// a generated text is not UTF-8.
+    /// A reader, a writer or a file failed, the current folder is unknown, a junk
+    /// header is malformed, or a line of a generated text is not UTF-8.
     Io(io::Error),
     /// A range passes the end of a RAM bundle.
     Scroll(RangeError),
     /// Bytes that should be text are not UTF-8.
     Utf8(str::Utf8Error),
-    /// The text is not JSON, or the JSON is no object, or a field has the wrong type
-    /// for a source map.
+    /// The text can't be read as the JSON of a source map.
     BadJson(JsonError),
     /// A segment ends within a number.
     VlqLeftover,
@@ -68,10 +67,11 @@ pub enum Error {
 /// What is wrong with a JSON text.
 #[derive(Clone, Copy, Debug, PartialEq, Eq)]
 pub enum JsonError {
-    /// The text is not JSON or not UTF-8, its JSON has more than 127 levels, or a
-    /// number in it is too large for an `f64`.
+    /// The text is not JSON or not UTF-8, has more than 127 levels, has a number too
+    /// large for an `f64`, or escapes one half of a surrogate pair without the other.
     Parse,
-    /// The text is JSON, but no object, or a field has the wrong type.
+    /// The text is JSON, but no object, or a field has the wrong type, or a required
+    /// field is missing.
     Shape,
 }
 

@@ -62,7 +62,8 @@ impl SourceMapHermes {
     /// Looks up the token's generated position in this map, and returns the name of
     /// the function there. For a range token that a lookup on its own line returned,
     /// it looks up the position of that lookup. Hermes maps have their tokens on
-    /// generated line 0. For a token on another line the call returns none.
+    /// generated line 0. For a token on another line the call returns none. If the
+    /// functions of the token's source are not in order, the result is unspecified.
     pub fn get_scope_for_token(&self, token: Token<'_>) -> Option<&str> {
         match token.looked_up() {
             (0, offset) => self.get_original_function_name(offset),

@@ -94,8 +94,11 @@ impl<'a> RamBundle<'a> {
 
     /// Reads a bundle of files. The path is that of the startup file. Beside this
     /// file is the folder `js-modules`. The folder has the file `UNBUNDLE`, and a
-    /// file `NUMBER.js` for each module. Fails with [`Error::NotARamBundle`] if
-    /// [`is_unbundle_path`] returns false for the path.
+    /// file `NUMBER.js` for each module. Links and folders in `js-modules` are ignored.
+    /// NUMBER has only ASCII digits, and is below `usize::MAX`. If two files have the
+    /// same number, the later name in the order of bytes counts. Fails with
+    /// [`Error::NotARamBundle`] if [`is_unbundle_path`] returns false for the path, and
+    /// with [`Error::InvalidRamBundleIndex`] if a plain file has another name.
     pub fn parse_unbundle_from_path(bundle_path: &Path) -> Result<Self> {
         let repr = Repr::Unbundle(Unbundle::read(bundle_path)?);
         Ok(RamBundle { repr })
@@ -334,15 +337,16 @@ fn split_item(split: &SplitHandle, item: usize) -> Result<(String, SourceView, S
 /// map, by the index map of the bundle.
 ///
 /// A module begins on the line that the list [`SourceMapIndex::x_facebook_offsets`]
-/// has for its number. The iterator skips modules that are missing, and modules for
-/// which the list has none. It returns [`Error::InvalidRamBundleEntry`] for each
-/// invalid module. A module is invalid if its entry in the bundle is malformed, if
-/// its text is not UTF-8, or if the list is too short to have its number. It is also
-/// invalid if the flat map has no token at or before the start of the module's first
-/// line. The split itself fails if [`SourceMapIndex::flatten`] fails, and with
-/// [`Error::NotARamBundle`] if the index map has no such list. For a bundle of files
-/// it fails with [`Error::InvalidRamBundleEntry`] if a number or a size in the
-/// indexed form of the bundle exceeds 4294967295.
+/// has for its number. The iterator skips modules that are missing. A module for which
+/// the list has none is skipped too, unless reading the module from the bundle fails.
+/// The iterator returns [`Error::InvalidRamBundleEntry`] for each invalid module. A
+/// module is invalid if reading it from the bundle fails, if its text is not UTF-8, or
+/// if the list is too short to have its number. It is also invalid if the flat map has
+/// no token at or before the start of the module's first line. The split itself fails
+/// if [`SourceMapIndex::flatten`] fails, and with [`Error::NotARamBundle`] if the index
+/// map has no such list. For a bundle of files it fails with
+/// [`Error::InvalidRamBundleEntry`] if a number or a size in the indexed form of the
+/// bundle exceeds 4294967295.
 pub fn split_ram_bundle<'a>(
     ram_bundle: &'a RamBundle<'_>,
     smi: &SourceMapIndex,

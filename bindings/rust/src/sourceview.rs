@@ -56,7 +56,7 @@ impl SourceView {
         self.handle.slice(line, col, span)
     }
 
-    /// Returns the lines.
+    /// Returns the lines, but at most the first 4294967296.
     pub fn lines(&self) -> Lines<'_> {
         Lines {
             sv: self,

@@ -82,7 +82,7 @@ impl MapToken {
         }
     }
 
-    /// The stored token with these fields.
+    /// Returns the `RawToken` that has the fields of this struct.
     pub fn to_raw(self) -> RawToken
         ensures { result ≡ raw_token self }
     {

@@ -1,47 +1,95 @@
-// Loading of contents from files that cannot be opened or read, or have wrong or no metadata.
+// Loading of contents when files cannot be opened or read, or have wrong metadata or none.
 use crate::checks::check;
 use crate::folders::count_or_error;
 use sourcemap::{Result, SourceMapBuilder};
-use sourcemap_test_support::files::{FakeFiles, FakePath};
+use sourcemap_test_support::files::{FakeFile, unsupported_error};
+use sourcemap_test_support::readers::NarrowReader;
 use sourcemap_test_support::results::push_optional;
-use std::alloc::Global;
-use std::cell::Cell;
+use std::alloc::{Allocator, Global};
+use std::fs::{Metadata, OpenOptions};
+use std::io;
 use std::io::ErrorKind;
+use std::rt::Files;
 
-// A file with these bytes. If `fails` is true, every read after the last byte fails. The size in
-// the metadata is `size`. If `size` is `None`, reading the metadata fails.
-fn file<'a>(path: &'a str, bytes: &'a [u8], fails: bool, size: Option<u64>) -> FakePath<'a> {
-    FakePath {
-        path,
-        bytes,
-        left: if fails { Some(bytes.len()) } else { None },
-        fails_on_open: false,
+// A fake file system of six files: `/a.js`; `/late.js`, which fails after its first byte;
+// `/never.js`, which cannot be opened; `/strange.js`, without metadata; `/grown.js`, whose metadata
+// report too few bytes; and `/cut.js`, whose metadata report too many.
+#[derive(Drop)]
+struct Broken {
+    // the kind of each error of opening or reading a file
+    kind: ErrorKind,
+}
+
+// Returns a file with these bytes. Reads return one byte each. If `fails` is true, every read after
+// the last byte fails with `kind`. Otherwise no read fails. The size in the metadata is `size`. If
+// `size` is `None`, a request for the metadata fails with `Unsupported`.
+fn file(
+    bytes: &'static [u8],
+    fails: bool,
+    kind: ErrorKind,
+    size: Option<u64>,
+) -> FakeFile<'static> {
+    FakeFile {
+        reader: NarrowReader {
+            rest: bytes,
+            left: if fails { Some(bytes.len()) } else { None },
+            kind,
+        },
         size,
     }
 }
 
-// Six files: `/a.js`; `/grown.js`, whose metadata report too few bytes; `/cut.js`, whose metadata
-// report too many; `/late.js`, which fails after its first byte; `/strange.js`, without metadata;
-// and `/never.js`, which cannot be opened. Errors of opening and reading these files have the kind
-// `kind`.
-fn failing_files(kind: ErrorKind) -> FakeFiles<'static, 6> {
-    FakeFiles {
-        paths: [
-            file("/a.js", b"xx", false, Some(2)),
-            file("/grown.js", b"xxxxx", false, Some(1)),
-            file("/cut.js", b"x", false, Some(5)),
-            file("/late.js", b"x", true, Some(1)),
-            file("/strange.js", b"xxx", false, None),
-            FakePath {
-                path: "/never.js",
-                bytes: b"",
-                left: None,
-                fails_on_open: true,
-                size: None,
-            },
-        ],
-        kind,
-        is_opened: Cell::new(false),
+impl Files for Broken {
+    type File = FakeFile<'static>;
+
+    type Dir = FakeFile<'static>;
+
+    fn open_file(&self, how: &OpenOptions, path: &str) -> io::Result<FakeFile<'static>> {
+        how.check()?;
+        match path {
+            "/a.js" => Ok(file(b"xx", false, self.kind, Some(2))),
+            "/grown.js" => Ok(file(b"xxxxx", false, self.kind, Some(1))),
+            "/cut.js" => Ok(file(b"x", false, self.kind, Some(5))),
+            "/late.js" => Ok(file(b"x", true, self.kind, Some(1))),
+            "/strange.js" => Ok(file(b"xxx", false, self.kind, None)),
+            _ => Err(io::Error::from(self.kind)),
+        }
+    }
+
+    fn open_dir(&self, _path: &str) -> io::Result<FakeFile<'static>> {
+        unsupported_error()
+    }
+
+    fn metadata(&self, _path: &str) -> io::Result<Metadata> {
+        unsupported_error()
+    }
+
+    fn symlink_metadata(&self, _path: &str) -> io::Result<Metadata> {
+        unsupported_error()
+    }
+
+    fn copy(&self, _from: &str, _to: &str) -> io::Result<u64> {
+        unsupported_error()
+    }
+
+    fn rename(&self, _from: &str, _to: &str) -> io::Result<()> {
+        unsupported_error()
+    }
+
+    fn remove_file(&self, _path: &str) -> io::Result<()> {
+        unsupported_error()
+    }
+
+    fn create_dir(&self, _path: &str) -> io::Result<()> {
+        unsupported_error()
+    }
+
+    fn remove_dir(&self, _path: &str) -> io::Result<()> {
+        unsupported_error()
+    }
+
+    fn remove_dir_all<B: Allocator>(&self, _alloc: B, _path: &str) -> io::Result<()> {
+        unsupported_error()
     }
 }
 
@@ -50,7 +98,7 @@ fn load_failing(alloc: Global, kind: ErrorKind, sources: &[&str]) -> Result<Stri
     for source in sources {
         builder.add_source(source)?;
     }
-    let files = failing_files(kind);
+    let files = Broken { kind };
     let mut out = count_or_error(alloc, builder.load_local_source_contents(&files, "/", None))?;
     for id in 0..sources.len().min(100) {
         push_optional(&mut out, builder.get_source_contents(id as u32))?;

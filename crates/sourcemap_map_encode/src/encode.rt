@@ -125,7 +125,8 @@ fn put_ids<W: Write>(
     Ok(true)
 }
 
-// Writes `mappings`, `names` and `rangeMappings`. Members are sorted by the bytes of their keys.
+// Writes `mappings`, `names`, and `rangeMappings` if the map has range tokens. Members are sorted
+// by the bytes of their keys.
 fn put_tokens<W: Write>(
     alloc: Global,
     writer: &mut W,

@@ -5,7 +5,7 @@ use sourcemap_core::lines::{LineTable, utf16_offset};
 use std::alloc::Global;
 use std::process::Abort;
 
-// A text, its number of lines, and the ranges of its first five lines.
+// A text. Then the number of its lines, and the range of each line.
 static TEXTS: [(&str, &str); 9] = [
     ("", "1: 0-0"),
     ("a", "1: 0-1"),

@@ -6,6 +6,8 @@ mod applied;
 #[cfg(test)]
 mod composes;
 #[cfg(test)]
+mod fake_files;
+#[cfg(test)]
 mod io_errors;
 #[cfg(test)]
 mod memory;

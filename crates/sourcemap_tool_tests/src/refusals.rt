@@ -1,10 +1,10 @@
 // Runs with incomplete, deeply nested or large maps, with reads that fail, and with unreadable
 // files.
+use crate::fake_files::FakeFiles;
 use crate::memory::unless_out;
 use crate::runs::{MAP, is_run, words_of};
 use sourcemap::Error;
 use sourcemap_cli::program::run;
-use sourcemap_test_support::files::{FakeFiles, FakePath};
 use sourcemap_test_support::readers::HaltingReader;
 use std::alloc::Global;
 use std::cell::Cell;
@@ -128,9 +128,8 @@ fn failing_reads_are_reported(rt: HostRuntime) -> Result<(), Fail> {
     Ok(())
 }
 
-// A label and the words of the run. The next four values are `bytes` and `left` of `FakePath`,
-// `kind` of `FakeFiles`, and `fails_on_open` of `FakePath`. The last value is the status and the
-// output of the run.
+// A label and the words of the run. The next four values are `bytes`, `left`, `kind` and
+// `fails_on_open` of `FakeFiles`. The last value is the status and the output of the run.
 type Row = (
     &'static str,
     &'static str,
@@ -237,14 +236,11 @@ static FILES: [Row; 10] = [
 fn file_ends(rt: &HostRuntime, row: &Row) -> Result<bool, Fail> {
     let (_, line, bytes, left, kind, fails_on_open, want) = *row;
     let files = FakeFiles {
-        paths: [FakePath {
-            path: "a.map",
-            bytes,
-            left,
-            fails_on_open,
-            size: None,
-        }],
+        path: "a.map",
+        bytes,
+        left,
         kind,
+        fails_on_open,
         is_opened: Cell::new(false),
     };
     let mut reader = HaltingReader::new(MAP.as_bytes(), usize::MAX, ErrorKind::TimedOut);

@@ -1,16 +1,17 @@
 // `trace_text`, and runs of `trace FILE`.
+use crate::fake_files::FakeFiles;
 use crate::memory::unless_out;
 use crate::runs::{MAP, TWO, words_of};
 use sourcemap::{DecodedMap, Error, decode_slice};
 use sourcemap_cli::program::{reply_to, run};
-use sourcemap_test_support::files::FakeFiles;
 use sourcemap_trace::trace_text;
 use std::alloc::Global;
+use std::cell::Cell;
 use std::io;
 use std::io::ErrorKind;
 use std::test::Fail;
 
-// `TWO`, flattened.
+// The flat map of `TWO`. It is an input: traces of both maps print the same.
 const FLAT: &str = r#"{"sources":["a.js","b.js"],"mappings":"AAAA;;;;;;;;;;ICAA"}"#;
 
 const RANGED: &str = r#"{"sources":["a.js"],"mappings":"AAAO","rangeMappings":"B"}"#;
@@ -142,10 +143,22 @@ fn long_lines_and_many_are_answered(rt: HostRuntime) -> Result<(), Fail> {
     Ok(())
 }
 
+// A file system with these positions at `a.txt`.
+fn files_with(text: &str) -> FakeFiles<'_> {
+    FakeFiles {
+        path: "a.txt",
+        bytes: text.as_bytes(),
+        left: None,
+        kind: ErrorKind::BrokenPipe,
+        fails_on_open: false,
+        is_opened: Cell::new(false),
+    }
+}
+
 // Whether a run with these files prints this text and ends with this status.
 fn is_run(
     rt: &HostRuntime,
-    files: &FakeFiles<'_, 1>,
+    files: &FakeFiles<'_>,
     words: &[String],
     map: &str,
     status: u8,
@@ -175,7 +188,7 @@ fn replies_with(
 fn runs_answer_positions(rt: HostRuntime) -> Result<(), Fail> {
     let words = words_of(rt.alloc(), "trace a.txt")?;
     for (map, positions, want) in TRACES.iter() {
-        let files = FakeFiles::of_text("a.txt", positions, None);
+        let files = files_with(positions);
         assert!(rt;
             replies_with(&rt, words.as_slice(), map, positions, want)?,
             "{map} {positions}"
@@ -192,7 +205,8 @@ fn runs_answer_positions(rt: HostRuntime) -> Result<(), Fail> {
 // Whether a run prints `broken pipe` and a newline, and ends with status 1. Reading the file of
 // positions, `a.txt`, fails after `left` bytes.
 fn is_refused(rt: &HostRuntime, words: &[String], left: usize) -> Result<bool, Fail> {
-    let files = FakeFiles::of_text("a.txt", "0:5\nx", Some(left));
+    let mut files = files_with("0:5\nx");
+    files.left = Some(left);
     is_run(rt, &files, words, MAP, 1, "broken pipe\n")
 }
 
@@ -206,7 +220,7 @@ fn files_of_positions_may_fail(rt: HostRuntime) -> Result<(), Fail> {
         );
     }
     let other = words_of(rt.alloc(), "trace b.txt")?;
-    let files = FakeFiles::of_text("a.txt", "0:5", None);
+    let files = files_with("0:5");
     assert!(rt; is_run(&rt, &files, other.as_slice(), MAP, 1, "entity not found\n")?);
     Ok(())
 }
@@ -214,7 +228,7 @@ fn files_of_positions_may_fail(rt: HostRuntime) -> Result<(), Fail> {
 #[test]
 fn maps_are_decoded_before_positions_are_read(rt: HostRuntime) -> Result<(), Fail> {
     let words = words_of(rt.alloc(), "trace a.txt")?;
-    let files = FakeFiles::of_text("a.txt", "0:5", None);
+    let files = files_with("0:5");
     let is_so = is_run(
         &rt,
         &files,

@@ -67,7 +67,9 @@ impl DecodedMap {
     /// Returns the original name of the function at a generated position. A Hermes
     /// map has such names itself, for positions on line 0, and returns none for
     /// other lines. Other maps guess the name from the minified name and the
-    /// generated text, and return none if one of these is missing.
+    /// generated text, and return none if one of these is missing. The name may be
+    /// wrong or missing if sections of an index map are not in order at every level,
+    /// or if functions of a source in a Hermes map are not in order.
     pub fn get_original_function_name(
         &self,
         line: u32,

@@ -189,7 +189,9 @@ impl SourceMapIndex {
     }
 
     /// Returns the original name of the function at a generated position, as
-    /// [`SourceMap::get_original_function_name`] does.
+    /// [`SourceMap::get_original_function_name`] does. The search stays in the map of
+    /// the closest token. The text is read at the positions of the tokens in that map:
+    /// the start of the section is not added.
     pub fn get_original_function_name(
         &self,
         line: u32,
@@ -236,9 +238,9 @@ impl SourceMapIndex {
     /// Returns this map as one regular map. Wherever the index map has an answer,
     /// the regular map has the same. One premise: in the index map, and in each
     /// index map inside of it, each section and all its tokens start before the next
-    /// section. Fails with [`Error::CannotFlatten`] if a section has no map, if
-    /// there are more than 4294967295 sources or names, or if a line or column of a
-    /// token would exceed 4294967295.
+    /// section. Fails with [`Error::CannotFlatten`] if a section at any level has no
+    /// map, if there are more than 4294967295 sources or names, or if a line or column
+    /// of a token would exceed 4294967295.
     pub fn flatten(&self) -> Result<SourceMap> {
         let mut flat = self.handle().share()?;
         flat.flatten()?;

@@ -206,7 +206,8 @@ impl SourceMap {
     /// is a view of that text. The search begins at the closest token and goes back
     /// over at most 128 tokens. It stops at the first token for which the generated
     /// text has `minified_name` at the token's position, and `function` at the
-    /// position of the token before it. Returns the name of the token at
+    /// position of the token before it. White space before either word is skipped,
+    /// but not past the end of the line. Returns the name of the token at
     /// `minified_name`, or none if there is no such token, if it has no name, or if
     /// `minified_name` is no identifier.
     pub fn get_original_function_name(

@@ -11,17 +11,19 @@ pub struct RewriteOptions<'a> {
     /// Whether the contents that the map has are kept.
     pub with_source_contents: bool,
     /// Whether contents that the map lacks, or does not keep, are read from local
-    /// files.
+    /// files. Sources are skipped as by
+    /// [`load_local_source_contents`](crate::SourceMapBuilder::load_local_source_contents).
     pub load_local_source_contents: bool,
     /// The folder against which sources are resolved to find their local files. A
     /// relative path counts from the current folder. None is the current folder.
     pub base_path: Option<&'a Path>,
     /// Prefixes to remove from sources. If a source begins with several of them,
     /// only the first of these in the list is removed. A `/` is added to a prefix
-    /// that does not end with one. The prefix `~` is tried last. It means the
-    /// longest folder that all sources with absolute paths have in common. For this
-    /// folder, sources count as they are written, not as resolved against the source
-    /// root.
+    /// that does not end with one. The prefix `~` is tried last. It means the common
+    /// path of all sources that are absolute paths: `/a` for `/a/b` and `/a/bc`. For
+    /// the common path, sources count as they are written, not as resolved against the
+    /// source root. Unused sources count too. If the common path is empty or `/`, `~`
+    /// removes nothing.
     pub strip_prefixes: &'a [&'a str],
 }
 
