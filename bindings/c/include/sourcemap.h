@@ -421,7 +421,8 @@ sm_code sm_lookup_text(sm_map *map, uint32_t line, uint32_t column, sm_bytes *te
 
 /* Fills `text` with the answers to a list of generated positions. Each line of
 ** `positions` is one, as LINE:COLUMN. Both count from 0 and are at most 4294967295. For
-** each line `text` has one line. It is the original position, as SOURCE:LINE:COLUMN,
+** each line `text` has one answer, and a newline after it. A newline in a source or a
+** name stays in the answer. It is the original position, as SOURCE:LINE:COLUMN,
 ** with ` name=NAME` if there is a name; `none` if the position has no closest token;
 ** `bad position` if the line is not a position. If the token has no source, SOURCE is
 ** `<unknown>`. In a map that was opened, LINE and COLUMN of such a token are

@@ -247,13 +247,15 @@ impl SourceMapBuilder {
     }
 
     /// For each source without contents, reads its contents from a file. Returns the number of
-    /// sources that got contents. The path of the file is the text with which the source was added,
-    /// resolved against the folder `base_path`. A `base_path` that is not absolute is joined to
-    /// `current_dir`. Without a `base_path` the folder is `current_dir`. `sourceRoot` is not used.
-    /// A source is skipped if it does not resolve to the path of a file, or if its file does not
-    /// exist, cannot be read or is not UTF-8. A source may also be skipped if the source and the
-    /// URL of the folder, including each `..`, together have 2^28 bytes or more. On success, the
-    /// list of contents has one item for each source.
+    /// sources that got contents. The text with which the source was added is resolved as a URL
+    /// reference against the `file` URL of the folder `base_path`. The path of the resolved URL,
+    /// with escapes decoded, is the path of the file: `a%20b.js?c` is the file `a b.js` in the
+    /// folder. A `base_path` that is not absolute is joined to `current_dir`. Without a `base_path`
+    /// the folder is `current_dir`. `sourceRoot` is not used. A source is skipped if it does not
+    /// resolve to the path of a file, or if its file does not exist, cannot be read or is not
+    /// UTF-8. A source may also be skipped if the source and the URL of the folder, including each
+    /// `..`, together have 2^28 bytes or more. On success, the list of contents has one item for
+    /// each source.
     ///
     /// The error is `Io` of kind `InvalidInput` if neither `base_path` nor `current_dir` is
     /// absolute. Then the builder is unchanged. Any other error is `OutOfMemory`. Then contents
@@ -363,10 +365,11 @@ impl SourceMapBuilder {
         )
     }
 
-    /// Copies a token of a map: adds a token with the values that the getters of `token` return,
-    /// and returns the new token. The name is copied only if `with_name` is true. The errors are
-    /// those of `add`. An error leaves the tokens unchanged, but the source and the name may have
-    /// been added.
+    /// Copies a token of a map: adds a token with the positions, the source and the name that the
+    /// getters of `token` return, and returns the new token. It is a range token if `token` is one.
+    /// Its source id and name id are those of this builder. The name is copied only if `with_name`
+    /// is true. The errors are those of `add`. An error leaves the tokens unchanged, but the source
+    /// and the name may have been added.
     pub fn add_token(&mut self, token: &Token<'_>, with_name: bool) -> Result<RawToken>
         ensures token { Gives (λ added. added) result (token_with_ids
             (token_without_ids (token_value token.now).raw.dst_line (token_value token.now).raw.dst_col

@@ -95,10 +95,11 @@ impl<'a> RamBundle<'a> {
     /// below `usize::MAX`. If two files have the same number, the file whose name is later in the
     /// order of bytes is kept: of `07.js` and `7.js`, `7.js` is kept.
     ///
-    /// Returns `NotARamBundle` if `is_unbundle_path` is false for `path`. Returns
-    /// `InvalidRamBundleIndex` if the name of a module file is not a valid `N.js`. The error is
-    /// `OutOfMemory` if memory ran out, or `Io` if the startup code, the folder or a module file
-    /// cannot be read for another reason.
+    /// Returns `NotARamBundle` if `is_unbundle_path` is false for `path`. Otherwise, the error is
+    /// `Io` if the startup code or the folder cannot be read, or if any name in the folder is not
+    /// UTF-8. Then the module files are read in the order of the bytes of their names, and the
+    /// first error is returned: `InvalidRamBundleIndex` if the name is not a valid `N.js`, or `Io`
+    /// if the file cannot be read. `OutOfMemory` can come at any time.
     pub fn parse_unbundle_from_path<F: Files>(rt: &F, alloc: Global, path: &str) -> Result<Self>
         ensures files { IfOk result IsFileBundle }
         ensures refused { IfErr result IsFileError }

@@ -72,7 +72,8 @@ fn put_bundle(alloc: Global, parsed: RamBundle<'static>, bundle: &mut Handle) ->
     Ok(())
 }
 
-/// Writes the number of entries in the module table. An entry may have no module.
+/// Writes the number of entries that the header states for the module table. The bundle may end
+/// before the last entry. An entry may have no module.
 #[unsafe(no_mangle)]
 pub extern "C" fn sm_bundle_count(bundle: &mut Handle, modules: &mut usize) -> u32
     ensures modules { ReturnsValue (option_map (λ b. Some (bundle_count b)) (bundle_in (held_in bundle.old)))

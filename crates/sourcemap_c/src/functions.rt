@@ -19,10 +19,11 @@ use std::alloc::Global;
 
 /// Looks up each generated position of a list, and fills `text` with the answers. The list has one
 /// position on each line. A position is written as `12:5`: the line, a colon and the column. Both
-/// count from 0 and are at most 4294967295. For each line of `positions`, `text` has one line with
-/// the answer. The answer is the text that `sm_lookup_text` writes, for example `a.js:3:4 name=f`.
-/// The answer is `none` if there is no closest token, and `bad position` if the line of `positions`
-/// is not a position.
+/// count from 0 and are at most 4294967295. For each line of `positions`, `text` has one answer and
+/// a newline after it. An answer has more than one line if its source or its name has a newline.
+/// The answer is the text that `sm_lookup_text` writes, for example `a.js:3:4 name=f`. The answer
+/// is `none` if there is no closest token, and `bad position` if the line of `positions` is not a
+/// position.
 ///
 /// If an index map has unsorted sections at any level, an answer may be `none` or the text of a
 /// token that is not the closest. The error is `SM_WRONG_KIND` if `map` holds no map. The only

@@ -18,9 +18,10 @@ use sourcemap::{DecodedMap, RawToken, SourceMap, SourceMapIndex};
 use sourcemap_c_handles::Handle;
 use sourcemap_c_handles::layout::{Counts, IdBytes, MapToken};
 
-/// Writes how many tokens, sources, names, ignored sources and sections the map has. For an index
-/// map, all counts but the sections are 0. For other maps, the count of sections is 0. A count
-/// above 4294967295 is written as 4294967295. Returns `SM_WRONG_KIND` if the handle holds no map.
+/// Writes how many tokens, sources, names, ids on the ignore list and sections the map has. An id
+/// on the ignore list counts even if no source has it. For an index map, all counts but the
+/// sections are 0. For other maps, the count of sections is 0. A count above 4294967295 is written
+/// as 4294967295. Returns `SM_WRONG_KIND` if the handle holds no map.
 #[unsafe(no_mangle)]
 pub extern "C" fn sm_count(map: &mut Handle, counts: &mut Counts) -> u32
     ensures counts { ReturnsValue (option_map (λ t. Some (counts_of t)) (tree_in (held_in map.old)))

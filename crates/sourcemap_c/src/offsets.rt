@@ -109,7 +109,9 @@ fn path_of(index: &SourceMapIndex, id: usize) -> Option<&str>
     Some(path.as_str())
 }
 
-/// Fills `path` with the relative path from the folder of the file `base` to the file `target`.
+/// Fills `path` with the relative path from the folder of the file `base` to the file `target`. `/`
+/// and `\` both separate parts. The call compares the parts as they are written: both paths must
+/// start from the same folder, and neither may have a part `.` or `..`.
 #[unsafe(no_mangle)]
 pub extern "C" fn sm_relative_path(
     alloc: Global,

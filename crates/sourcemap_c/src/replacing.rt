@@ -164,10 +164,11 @@ fn compose_copy(map: &SourceMap, adjustment: &SourceMap) -> Result<SourceMap>
     Ok(copy)
 }
 
-/// Rewrites the map. Keeps only the sources and names that tokens use, and the contents of these
-/// sources. The sources are resolved against `sourceRoot`. Removes `sourceRoot` and the ignore
-/// list. If `with_names` is false, removes all names. If `with_contents` is false, removes all
-/// contents.
+/// Rewrites the map. Removes the sources and names that no token uses, and the contents of the
+/// removed sources. The other sources are resolved against `sourceRoot`. Sources that resolve to
+/// the same text become one source. It keeps the contents of one of them: the first that has
+/// contents, in the order of the tokens. Removes `sourceRoot` and the ignore list. If `with_names`
+/// is false, removes all names. If `with_contents` is false, removes all contents.
 ///
 /// Removes from each source the first of `prefixes` that the source starts with. If a prefix does
 /// not end with `/`, the call adds `/` to the prefix beforehand: `a` turns `a/b` into `b`. The

@@ -100,10 +100,11 @@ fn set_contents(alloc: Global, map: &mut Handle, id: u32, present: bool, text: &
     }
 }
 
-/// Changes the source with this id to `text`. The call does not resolve `text` against
-/// `sourceRoot`. The errors are `Utf8` if `text` is not UTF-8, `Absent` if no source has this id,
-/// `WrongKind` if the handle holds an index map or no map, and `OutOfMemory`. After an error the
-/// value of the handle is unchanged.
+/// Changes the source with this id to `text`. The map stores and writes `text` as it is given.
+/// Calls such as `sm_source` return the new source resolved against `sourceRoot`. The errors are
+/// `Utf8` if `text` is not UTF-8, `Absent` if no source has this id, `WrongKind` if the handle
+/// holds an index map or no map, and `OutOfMemory`. After an error the value of the handle is
+/// unchanged.
 #[unsafe(no_mangle)]
 pub extern "C" fn sm_set_source(
     alloc: Global,

@@ -7,7 +7,8 @@ use std::fs::{FileTimes, Files, Metadata, OpenFile, OpenOptions, Permissions};
 use std::io;
 use std::io::{Read, Seek, SeekFrom, Write};
 
-/// A file that cannot be opened. Each call returns `Unsupported`.
+/// A file that cannot be opened. `read`, `write`, `flush`, `seek` and each call of `OpenFile`
+/// return `Unsupported`.
 #[derive(Drop)]
 pub struct NoFile;
 

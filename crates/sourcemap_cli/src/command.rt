@@ -11,7 +11,7 @@ use std::alloc::Global;
 pub enum Command {
     /// `lookup LINE COL`: the closest token to a generated position.
     Lookup(u32, u32),
-    /// `tokens`: a line for each token.
+    /// `tokens`: the text of each token, with a newline after it.
     Tokens,
     /// `rewrite`: the map rewritten with default options, as JSON text.
     Rewrite,

@@ -78,7 +78,8 @@ impl fmt::Display for Base64Fault {
 #[derive(Debug, Drop)]
 pub enum Error {
     /// Reading or writing failed. Kind `InvalidData` can also mean an invalid junk header or, in a
-    /// search for a reference, a line that is not UTF-8. Kind `InvalidInput` can also mean that
+    /// search for a reference, a line that is not UTF-8. Kind `Other` can also mean that such a
+    /// search read 2^64 - 1 lines without a reference. Kind `InvalidInput` can also mean that
     /// source contents are to be loaded, but neither `base_path` nor `current_dir` is absolute.
     Io(io::Error),
     /// The bytes are not UTF-8.
@@ -102,7 +103,7 @@ pub enum Error {
     BadNameReference(u32),
     /// The map has another kind than expected, or exceeds a limit.
     IncompatibleSourceMap,
-    /// The text is not a data URL of a source map.
+    /// The text is not a data URL of the form that `data_url_bytes` decodes.
     InvalidDataUrl,
     /// The index map cannot be flattened, for this reason.
     CannotFlatten(String),
@@ -113,7 +114,7 @@ pub enum Error {
     InvalidRamBundleIndex,
     /// The table entry of a module is invalid, or a module cannot be split from its bundle.
     InvalidRamBundleEntry,
-    /// The file is not the startup code of a file bundle, or the index map of a bundle has no
+    /// `is_unbundle_path` is false for the path, or the index map of a bundle has no
     /// `x_facebook_offsets`.
     NotARamBundle,
     /// Never returned; kept for callers that match on it.

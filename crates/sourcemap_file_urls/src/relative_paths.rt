@@ -8,12 +8,14 @@ ghost use Rattle.sourcemap_file_urls.specs.RelativePaths.{is_separator as separa
 use sourcemap_errors::errors::Result;
 use std::alloc::Global;
 
-/// Returns the path of `target` relative to the folder of the file `base`.
+/// Returns the path of `target` relative to the folder of the file `base`. Both paths should be
+/// absolute, or both relative, and no part of the folder should be `.` or `..`. Otherwise the
+/// result may lead to another file.
 ///
-/// Both paths are split at each `/` and `\`, and empty parts are ignored. The parts with which the
-/// folder and `target` both start are left out. The result is `../` for each other part of the
-/// folder, then the other parts of `target`. It is `.` if there are no other parts. The only error
-/// is `OutOfMemory`.
+/// Both paths are split at each `/` and `\`, and empty parts are ignored. `.` and `..` are parts
+/// like any other. The parts with which the folder and `target` both start are left out. The result
+/// is `../` for each other part of the folder, then the other parts of `target`. It is `.` if there
+/// are no other parts. The only error is `OutOfMemory`.
 pub fn make_relative_path(alloc: Global, base: &str, target: &str) -> Result<String>
     ensures { Gives string_bytes result (Ok (relative_path base.now target.now)) }
 {
@@ -27,8 +29,10 @@ pub fn make_relative_path(alloc: Global, base: &str, target: &str) -> Result<Str
     Ok(path)
 }
 
-/// A law: if no part of `target` is `.` or `..`, the relative path, followed from the folder of
-/// `base`, leads to `target`.
+/// A law: if no part of `target` is `.` or `..`, the parts of the relative path, followed from the
+/// parts of the folder of `base`, lead to the parts of `target`. Here `.` changes nothing, `..`
+/// drops the last part, even if that part is `.` or `..`, and any other part is appended. Whether a
+/// path starts with a separator does not count.
 pub fn relative_paths_lead_to_their_targets(base: &str, target: &str)
     ensures { list_all is_plain (parts target.now) ≡ true
         → followed (folder_parts base.now) (parts (relative_path base.now target.now))

@@ -8,17 +8,18 @@ use sourcemap_errors::errors::{Error, Result};
 use std::alloc::Global;
 use url::{ParseError, ParseResult, Url};
 
-/// Parses `text` as a URL by the URL Standard. Returns `None` if `text` is rejected. May also
-/// return `None` if `text` has 2^28 bytes or more. The only error is `OutOfMemory`.
+/// Parses `text` as a URL, as the crate `url` does: by the URL Standard, except that very long
+/// labels of a domain that is not ASCII are rejected. Returns `None` if `text` is rejected. May
+/// also return `None` if `text` has 2^28 bytes or more. The only error is `OutOfMemory`.
 pub fn parse(alloc: Global, text: &str) -> Result<Option<Url>>
     ensures { UrlOf text.now result }
 {
     read(text.len(), Url::parse(alloc, text))
 }
 
-/// Resolves `reference` against `base` by the URL Standard. Returns `None` if `reference` is
-/// rejected. May also return `None` if `base` and `reference` together have 2^28 bytes or more. The
-/// only error is `OutOfMemory`.
+/// Resolves `reference` against `base`, as the crate `url` does (see `parse`). Returns `None` if
+/// `reference` is rejected. May also return `None` if `base` and `reference` together have 2^28
+/// bytes or more. The only error is `OutOfMemory`.
 pub fn join(base: &Url, reference: &str) -> Result<Option<Url>>
     ensures { JoinedUrl base.now reference.now result }
 {

@@ -8,7 +8,9 @@ ghost use Rattle.sourcemap_hermes.specs.Equality.{same_hermes, same_hermes_equiv
 
 use crate::map::SourceMapHermes;
 
-/// Hermes maps are equal exactly if their regular maps and the scopes of their sources are equal.
+/// Hermes maps are equal exactly if their regular maps and their lists of scope entries are equal.
+/// An entry counts even if no source has its id. Equal lists of entries have the same length, and
+/// `None` differs from an empty list: `[]`, `[None]` and `[Some([])]` are not equal.
 impl PartialEq for SourceMapHermes {
     ghost eq = { on hermes_value same_hermes };
 

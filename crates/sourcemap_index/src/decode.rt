@@ -109,7 +109,7 @@ fn decode_url(alloc: Global, url: &str) -> Result<DecodedMap>
 
 /// Decodes the map in a data URL. A text that is not a valid data URL (see `data_url_bytes`) is
 /// `InvalidDataUrl`. For a valid data URL, the result is that of `decode_slice` for the decoded
-/// bytes, and this result is never `InvalidDataUrl`.
+/// bytes, and this result is never `InvalidDataUrl`. `OutOfMemory` can come at any time.
 pub fn decode_data_url(alloc: Global, url: &str) -> Result<DecodedMap>
     ensures answer { IsAnswer map_tree (UrlDecodes url.now) result }
     // Unless memory runs out, the URL determines the result. If the result is an `Io` error, the
@@ -143,7 +143,8 @@ fn index_in_owned(alloc: Global, bytes: Vec<u8>) -> Result<SourceMapIndex>
 impl SourceMapIndex {
     /// Decodes the JSON in these bytes to an index map. A record without sections is
     /// `IncompatibleSourceMap`, and then its other keys are not decoded. In all other cases, the
-    /// index map or the error is the same as from `decode_slice`.
+    /// index map or the error is the same as from `decode_slice`. `OutOfMemory` can come at any
+    /// time.
     pub fn from_slice(alloc: Global, bytes: &[u8]) -> Result<Self>
         ensures answer { IsAnswer index_value (BytesHaveResult IndexDecodes bytes.now) result }
         // Unless memory runs out, the bytes determine the result. If the result is an `Io` error,
@@ -182,8 +183,8 @@ pub fn answers_are_determined()
         → UrlDecodes url a → UrlDecodes url b → AreSame a b }
 {}
 
-/// A law: decoding a text as a data URL gives `InvalidDataUrl` exactly if the text is not a valid
-/// data URL. Decoding a JSON value or bytes never gives `InvalidDataUrl`.
+/// A law: unless memory runs out, decoding a text as a data URL gives `InvalidDataUrl` exactly if
+/// the text is not a valid data URL. Decoding a JSON value or bytes never gives `InvalidDataUrl`.
 pub fn only_urls_give_invalid_data_url()
     ensures values { (d : Data) → ¬ ValueDecodes d (Err InvalidDataUrl) }
     ensures bytes { (bytes : List ℕ) → ¬ BytesDecode bytes (Err InvalidDataUrl) }

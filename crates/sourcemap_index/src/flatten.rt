@@ -48,7 +48,8 @@ impl SourceMapIndex {
 
     /// Flattens the index map as `flatten` does, and rewrites the flat map as `SourceMap::rewrite`
     /// does. With `load_local_source_contents`, contents that the rewritten map lacks are read from
-    /// files. Files that cannot be read or are not UTF-8 are skipped.
+    /// files. A source is skipped if it resolves to no file path, or if its file cannot be read or
+    /// is not UTF-8. A very long source may also be skipped (see `RewriteOptions`).
     ///
     /// If `flatten` fails, its error is returned. Otherwise the error is `Io` of kind
     /// `InvalidInput` if `load_local_source_contents` is true but neither `base_path` nor

@@ -65,8 +65,9 @@ impl SourceMapIndex {
     /// The token closest to a generated position. Only one section is searched: the first section
     /// whose offset is the position, or else the last section whose offset is before it. The
     /// position is looked up in the map of this section, relative to the offset. The offset's
-    /// column is subtracted only on the section's first line. The index and the generated position
-    /// of the token are those in the section's map.
+    /// column is subtracted only on the section's first line. If this map is an index map, one of
+    /// its sections is searched in the same way. The index and the generated position of the token
+    /// are those in the regular map or Hermes map that has the token.
     ///
     /// `None` if no section starts at or before the position, if the closest section has no map, or
     /// if the lookup in this map finds no token. Requires sections sorted by offset at every depth;

@@ -1,6 +1,6 @@
 //! A cursor over the tokens of a JSON text. It returns each string decoded, as a `String`. It
-//! supports the forms that source maps are written in, and stops with `Unsupported` at any other
-//! form.
+//! supports the tokens that source maps are written with, and stops with `Unsupported` at any other
+//! token. It does not check that the tokens make a value: for `[}` it returns both brackets.
 ghost use Rattle.std.specs.Prelude.{◌≡◌, ◌<◌, ◌+◌, ◌^◌, IfOk, drop, length};
 ghost use Rattle.std.specs.Str.{IsUtf8};
 ghost use Rattle.json.specs.Ascii.{quote};

@@ -31,10 +31,11 @@ use std::io::Write;
 
 /// Writes a map as compact JSON, the same bytes as `encode_to`, to a borrowed writer.
 ///
-/// The text is written in pieces of some 16 KB. A longer string of the map is a piece of its own.
-/// So the text is never in memory as a whole, unless it is short. The errors are `OutOfMemory`, and
-/// `Io` if a write fails for another reason. After an error the writer may hold any part of the
-/// text.
+/// The text is written in pieces of less than 32 KB, with two exceptions. A string of the map whose
+/// JSON text has 16 KB or more is a piece of its own. The range bits of a line are never split, so
+/// a piece may have all of them in addition. So the text is never in memory as a whole, unless it
+/// is short. The errors are `OutOfMemory`, and `Io` if a write fails for another reason. After an
+/// error the writer may hold any part of the text.
 pub fn encode_in_parts<W: Write>(alloc: Global, map: &SourceMap, writer: &mut W) -> Result<()>
     ensures written { OnOk result ((text : List ℕ) × IsEncoded (RecordAnswer map.now) text
         × Appends (W.contents writer.old) (W.contents writer.new) text) }

@@ -21,12 +21,14 @@ impl SourceMap {
     ///
     /// Each token of `adjustment` moves a stretch of the text that this map describes. The stretch
     /// begins at the original position of the token. It ends before the original position of the
-    /// next token, in the order of original positions, or at the end of the line, whichever comes
-    /// first. The start of the stretch moves to the generated position of the token.
+    /// next token, in the order of original positions, or before column 4294967295 of its line,
+    /// whichever comes first. The start of the stretch moves to the generated position of the
+    /// token.
     ///
-    /// Each old token covers the text from its generated position to the next token on the line, or
-    /// to the end of the line. For each overlap of a stretch with the text of an old token, one new
-    /// token comes from the stretch. The new token begins at the moved start of the overlap.
+    /// Each old token covers the text from its generated position up to the next token on the line,
+    /// or up to column 4294967295 of the line. No stretch and no old token covers column 4294967295
+    /// itself. For each overlap of a stretch with the text of an old token, one new token comes
+    /// from the stretch. The new token begins at the moved start of the overlap.
     ///
     /// Suppose that a stretch moves the position `p` to the position `q`. A lookup of `q` in the
     /// new map gives the same source, original position, name and range flag as a lookup of `p` in

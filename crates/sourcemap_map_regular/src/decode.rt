@@ -97,9 +97,10 @@ impl SourceMap {
         decode_slice(alloc, bytes)
     }
 
-    /// Decodes a regular map from a reader, which is first read to its end. The errors are `Io` if
-    /// a read fails, and those of `from_slice`. The bytes are dropped as soon as their JSON value
-    /// is parsed.
+    /// Decodes a regular map from a reader, which is first read to its end. Interrupted reads are
+    /// retried. Any other failed read is `Io`, or `OutOfMemory` if the read ran out of memory. The
+    /// other errors are those of `from_slice`. The bytes are dropped as soon as their JSON value is
+    /// parsed.
     pub fn from_reader<R: Read + Drop>(alloc: Global, reader: R) -> Result<Self>
         ensures answer { Reading (R.remaining reader)
             (λ bytes. IsAnswerRead (λ m. m) (BytesHaveResult RegularDecodes bytes) result) }

@@ -6,8 +6,9 @@ use sourcemap_source_views::sourceview::SourceView;
 use sourcemap_tokens::tokens::RawToken;
 use std::collections::BTreeSet;
 
-/// The lists of a map. A source id is an index of `sources` and `contents`. A name id is an index
-/// of `names`.
+/// The lists of a map. The id of a source is its index in `sources`. The contents of the source are
+/// at the same index of `contents`, if that list has this index. The id of a name is its index in
+/// `names`.
 #[derive(Clone, Copy)]
 pub struct MapLists<'a> {
     /// The tokens, in order of generated position.

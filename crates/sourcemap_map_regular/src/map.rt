@@ -278,7 +278,8 @@ impl SourceMap {
         self.sources.get(id)
     }
 
-    /// The contents of the source with this id, if the map has them.
+    /// The contents that the map has for this source id, if it has any. The map may have contents
+    /// for an id even if no source has this id.
     pub fn get_source_contents(&self, id: u32) -> Option<&str>
         ensures { option_copied result ≡ contents_of self.now id }
     {
@@ -288,8 +289,9 @@ impl SourceMap {
         }
     }
 
-    /// A view of the contents of the source with this id, if the map has them. The map keeps the
-    /// view, so the call allocates no memory.
+    /// A view of the contents that the map has for this source id, if it has any. The map may have
+    /// contents for an id even if no source has this id. The map keeps the view, so the call
+    /// allocates no memory.
     pub fn get_source_view(&self, id: u32) -> Option<&SourceView>
         ensures { option_copied result ≡ contents_of self.now id }
     {

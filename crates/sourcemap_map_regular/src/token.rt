@@ -54,7 +54,8 @@ impl<'a> Token<'a> {
         self.raw.dst_line
     }
 
-    /// The generated column, counted from 0 in UTF-16 units.
+    /// The generated column, counted from 0 in UTF-16 units. In a map of Hermes bytecode, it is an
+    /// offset in the bytecode.
     pub fn get_dst_col(&self) -> u32
         ensures { result ≡ (token_value self.now).raw.dst_col }
     {
@@ -109,8 +110,8 @@ impl<'a> Token<'a> {
         self.map.get_source(self.raw.src_id)
     }
 
-    /// A view of the contents of the source with the token's source id, if the map has them. The
-    /// call allocates no memory.
+    /// A view of the contents that the map has for the token's source id, if it has any. The map
+    /// may have contents for an id even if no source has this id. The call allocates no memory.
     pub fn get_source_view(&self) -> Option<&'a SourceView>
         ensures { option_copied result
             ≡ contents_of (token_value self.now).map_of (token_value self.now).raw.src_id }

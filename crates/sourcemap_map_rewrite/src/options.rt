@@ -16,8 +16,9 @@ pub struct RewriteOptions<'a> {
     /// more. If this option is true and neither `base_path` nor `current_dir` starts with `/`, the
     /// error is `Io` of kind `InvalidInput`. The only other error is `OutOfMemory`.
     pub load_local_source_contents: bool,
-    /// The folder of the sources. A `base_path` that starts with `/` is the folder. Otherwise the
-    /// folder is `current_dir`, then `/`, then `base_path`. `None` is the same as the empty string.
+    /// The folder of the sources. A `base_path` that starts with `/` is the folder. Otherwise, if
+    /// `current_dir` starts with `/`, the folder is `current_dir`, then `/`, then `base_path`. If
+    /// neither starts with `/`, there is no folder. `None` is the same as the empty string.
     pub base_path: Option<&'a str>,
     /// Prefixes to strip from sources. Sources are resolved against `sourceRoot` first. A slash is
     /// appended to a prefix that does not end with `/`. Only the first prefix that a source starts

@@ -14,8 +14,9 @@ use sourcemap_json_read::values::value_from_slice;
 use std::alloc::Global;
 use std::io::Read;
 
-/// Reads a reader to its end and returns the bytes. The error is `OutOfMemory` if memory runs out,
-/// in a read or elsewhere. It is `Io` if a read fails for another reason.
+/// Reads a reader to its end and returns the bytes. Interrupted reads are retried. The error is
+/// `OutOfMemory` if memory runs out, in a read or elsewhere. It is `Io` if a read fails for another
+/// reason.
 pub fn read_all<R: Read + Drop>(alloc: Global, mut reader: R) -> Result<Vec<u8>>
     ensures { MatchResult result
         (λ bytes. IfSome (R.remaining reader) (λ known. bytes.items ≡ known))

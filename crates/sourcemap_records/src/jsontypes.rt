@@ -50,7 +50,7 @@ pub struct RawSection {
 #[derive(Debug, PartialEq, Drop)]
 #[cycle(records)]
 pub struct RawSourceMap {
-    /// The version of the format. Any number is accepted here.
+    /// The version of the format. Any `u32` is accepted here.
     pub version: Option<u32>,
     /// A JSON string here is the name of the generated file. Any other value is kept and written
     /// unchanged. A JSON null that a caller puts here is read back as `None`.
@@ -112,9 +112,9 @@ impl MinimalRawSourceMap {
     ghost use Rattle.sourcemap_records.specs.Field.{due};
     ghost use Rattle.sourcemap_records.specs.Jsontypes.{minimal_of};
 
-    /// Returns the version of `value`, and which of the other keys it has. Returns `BadJson(Shape)`
-    /// if `value` is not an object, or has a version that is neither null nor a `u32`. Does not
-    /// allocate.
+    /// Returns the version of `value`, and which of the other keys have a value other than null.
+    /// Returns `BadJson(Shape)` if `value` is not an object, or has a version that is neither null
+    /// nor a `u32`. Does not allocate.
     pub fn from_value(value: &Value) -> Result<MinimalRawSourceMap>
         ensures { result ≡ due (minimal_of (view value.now)) }
     {
@@ -157,10 +157,10 @@ impl RawSourceMap {
 
     /// Returns the record of a JSON value. A null key counts as missing, unknown keys are ignored,
     /// and `debugId` wins over `debug_id`. Returns `BadJson(Shape)` if the value is not an object.
-    /// Returns the same error if a key has a value of the wrong type, a number that is not a `u32`,
-    /// or an invalid debug id. A section without `offset`, an offset without `line` or `column`,
-    /// and scopes without `names` or `mappings` give this error too. Any other error is
-    /// `OutOfMemory`.
+    /// Returns the same error if a key has a value of the wrong type or an invalid debug id. A
+    /// number must be a `u32`, except as `file` or as an item of the record's `names`: these may be
+    /// any JSON value. A section without `offset`, an offset without `line` or `column`, and scopes
+    /// without `names` or `mappings` give this error too. Any other error is `OutOfMemory`.
     pub fn from_value(alloc: Global, value: &Value) -> Result<RawSourceMap>
         ensures { Gives tree result (due (record_of (view value.now))) }
     {

@@ -14,9 +14,10 @@ use sourcemap_errors::errors::Result;
 /// can have any original line and column, even if its source id is `NO_ID`.
 pub const NO_ID: u32 = 4294967295;
 
-/// One mapping: a generated position (`dst`), and the original position (`src`) and name
-/// that it maps to. Lines and columns count from 0, columns in UTF-16 code units. The id [`NO_ID`]
-/// means no source or no name.
+/// One mapping: a generated position (`dst`), and the original position (`src`) and name that it
+/// maps to. Lines and columns count from 0, columns in UTF-16 code units. But in a map of Hermes
+/// bytecode, a generated column is an offset in the bytecode. The id [`NO_ID`] means no source or
+/// no name.
 #[derive(Clone, Copy, Debug, PartialEq, Eq)]
 pub struct RawToken {
     /// Generated line.

@@ -33,8 +33,9 @@ pub struct OriginalPosition {
 /// Take the tokens of `adjustment` in the order of their original positions. Each token moves a
 /// stretch of the generated text of `map`. The stretch begins at the original position of the
 /// token. If the next token has an original position on the same line, the stretch ends before this
-/// position. Otherwise the stretch ends at the end of the line. The start of the stretch moves to
-/// the generated position of the token. Each token of the adjusted map comes from one stretch.
+/// position. Otherwise the stretch ends before column 4294967295 of the line. The start of the
+/// stretch moves to the generated position of the token. Each token of the adjusted map comes from
+/// one stretch.
 ///
 /// Suppose that a stretch moves the position `p` to the position `line`, `col`. The call returns
 /// the original position that a lookup of `p` in `map` gives before the adjustment, if all of this

@@ -53,8 +53,8 @@ fn lookup_source_position(map: &DecodedMap, line: u32, col: u32) -> Option<(u32,
 
 /// Returns the encoded map of these tokens. Each token must refer to `source`, which has id 0, or
 /// to no source. A token without a source must have 4294967295 as source id, original line and
-/// original column. The bytes decode to the map without repeated tokens and without name ids. The
-/// only error is `OutOfMemory`.
+/// original column. The bytes decode to the map, but without name ids, and without each token that
+/// equals the token before it in all fields. The only error is `OutOfMemory`.
 pub fn write_tokens(alloc: Global, source: &str, tokens: Vec<RawToken>) -> Result<Vec<u8>>
     requires { AllWithin 1 0 tokens.items }
     ensures reads_back { IfOk result (λ text. ReadsBack (BytesDecode text.items)

@@ -9,6 +9,7 @@ use std::alloc::Global;
 
 /// Decodes a reference that is a valid data URL (see `data_url_bytes`). Returns `None` for any
 /// other text, such as the path of a file. Returns the errors of `decode_slice` for the payload.
+/// `OutOfMemory` can come at any time.
 pub fn inline_map(alloc: Global, reference: &str) -> Result<Option<DecodedMap>>
     ensures { IsAnswer (option_map map_tree) (InlineAnswer reference.now) result }
 {

@@ -8,21 +8,23 @@ use sourcemap::errors::JsonFault;
 /// What can be done about an error.
 #[derive(Clone, Copy, Debug, PartialEq, Eq)]
 pub enum Advice {
-    /// Read or write again: a reader or a writer failed, or the junk header is invalid. Also for
-    /// the other `Io` errors: a search for a reference meets a line that is not UTF-8, or contents
-    /// are to be loaded but neither `base_path` nor `current_dir` is absolute.
+    /// Read or write again: reading or writing failed, or the junk header is invalid. Also if a
+    /// search for a reference meets a line that is not UTF-8, or if contents are to be loaded but
+    /// neither `base_path` nor `current_dir` is absolute.
     ReadAgain,
     /// Look at what was fetched: it is not UTF-8, or does not parse as JSON (`JsonFault::Parse`).
     /// It may be an error page.
     LookAtInput,
-    /// Fix the tool that wrote the map: a field has the wrong type, or the mappings are invalid or
-    /// refer to a source or name that does not exist.
+    /// Fix the tool that wrote the map: the JSON does not have the shape of a map
+    /// (`JsonFault::Shape`), or the mappings are invalid or refer to a source or name that does not
+    /// exist.
     MendWriter,
     /// Use another call: the map is of another kind, exceeds a limit or cannot be flattened, or the
     /// text is not a data URL of a map.
     UseOtherCall,
     /// Look at the bundle and its index map: the bundle is not a RAM bundle or is incomplete, a
-    /// module is missing or invalid, or the index map has no `x_facebook_offsets`.
+    /// module is missing, is invalid or cannot be split from the bundle, or the index map has no
+    /// `x_facebook_offsets`.
     LookAtBundle,
     /// Try again with more memory.
     FreeMemory,
