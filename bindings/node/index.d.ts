@@ -66,7 +66,8 @@ export interface Needle {
 
 /**
  * An original position: the line counts from 1, the column from 0. The source is
- * one of `sources` or of `resolvedSources`.
+ * one of `sources` or of `resolvedSources`. If several are equal, only the first one
+ * counts; `sources` come before `resolvedSources`.
  */
 export interface SourceNeedle extends Needle {
   source: string;
@@ -128,7 +129,11 @@ export type SourceMapErrorCode =
   | 'OUT_OF_MEMORY'
   | 'PAST_LIMIT';
 
-/** Why a map or a position is refused. An argument of a wrong type throws a TypeError instead, which names it. */
+/**
+ * Why a map or a position is refused. An argument of a wrong type throws a TypeError
+ * instead, which names it. A value of a wrong type within a map, as in
+ * `mappings: [null]`, may throw a TypeError that does not name it.
+ */
 export declare class SourceMapError extends Error {
   readonly code: SourceMapErrorCode;
   /** The number that the error is about, such as the id of a source that does not exist; else 0. */
@@ -137,8 +142,9 @@ export declare class SourceMapError extends Error {
 }
 
 /**
- * A map that is not an index map. The constructor reads all mappings, and throws a
- * SourceMapError if it refuses the map.
+ * A map that is not an index map. The constructor reads all mappings. If it refuses the
+ * map, it throws a SourceMapError, or a TypeError because of a wrong type. It does not
+ * check the ids in mappings that are passed decoded.
  */
 export declare class TraceMap {
   version: SourceMapV3['version'];
@@ -173,7 +179,7 @@ export declare function originalPositionFor(map: TraceMap, needle: Needle): Orig
  * Answers many generated positions, each two numbers: a line from 1 and a column
  * from 0. The answer to each is four numbers: the id of the source or NONE, the
  * original line from 1, the original column, and the id of the name or NONE.
- * Without a source, line and column are 0.
+ * Without a source, line and column are 0. Line 4294967296 does not fit, and is 0 too.
  */
 export declare function originalPositionsFor(map: TraceMap, positions: Uint32Array): Uint32Array;
 
@@ -211,8 +217,9 @@ export declare function isIgnored(map: TraceMap, source: string): boolean;
  */
 export declare function decodedMappings(map: TraceMap): readonly SourceMapSegment[][];
 /**
- * The mappings as text: the text that was given, or else a text that the library writes. Throws
- * PAST_LIMIT if no text was given and the mappings have more than 16,777,216 lines.
+ * The mappings as text: the text that was given, or else a text that the library writes, with
+ * a `;` for each further line if lines were given. Throws PAST_LIMIT if no text was given and
+ * the mappings have more than 16,777,216 lines.
  */
 export declare function encodedMappings(map: TraceMap): string;
 /** The fields of the map with decoded mappings. */

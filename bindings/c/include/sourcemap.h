@@ -4,8 +4,9 @@
 **
 ** CONVENTIONS
 **
-** Lines and columns count from 0. Columns count UTF-16 units. Texts are UTF-8
-** bytes with a length; none ends with a zero byte unless this page says so.
+** Lines and columns count from 0. Columns count UTF-16 units. But in a map of Hermes
+** bytecode a generated column is an offset of the bytecode. Texts are UTF-8 bytes with
+** a length. The library adds no zero byte after a text unless this page says so.
 **
 ** A handle is a small struct in the caller's memory. The caller sets a new handle
 ** to zeros (SM_EMPTY). A handle of zeros holds nothing. A call that fills a handle
@@ -48,6 +49,8 @@
 **   - malloc, realloc and free of the process are those of one allocator. The
 **     memory that they return is aligned as C asks.
 **   - No call is made in a signal handler.
+**   - The stack is large enough. Some calls recurse once for each level of nested index
+**     maps. docs/LIMITS.md says how much stack a level takes.
 */
 #ifndef SOURCEMAP_H
 #define SOURCEMAP_H
@@ -60,16 +63,18 @@
 extern "C" {
 #endif
 
-/* SM_VERSION is a release of the Rust crate `sourcemap`. Names and answers of this
-** library follow that release, except for the differences in docs/DIFFERENCES.md.
-** SM_INTERFACE is the version of this interface: sm_interface() returns that of the
-** linked library. */
+/* SM_VERSION is a release of the Rust crate `sourcemap`. Most names of this library
+** follow that release. Its answers follow it too, except for the differences in
+** docs/DIFFERENCES.md and in bindings/c/README.md. SM_INTERFACE is the version of this
+** interface: sm_interface() returns that of the linked library. */
 #define SM_VERSION "9.3.2"
 #define SM_INTERFACE 1u
 
 /* SM_NONE is the id of no source and of no name. In a map that was opened, SM_NONE is
 ** also the original line and column of a token without a source. In a list of the
-** lines of modules, SM_NONE stands for a number without a module. */
+** lines of modules, SM_NONE stands for a number without a module. One exception: a map
+** that was opened may have a module that begins at line 4294967295. For such a module
+** sm_module_offsets() writes SM_NONE too. */
 #define SM_NONE UINT32_MAX
 
 /*
@@ -86,22 +91,22 @@ typedef uint32_t sm_code;
 #define SM_BAD_JSON 4u              /* number 0: the text does not parse; 1: the JSON is no source map */
 #define SM_VLQ_LEFTOVER 5u          /* a segment ends within a number */
 #define SM_VLQ_NO_VALUES 6u         /* a segment has no number */
-#define SM_VLQ_OVERFLOW 7u          /* a number of a segment is too large */
-#define SM_BAD_SEGMENT_SIZE 8u      /* a segment has `number` numbers, not 1, 4 or 5 */
-#define SM_BAD_SOURCE_REFERENCE 9u  /* a segment names source `number`, which does not exist */
-#define SM_BAD_NAME_REFERENCE 10u   /* a segment names name `number`, which does not exist */
+#define SM_VLQ_OVERFLOW 7u          /* a number of a segment is too large, or has too many digits */
+#define SM_BAD_SEGMENT_SIZE 8u      /* a segment has `number` numbers, not 1, 4 or 5; 4294967295 also means more */
+#define SM_BAD_SOURCE_REFERENCE 9u  /* a segment names a source that does not exist; `number` is its id modulo 2^32 */
+#define SM_BAD_NAME_REFERENCE 10u   /* a segment names a name that does not exist; `number` is its id modulo 2^32 */
 #define SM_INCOMPATIBLE 11u         /* a count, a line or a column is past its limit */
-#define SM_INVALID_DATA_URL 12u     /* the text is no data URL of a source map */
+#define SM_INVALID_DATA_URL 12u     /* the text is no data URL of the form that sm_open_url() reads */
 #define SM_CANNOT_FLATTEN 13u       /* an index map can't become one regular map; the text says why */
 #define SM_INVALID_BUNDLE_MAGIC 14u /* a bundle does not begin with its magic number */
 #define SM_INVALID_BUNDLE_INDEX 15u /* the number of a module is past the last one of its bundle */
-#define SM_INVALID_BUNDLE_ENTRY 16u /* a bundle's entry of a module is invalid */
+#define SM_INVALID_BUNDLE_ENTRY 16u /* a bundle's entry of a module, or the module itself, is invalid */
 #define SM_NOT_A_BUNDLE 17u         /* an index map has no list of the lines at which modules begin */
 #define SM_INVALID_RANGE_INDEX 18u  /* reserved; no call returns it */
 #define SM_INVALID_BASE64 19u       /* a byte is no digit; `number` is the value of the byte */
 #define SM_OUT_OF_MEMORY 20u        /* memory ran out */
 
-#define SM_ABSENT 32u               /* there is none: no token, text, id or module */
+#define SM_ABSENT 32u               /* there is none, for example no token, text, id or module */
 #define SM_WRONG_KIND 33u           /* the handle is empty, or holds something that the call does not take */
 #define SM_PAST_LIMIT 34u           /* a line would pass 4294967295 */
 
@@ -244,13 +249,16 @@ void sm_close(sm_handle *handle);
 ** SM_IO, SM_BAD_JSON, SM_VLQ_..., SM_BAD_..., SM_INVALID_BASE64, SM_INCOMPATIBLE.
 ** SM_BAD_JSON has number 0 if the text is not UTF-8 or not JSON, has more than 127
 ** levels, has a number too large for a double, or escapes one half of a surrogate pair
-** without the other. The number is 1 if the JSON is no object, if a field has the wrong
-** type, or if a required field is missing. sm_kind() says which kind of map it is. */
+** without the other. The number is 1 if the JSON is no object, if a field other than
+** `file` has the wrong type, or if a required field is missing. The items of `names`
+** may have any type. sm_kind() says which kind of map it is. */
 sm_code sm_open(sm_map *map, const uint8_t *bytes, size_t length, sm_error *error);
 
-/* Fills `map` with the map in a `data:` URL. The bytes are not kept. Returns SM_OK;
-** SM_UTF8 if the URL is not UTF-8; SM_INVALID_DATA_URL if it is no data URL of a
-** source map; or an error of the bytes in it, as sm_open() does. */
+/* Fills `map` with the map in a `data:` URL. The URL is `data:application/json`, then
+** `;charset=utf-8`, `;charset=utf8` or nothing, then `;base64,` and standard base64
+** with its padding. Letter case matters. The bytes are not kept. Returns SM_OK; SM_UTF8
+** if the URL is not UTF-8; SM_INVALID_DATA_URL if it has another form; or an error of
+** the bytes in it, as sm_open() does. */
 sm_code sm_open_url(sm_map *map, const uint8_t *url, size_t length, sm_error *error);
 
 /* Fills `other` with the map that `map` holds, without a copy. Each of the two
@@ -260,16 +268,17 @@ sm_code sm_share(sm_map *map, sm_map *other, sm_error *error);
 
 /* Writes to `answer` whether the bytes hold a source map. The call checks that the
 ** bytes hold a JSON object, and which of its keys are present and not null. The only
-** value that the call checks is `version`: null, or a whole number below 2^32. So
-** sm_open() may still refuse the bytes. Returns SM_OK, also if the bytes hold no source
-** map: then `answer` is false. No error but SM_OUT_OF_MEMORY. */
+** value that the call checks is `version`: null, or a number from 0 to 4294967295 that
+** is written with digits alone. So sm_open() may still refuse the bytes. Returns SM_OK,
+** also if the bytes hold no source map: then `answer` is false. No error but
+** SM_OUT_OF_MEMORY. */
 sm_code sm_is_source_map(const uint8_t *bytes, size_t length, bool *answer, sm_error *error);
 
 /* Writes to `answer` whether both maps are of one kind and equal in all that they
 ** hold. Sources are compared as the maps have them, before they are resolved. The
-** order of each list counts. The length of the list of contents counts too. Maps that
-** differ only in nulls at the end of this list are not equal, but sm_write() writes
-** the same text for both.
+** order of each list but the ignore list counts. The length of the list of contents
+** counts too. Maps that differ only in nulls at the end of this list are not equal, but
+** sm_write() writes the same text for both.
 ** SM_WRONG_KIND if one of the handles holds no map; then `answer` is as it was.
 ** Allocates nothing. `map` and `other` must be different handles. A map always equals
 ** itself. */
@@ -287,11 +296,12 @@ sm_code sm_hermes_map(sm_map *map, sm_map *regular, sm_error *error);
 ** returns another code and writes nothing: SM_ABSENT if the map has no such item,
 ** SM_WRONG_KIND if the handle holds no map. Some calls also return SM_WRONG_KIND for
 ** a map of another kind than theirs; their comments say so. No call of this section
-** allocates but sm_token_text().
+** allocates but sm_token_text(). sm_token_text() may also return SM_OUT_OF_MEMORY. If
+** it fails, it writes its sm_error.
 **
-** An index map has a file, a debug id of its own, and sections. It
-** has no root, sources, names, contents or tokens: those are in the maps of its
-** sections (sm_section()), and in the map that sm_flatten() makes.
+** An index map has a file, a debug id of its own, and sections. It has no root,
+** sources, names, contents or tokens: those are in the maps of its sections
+** (sm_section()). All but the root are also in the map that sm_flatten() makes.
 */
 
 /* Writes how many items the map has. SM_WRONG_KIND if the handle holds no map;
@@ -299,7 +309,8 @@ sm_code sm_hermes_map(sm_map *map, sm_map *regular, sm_error *error);
 sm_code sm_count(sm_map *map, sm_counts *counts);
 
 /* The name of the generated file, of a map of any kind. The text is borrowed from
-** `map`. SM_ABSENT if the map names no file, SM_WRONG_KIND if the handle holds no
+** `map`. If the `file` of an opened map was neither a text nor null, the text is
+** `<invalid>`. SM_ABSENT if the map has no file, SM_WRONG_KIND if the handle holds no
 ** map. */
 sm_code sm_file(sm_map *map, sm_text *text);
 
@@ -348,10 +359,11 @@ sm_code sm_token_text(sm_map *map, uint32_t index, sm_bytes *text, sm_error *err
 
 /* For the index map of a RAM bundle: writes to `offsets` a line for each module number
 ** from `first` on. The line is the generated line at which the module begins, or
-** SM_NONE if no module has the number. The call stops at the end of the map's list of
-** these lines, or at the end of `offsets`. Writes to `written` how many lines it wrote.
-** SM_ABSENT if the map has no list of these lines, SM_WRONG_KIND if the handle holds no
-** index map; then nothing is written. */
+** SM_NONE if no module has the number. SM_NONE is also written for a module that begins
+** at line 4294967295. The call stops at the end of the map's list of these lines, or at
+** the end of `offsets`. Writes to `written` how many lines it wrote. SM_ABSENT if the
+** map has no list of these lines, SM_WRONG_KIND if the handle holds no index map; then
+** nothing is written. */
 sm_code sm_module_offsets(sm_map *map, uint32_t first, uint32_t *offsets, size_t length, size_t *written);
 
 /* Of the index map of a RAM bundle: the path of a module. The text is borrowed from
@@ -457,8 +469,8 @@ sm_code sm_hermes_function_name(sm_map *map, uint32_t offset, sm_text *text);
 **
 ** Each of these changes `map`, and returns SM_OK. If the map is shared it is copied
 ** first, so that no other handle sees the change. Each returns SM_WRONG_KIND if the
-** handle holds no map. A text that is not UTF-8 is SM_UTF8. The library copies the
-** texts that it keeps.
+** handle holds no map. If a call reads a text that is not UTF-8, it returns SM_UTF8.
+** The library copies the texts that it keeps.
 */
 
 /* Keeps only the sources and names that tokens use, in the order of their first use,
@@ -471,11 +483,13 @@ sm_code sm_hermes_function_name(sm_map *map, uint32_t offset, sm_text *text);
 ** the longest path of whole parts with which each of these sources begins. These are
 ** the sources before they are resolved, also the unused ones. If only one source is an
 ** absolute path, the common path is this whole source. If the common path is empty or
-** `/`, `~` removes nothing. Sources that resolve to one text become one source. Sources
-** that become equal only when prefixes are removed stay separate. A Hermes map keeps its
-** scopes. If several sources resolve to one text, only one of them keeps its scopes:
-** the source of the first token that uses one of these sources. SM_UTF8 if a prefix is
-** not UTF-8; SM_WRONG_KIND of an index map, and if the handle holds no map. */
+** `/`, `~` removes nothing. Sources that resolve to one text become one source. Only
+** one of them keeps its contents: in the order of the tokens, the first that has any.
+** Sources that become equal only when prefixes are removed stay separate. A Hermes map
+** keeps the scopes of the sources that tokens use. If several sources resolve to one
+** text, only one of them keeps its scopes: the source of the first token that uses one
+** of these sources. SM_UTF8 if a prefix is not UTF-8; SM_WRONG_KIND of an index map,
+** and if the handle holds no map. */
 sm_code sm_rewrite(sm_map *map, bool with_names, bool with_contents, const sm_text *prefixes, size_t count,
                    sm_error *error);
 
@@ -505,12 +519,14 @@ sm_code sm_shift(sm_map *map, uint32_t lines, sm_error *error);
 ** bytes of the text are not read, but the pointer is still not null: pass "" and 0. */
 
 /* Sets or removes the name of the generated file, of a map of any kind. SM_UTF8 if
-** the text is not UTF-8, SM_WRONG_KIND if the handle holds no map. */
+** `present` is true and the text is not UTF-8; SM_WRONG_KIND if the handle holds no
+** map. */
 sm_code sm_set_file(sm_map *map, bool present, const uint8_t *text, size_t length, sm_error *error);
 
 /* Sets or removes the `sourceRoot`. Afterwards sources are resolved against the new
-** root. Without a root each source stays as the map has it. SM_UTF8 if the text is not
-** UTF-8; SM_WRONG_KIND of an index map, and if the handle holds no map. */
+** root. Without a root each source stays as the map has it. SM_UTF8 if `present` is
+** true and the text is not UTF-8; SM_WRONG_KIND of an index map, and if the handle
+** holds no map. */
 sm_code sm_set_source_root(sm_map *map, bool present, const uint8_t *text, size_t length, sm_error *error);
 
 /* Sets or removes the debug id, of a map of any kind. `id` is not null, also if
@@ -523,8 +539,8 @@ sm_code sm_set_debug_id(sm_map *map, bool present, const sm_debug_id *id, sm_err
 sm_code sm_set_source(sm_map *map, uint32_t id, const uint8_t *text, size_t length, sm_error *error);
 
 /* Sets or removes the contents of a source. Contents past the last source are dropped.
-** SM_UTF8 if the text is not UTF-8; SM_ABSENT if there is no source of that id;
-** SM_WRONG_KIND of an index map, and if the handle holds no map. */
+** SM_UTF8 if `present` is true and the text is not UTF-8; SM_ABSENT if there is no
+** source of that id; SM_WRONG_KIND of an index map, and if the handle holds no map. */
 sm_code sm_set_contents(sm_map *map, uint32_t id, bool present, const uint8_t *text, size_t length, sm_error *error);
 
 /* Adds a source to the ignore list; SM_OK also if it is in the list. SM_ABSENT if
@@ -539,8 +555,9 @@ sm_code sm_remove_names(sm_map *map, sm_error *error);
 /*
 ** WRITE
 **
-** A token on line L is written after L bytes of `;`, which is up to 4 GB. Look at the
-** line of the last token before you write a map from an untrusted origin.
+** A token on line L is written after L bytes of `;` in `mappings`. L may be 4294967295.
+** If the map has a range token, `rangeMappings` has as many bytes of `;` as `mappings`.
+** Look at the line of the last token before you write a map from an untrusted origin.
 */
 
 /* Fills `text` with the map as JSON, of a map of any kind. Returns SM_OK, or
@@ -597,10 +614,11 @@ sm_code sm_sections_add(sm_sections *sections, uint32_t line, uint32_t column, b
 ** are for a RAM bundle. Item N of `offsets` is the generated line at which module N
 ** begins, or SM_NONE if there is no such module. Item N of `paths` is the path of
 ** module N. All three are optional: if `has_file`, `has_offsets` or `has_paths` is
-** false, the index map has no such part. SM_UTF8 if the file or a path is not UTF-8;
-** SM_WRONG_KIND if `sections` holds no list of sections. On SM_OUT_OF_MEMORY `sections`
-** is as it was, or empty. If `sections` held no list of sections, `sections` is as it
-** was, whatever the call returns. */
+** false, the index map has no such part. SM_UTF8 if `has_file` is true and the file is
+** not UTF-8, or if `has_paths` is true and a path is not UTF-8; SM_WRONG_KIND if
+** `sections` holds no list of sections. On SM_OUT_OF_MEMORY `sections` is as it was, or
+** empty. If `sections` held no list of sections, `sections` is as it was, whatever the
+** call returns. */
 sm_code sm_sections_finish(sm_sections *sections, sm_map *map, bool has_file, const uint8_t *file, size_t length,
                            bool has_offsets, const uint32_t *offsets, size_t offset_count, bool has_paths,
                            const sm_text *paths, size_t path_count, sm_error *error);
@@ -610,8 +628,9 @@ sm_code sm_sections_finish(sm_sections *sections, sm_map *map, bool has_file, co
 **
 ** Each call but sm_builder_source() changes `builder`. sm_builder_add_tokens() returns
 ** a count, and writes a code to `error` if it fails. Each other call returns a code,
-** SM_OK if it succeeds. If the handle holds no builder, the code of each call but
-** sm_builder_new() is SM_WRONG_KIND. The library copies the texts. Ids count from 0.
+** SM_OK if it succeeds. If the handle holds no builder, each call but sm_builder_new()
+** fails. The code is SM_WRONG_KIND, or the code of another error that applies. The
+** library copies the texts. Ids count from 0.
 */
 
 /* Fills `builder` with a builder that has no items yet. `has_file` says whether
@@ -670,19 +689,21 @@ sm_code sm_builder_set_contents(sm_builder *builder, uint32_t id, bool present, 
 ** there is no source of that id; SM_WRONG_KIND if the handle holds no builder. */
 sm_code sm_builder_ignore_source(sm_builder *builder, uint32_t id, sm_error *error);
 
-/* Adds tokens, in any order. Ids that the builder does not have are kept, and name
-** nothing. If a source id other than SM_NONE names nothing, the map can be written, but
-** sm_open() refuses the written text: SM_BAD_SOURCE_REFERENCE. Neither the original
-** position nor the name of a token without a source is written. Returns how many of the
-** tokens were added, counted from the first: all, or fewer if memory ran out, or 0 if
-** the handle holds no builder. If it holds a builder and all were added, `error` is as
-** it was. Else the code in `error` is SM_OUT_OF_MEMORY or SM_WRONG_KIND. After
-** SM_OUT_OF_MEMORY make the call again with the tokens that are not added yet. */
+/* Adds tokens, in any order. An id that the builder does not have is kept. It names
+** nothing until the builder has a source or a name of that id. If a source id other
+** than SM_NONE names nothing in the built map, the map can be written, but sm_open()
+** refuses the written text: SM_BAD_SOURCE_REFERENCE. Neither the original position nor
+** the name of a token without a source is written. Returns how many of the tokens were
+** added, counted from the first: all, or fewer if memory ran out, or 0 if the handle
+** holds no builder. If it holds a builder and all were added, `error` is as it was.
+** Else the code in `error` is SM_OUT_OF_MEMORY or SM_WRONG_KIND. After SM_OUT_OF_MEMORY
+** make the call again with the tokens that are not added yet. */
 size_t sm_builder_add_tokens(sm_builder *builder, const sm_token *tokens, size_t count, sm_error *error);
 
 /* Fills `map` with the regular map that was built, and empties `builder`. On
 ** SM_OUT_OF_MEMORY `builder` is empty too, and `map` is as it was. SM_WRONG_KIND if
-** `builder` holds no builder; then both handles are as they were. */
+** `builder` holds no builder. If `builder` held no builder, both handles are as they
+** were, whatever the call returns. */
 sm_code sm_builder_finish(sm_builder *builder, sm_map *map, sm_error *error);
 
 /*
@@ -717,16 +738,17 @@ sm_code sm_view_slice(sm_view *view, uint32_t line, uint32_t column, uint32_t sp
 
 /* Fills `url` with the first reference to a map in a generated text, without
 ** white space around it; writes to `is_legacy` whether its comment begins with
-** `//@`. Returns SM_OK; SM_ABSENT if there is none; SM_IO if a line is not UTF-8, and
-** no line before it has a reference. On these two `url` and `is_legacy` are as they
-** were. */
+** `//@`. A line has a reference only if it begins with `//# sourceMappingURL=` or with
+** `//@ sourceMappingURL=`. Returns SM_OK; SM_ABSENT if there is none; SM_IO if a line
+** is not UTF-8, and no line before it has a reference. On these two `url` and
+** `is_legacy` are as they were. */
 sm_code sm_locate_reference(const uint8_t *text, size_t length, sm_bytes *url, bool *is_legacy, sm_error *error);
 
 /* Fills `result` with the URL that the reference `url` is resolved to. `base` is the
-** URL of the generated text. Returns SM_OK; SM_ABSENT if `url` is a `data:` URL, if
-** `base` is no URL, or if `url` cannot be resolved against it; SM_UTF8 if either is not
-** UTF-8. The call may also return SM_ABSENT if `base` has 2^28 bytes or more, or if
-** `url` and the parsed `base` together have 2^28 bytes or more. */
+** URL of the generated text. Returns SM_OK; SM_ABSENT if `url` begins with `data:` in
+** lower case, if `base` is no URL, or if `url` cannot be resolved against it; SM_UTF8
+** if either is not UTF-8. The call may also return SM_ABSENT if `base` has 2^28 bytes
+** or more, or if `url` and the parsed `base` together have 2^28 bytes or more. */
 sm_code sm_resolve(const uint8_t *url, size_t length, const uint8_t *base, size_t base_length, sm_bytes *result,
                    sm_error *error);
 
@@ -740,7 +762,10 @@ sm_code sm_resolve_path(const uint8_t *url, size_t length, const uint8_t *base, 
                         sm_error *error);
 
 /* Fills `path` with the path that leads from the folder of the file `base` to
-** the file `target`. Returns SM_OK, or SM_UTF8 if either is not UTF-8. */
+** the file `target`. Both `/` and `\` separate parts. Parts are compared as they are
+** written. Both paths must start from the same folder, for example from `/`. No part of
+** the folder of `base` may be `.` or `..`. Otherwise the result may lead to another
+** file. Returns SM_OK, or SM_UTF8 if either is not UTF-8. */
 sm_code sm_relative_path(const uint8_t *base, size_t base_length, const uint8_t *target, size_t target_length,
                          sm_bytes *path, sm_error *error);
 

@@ -121,7 +121,10 @@ class Mappings {
     this.#decoded = lines;
   }
 
-  /** `mappings` as text, and `rangeMappings` if a token is a range. */
+  /**
+   * `mappings` as text, and `rangeMappings`. If `mappings` was given as text, both are as
+   * they were given. Else there is `rangeMappings` only if a token is a range.
+   */
   get encoded() {
     if (this.#encoded === null) {
       const missing = Math.max(this.#lineCount() - Math.max(this.tokens.lineCount, 1), 0);

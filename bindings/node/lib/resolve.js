@@ -28,7 +28,8 @@ function normalized(path, isAbsolute) {
 /**
  * The text of a relative path. `first` is the folder, or the reference if there is no
  * folder. If `first` begins with `.`, `?` or `#`, and the path does not begin with `.`,
- * then `./` is put before the path.
+ * then `./` is put before the path. But if nothing is left of the path, the text is `rest`,
+ * or `.` if `rest` is empty.
  */
 function relative(path, rest, first) {
   const whole = normalized(path, false);

@@ -11,6 +11,9 @@ memory, for which `MemoryError` is raised.
 
 Each object may be used by several threads: a lock lets one call at a time use it. Long calls release the
 interpreter's lock.
+
+A `str` with one half of a surrogate pair has no UTF-8. A call that passes such a text to the library raises
+`UnicodeEncodeError`.
 """
 from . import errors
 from ._builder import Builder, NewToken

@@ -56,8 +56,10 @@ def parser() -> argparse.ArgumentParser:
 
 
 def main(words: Optional[List[str]] = None) -> int:
-    """Runs the program and returns its exit status. After an error, which is printed to standard error, it is 1. If the
-    reader closes the pipe it is 1 too, and nothing is printed. Wrong arguments raise `SystemExit` with the status 2."""
+    """Runs the program and returns its exit status. After an error, which is printed to standard error, it is 1. A line
+    or a column that is out of range is such an error. After some errors of `stack` the status is 0: see `stack.run`. If
+    the reader closes the pipe the status is 1, and nothing is printed. Arguments that the parser refuses raise
+    `SystemExit` with the status 2."""
     arguments = parser().parse_args(words)
     try:
         status = int(arguments.run(arguments))

@@ -31,7 +31,8 @@ class NewToken(NamedTuple):
 
 
 class Builder(HandleOwner):
-    """Builds a regular map. Tokens may be added in any order. Equal sources get one id, and so do equal names.
+    """Builds a regular map. Tokens may be added in any order. A source that is added again has the id that it had, and
+    so has a name.
 
     >>> import sourcemap
     >>> with sourcemap.Builder('out.js') as builder:
@@ -118,9 +119,10 @@ class Builder(HandleOwner):
         self.add_tokens([token])
 
     def add_tokens(self, tokens: Iterable[NewToken]) -> None:
-        """Adds tokens, with their sources and names by id. An id that the builder does not have names nothing. Such a
-        name id is not written. A map with such a source id can be written, but reading what was written raises
-        `BadSourceReference`. If the call fails, some of the tokens may have been added.
+        """Adds tokens, with their sources and names by id. The id `NONE` is that of no source and of no name. Any other
+        id that the builder does not have names nothing. Such a name id is not written. A map with such a source id can
+        be written, but reading what was written raises `BadSourceReference`. If the call fails, some of the tokens may
+        have been added.
 
         >>> import sourcemap
         >>> builder = sourcemap.Builder()

@@ -81,10 +81,10 @@ class Bundle(HandleOwner, Sequence[Optional[bytes]]):
     def split(self, index: Map) -> Split:
         """The modules of the bundle, each with its name, its text and its map; `index` is the index map of the bundle.
 
-        A missing module has no item. A module whose line in `module_offsets` is None has no item either, unless reading
-        the module from the bundle fails. Raises `NotARamBundle` if the index map has no `module_offsets`, and
-        `CannotFlatten` as `Map.flatten` does. A bundle of 12 bytes may claim 4294967295 modules: check `len(bundle)`
-        before you split an untrusted bundle.
+        A missing module has no item. A module for which the index map has null instead of a line has no item either,
+        unless reading the module from the bundle fails. Raises `NotARamBundle` if the index map has no
+        `module_offsets`, and `CannotFlatten` as `Map.flatten` does. A bundle of 12 bytes may claim 4294967295 modules:
+        check `len(bundle)` before you split an untrusted bundle.
         """
         made = Split._empty()
         with index.share() as shared:

@@ -41,8 +41,8 @@ class Frame:
     """A line of a trace that names a position.
 
     `line` and `column` are as they were printed; `column` is None if none was. `name` is the span of the function's
-    identifier, None if the frame has no name or one that is no identifier. `location` is the span of file, line and
-    column.
+    identifier. It is None if the frame has no name, or one that is no identifier, or if the frame has the form
+    `FILE line LINE > eval`. `location` is the span of file, line and column.
     """
 
     text: str
@@ -57,7 +57,7 @@ class Frame:
         return None if self.name is None else self.text[self.name.start : self.name.end]
 
     def rewritten(self, location: str, function: Optional[str]) -> str:
-        """The line with another location, and another name of the function unless `function` is None."""
+        """The line with another location, and another name of the function unless `function` or `name` is None."""
         edits = [(self.location, location)]
         if self.name is not None and function is not None:
             edits.append((self.name, function))

@@ -26,7 +26,7 @@ class Generated(NamedTuple):
 
 
 def reason_of(error: Exception) -> str:
-    """The text of an error. For an `OSError` it is the file and the message of the system."""
+    """The text of an error. For an `OSError` that names a file, it is the file and the message of the system."""
     if isinstance(error, OSError) and error.filename is not None and error.strerror is not None:
         return f'{error.filename}: {error.strerror}'
     return str(error)
@@ -111,9 +111,9 @@ def _path_named(file: str) -> Optional[str]:
 class Finder:
     """Finds the generated file that a frame of a stack trace names, and its map.
 
-    The file is the one below `root` whose path ends like the file of the frame; the longest end that exists counts.
-    Without `root` it is the file that the path names, or else one below the current folder. If `map` is given, it is
-    the map of every file.
+    The file is the one below `root` whose path ends like the file of the frame. The longest end counts for which the
+    file itself, or the map beside it, exists. Without `root` it is the file that the path names, or else one below the
+    current folder. If `map` is given, it is the map of every file.
     """
 
     def __init__(self, root: Optional[Path] = None, map: Optional[Map] = None) -> None:
@@ -123,7 +123,9 @@ class Finder:
 
     def find(self, file: str) -> Optional[Generated]:
         """The map and the text of a file. None if there is no map, or if the map or the file can't be read. Such an
-        error is printed once for the file, on standard error."""
+        error is printed once for the file, on standard error. Raises `MemoryError` if memory runs out. Without `map`,
+        raises `UnicodeEncodeError` if the file refers to the file of its map, and the absolute path of the generated
+        file is not UTF-8."""
         if file not in self._found:
             path = next((path for path in self._candidates(file) if self._is_there(path)), None)
             self._found[file] = self._open(path)

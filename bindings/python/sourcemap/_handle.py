@@ -33,7 +33,7 @@ def uint32(what: str, value: int) -> int:
 
 def pointer_to(data: Data) -> Tuple[Any, int]:
     """What ctypes passes as a pointer to these bytes, and how many there are. Bytes, and writable buffers that are
-    contiguous, are not copied."""
+    C-contiguous, are not copied."""
     if isinstance(data, str):
         data = data.encode()
     if not isinstance(data, bytes):
@@ -76,8 +76,8 @@ def array_of(texts: List[bytes]) -> Any:
 
 
 def pointer_to_words(words: memoryview) -> Any:
-    """What ctypes passes as a pointer to numbers. They are copied if they are read-only, not contiguous, or not aligned
-    to 4 bytes."""
+    """What ctypes passes as a pointer to numbers. They are copied if they are read-only, not C-contiguous, or not
+    aligned to 4 bytes."""
     pointer, _ = pointer_to(words)
     if not isinstance(pointer, bytes) and addressof(pointer) % 4:
         return words.tobytes()
@@ -129,8 +129,8 @@ class HandleOwner:
         return self
 
     def close(self) -> None:
-        """Frees the memory at once, except what another object shares with this one. Later calls raise `ValueError`; a
-        second `close` does nothing."""
+        """Frees the memory at once, except what another object shares with this one. A later call that needs this
+        memory raises `ValueError`; a second `close` does nothing."""
         with self._lock:
             self._close(self._at)
 

@@ -59,8 +59,8 @@ class SectionStart(ctypes.Structure):
 
 
 def _library_path() -> str:
-    """The shared library in the folder that SOURCEMAP_LIBRARY_DIR names; without that variable the one that was
-    built beside this package, or else the one that the system finds."""
+    """The shared library in the folder that SOURCEMAP_LIBRARY_DIR names. Without that variable, or if it is empty,
+    the one that was built beside this package, or else the one that the system finds."""
     named = os.environ.get(VARIABLE)
     folder = Path(named).absolute() if named else BUILT
     for path in (folder / name for name in FILES):

@@ -114,15 +114,17 @@ class Map(HandleOwner):
         >>> sourcemap.Map.loads('{"version":3,"sources":["a.js"],"names":[],"mappings":"AAAA"}')
         <sourcemap.Map: regular, 1 tokens, 1 sources>
 
-        Raises an error of `sourcemap.errors` if this is no map. Bytes, and writable buffers that are contiguous, are
-        not copied. Do not change a buffer during the call.
+        Raises an error of `sourcemap.errors` if this is no map. A `str` that has no UTF-8 raises `UnicodeEncodeError`.
+        Bytes, and writable buffers that are C-contiguous, are not copied. Do not change a buffer during the call.
         """
         return cls(data)
 
     @classmethod
     def from_data_url(cls: Type[AnyMap], url: str) -> AnyMap:
-        """Reads the map in a `data:` URL. Raises `InvalidDataUrl` if the text is no `data:` URL of JSON in base64, and
-        the errors of `loads` if the bytes in the URL are no map.
+        """Reads the map in a `data:` URL. The URL begins with `data:application/json`. Then it has `;charset=utf-8`,
+        `;charset=utf8` or nothing, and then `;base64,` and base64 with padding, as an encoder writes it. The case of
+        letters counts. Raises `InvalidDataUrl` if the text has another form, and the errors of `loads` if the bytes in
+        the URL are no map.
 
         >>> import sourcemap
         >>> map = sourcemap.Map.from_data_url('data:application/json;base64,eyJtYXBwaW5ncyI6IkEifQ==')
@@ -202,7 +204,8 @@ class Map(HandleOwner):
 
     @property
     def file(self) -> Optional[str]:
-        """The name of the generated file; None if the map names none. May be set; None removes it."""
+        """The name of the generated file; None if the map names none. It is `'<invalid>'` if the JSON has a `file` that
+        is neither a text nor null. May be set; None removes it."""
         return self._text(library.file)
 
     @file.setter
@@ -211,7 +214,8 @@ class Map(HandleOwner):
 
     @property
     def source_root(self) -> Optional[str]:
-        """What `sources` are resolved against; None if the map has no `sourceRoot`. May be set; None removes it."""
+        """What `sources` are resolved against; None if the map has no `sourceRoot`, as every index map. May be set, but
+        an index map then raises `WrongKind`; None removes it."""
         return self._text(library.source_root)
 
     @source_root.setter
@@ -261,7 +265,7 @@ class Map(HandleOwner):
 
     @property
     def ignore_list(self) -> Tuple[int, ...]:
-        """The ids of the sources on the ignore list, in rising order. `ignore_source` adds one."""
+        """The ids on the ignore list, in rising order. An id may name no source. `ignore_source` adds one."""
         count = self._counted('ignored')
         ids = (c_uint32 * max(count, 1))()
         with self._lock:
@@ -277,7 +281,8 @@ class Map(HandleOwner):
     @property
     def module_offsets(self) -> Optional[Tuple[Optional[int], ...]]:
         """Of the index map of a RAM bundle: the line at which each module begins. An item is None if no module has its
-        number. The whole is None if the index map has no such list. Raises `WrongKind` of other maps."""
+        number, or if the line is 4294967295. The whole is None if the index map has no such list. Raises `WrongKind` of
+        other maps."""
         lines: List[Optional[int]] = []
         block = (c_uint32 * BLOCK)()
         written = c_size_t(BLOCK)
@@ -425,7 +430,7 @@ class Map(HandleOwner):
         [0, 2]
 
         Positions are pairs, or a buffer of uint32 with the line and the column of each in turn, such as an `array('I')`
-        or a memoryview. A buffer that is writable, contiguous and aligned is not copied, unless the map is an index
+        or a memoryview. A buffer that is writable, C-contiguous and aligned is not copied, unless the map is an index
         map. Do not change a buffer during the call.
         """
         words = words_of(positions)
@@ -443,8 +448,9 @@ class Map(HandleOwner):
 
     def trace(self, positions: str) -> str:
         """The answers to a list of positions, LINE:COLUMN on each line. Both count from 0 and are at most 4294967295.
-        The answer to each is a line SOURCE:LINE:COLUMN, with ` name=NAME` if there is a name. It is `none` if the
-        position has no closest token, and `bad position` if the line of the list is no position.
+        The answer to each is SOURCE:LINE:COLUMN, with ` name=NAME` if there is a name. It is `none` if the position has
+        no closest token, and `bad position` if the line of the list is no position. A newline follows each answer. A
+        newline in a source or a name stays in the answer.
 
         >>> import sourcemap
         >>> map = sourcemap.Map.load('bundle.js.map')
@@ -504,9 +510,10 @@ class Map(HandleOwner):
 
     def flatten(self) -> None:
         """Turns an index map into a regular map. Wherever the index map gives an answer, the regular map gives the
-        same, under one premise: in the index map, and in each index map inside of it, each section and all its tokens
-        start before the next section. Raises `CannotFlatten` if it cannot make the regular map; the text of the error
-        says why. Raises `WrongKind` of other maps. Call `share` first if you need both maps:
+        same original position, source and name, under one premise: in the index map, and in each index map inside of
+        it, each section and all its tokens start before the next section. Raises `CannotFlatten` if it cannot make the
+        regular map; the text of the error says why. Raises `WrongKind` of other maps. Call `share` first if you need
+        both maps:
 
         >>> import sourcemap
         >>> index = sourcemap.Map.loads('{"version":3,"sections":[{"offset":{"line":2,"column":0},'
@@ -532,15 +539,17 @@ class Map(HandleOwner):
 
     def set_source(self, id: int, text: str) -> None:
         """Sets the text of the source of this id, which the map resolves against `source_root`. `Absent` if there is no
-        such source."""
+        such source; `WrongKind` of an index map."""
         self._change(library.set_source, uint32('id', id), *pointer_to(text))
 
     def set_contents(self, id: int, text: Optional[str]) -> None:
-        """Sets the contents of the source of this id; None removes them. `Absent` if there is no such source."""
+        """Sets the contents of the source of this id; None removes them. `Absent` if there is no such source;
+        `WrongKind` of an index map."""
         self._change(library.set_contents, uint32('id', id), *optional(text))
 
     def ignore_source(self, id: int) -> None:
-        """Puts the source of this id on the ignore list. `Absent` if there is no such source."""
+        """Puts the source of this id on the ignore list. `Absent` if there is no such source; `WrongKind` of an index
+        map."""
         self._change(library.ignore_source, uint32('id', id))
 
     def remove_names(self) -> None:

@@ -8,7 +8,8 @@ Item = TypeVar('Item')
 
 
 class LazySequence(Sequence[Item]):
-    """A sequence whose items are read each time that they are used. It is equal to any sequence of equal items."""
+    """A sequence whose items are read each time that they are used. It is equal to any sequence of equal items that is
+    no `str` and no `bytes`."""
 
     def __init__(self, count: Callable[[], int], read: Callable[[int], Item]) -> None:
         self._count = count

@@ -27,10 +27,10 @@ BLOCK = 1024
 class Token(NamedTuple):
     """What a generated position maps to. Lines and columns count from 0, columns in UTF-16 units.
 
-    `source`, `line` and `column` are the original position; all are None of a token without a source. The source is
-    resolved against `source_root`. `name` is the name that the token gives, or None. A token with `is_range` also maps
-    the columns after it on its line, up to the next token: a column that is N further on than the token maps to the
-    original column of the token plus N, at most to 4294967295.
+    `source`, `line` and `column` are the original position; all are None of a token without a source. If a source id
+    names nothing, only `source` is None. The source is resolved against `source_root`. `name` is the name that the
+    token gives, or None. A token with `is_range` also maps the columns after it on its line, up to the next token: a
+    column that is N further on than the token maps to the original column of the token plus N, at most to 4294967295.
 
     `generated_line` and `generated_column` are the generated position of the token itself, which may be before the
     position looked up. In an index map they count from where the section that answers begins, the column only on the
@@ -60,7 +60,9 @@ class Token(NamedTuple):
     name_id: Optional[int]
 
     def __str__(self) -> str:
-        """SOURCE:LINE:COLUMN, with ` name=NAME` if there is a name, as the library prints a token."""
+        """SOURCE:LINE:COLUMN, with ` name=NAME` if there is a name, as the library prints a token. LINE and COLUMN of a
+        token without a source are 4294967295. The library prints others only if a `Builder` made the token with
+        others."""
         source = '<unknown>' if self.source is None else self.source
         line = library.NONE if self.line is None else self.line
         column = library.NONE if self.column is None else self.column
@@ -103,8 +105,8 @@ class Answers(Sequence[Optional[Token]]):
     are read. They stay as they are when the map is changed or closed.
 
     Each property is a memoryview of one field of all answers, without a copy. Where `found` is false, the other fields
-    are 0. The id of a source or name that is missing is `NONE`, 4294967295, and so are the line and the column of a
-    token without a source.
+    are 0. The id of a source or name that is missing is `NONE`, 4294967295. So are the line and the column of a token
+    without a source, unless a `Builder` made the token with others.
 
     >>> import sourcemap
     >>> with sourcemap.Map.load('bundle.js.map') as map:

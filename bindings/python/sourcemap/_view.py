@@ -114,7 +114,9 @@ def resolve_path(url: str, path: str) -> Optional[str]:
 
 
 def relative_path(base: str, target: str) -> str:
-    """The path that leads from the folder of the file `base` to the file `target`.
+    """The path that leads from the folder of the file `base` to the file `target`. Both must be absolute paths, or both
+    relative. No folder of `base` may be `.` or `..`. Otherwise the path may lead to another file. A slash and a
+    backslash both separate folders.
 
     >>> import sourcemap
     >>> sourcemap.relative_path('/foo/bar/baz.js', '/foo/baz.map')
@@ -137,7 +139,9 @@ def _made_of(call: library.Call, one: str, other: str) -> str:
 
 
 def is_source_map(data: Data) -> bool:
-    """Whether these bytes hold JSON with the keys of a source map. `Map.loads` may still refuse them.
+    """Whether these bytes hold a JSON object with the keys of a source map. A key whose value is null counts as
+    missing. If `version` has a value that is no whole number from 0 to 4294967295, the answer is False. No other value
+    is checked, so `Map.loads` may still refuse the bytes.
 
     >>> import sourcemap
     >>> sourcemap.is_source_map('{"version":3,"sources":[],"mappings":""}'), sourcemap.is_source_map('[]')

@@ -1,6 +1,7 @@
 """The exceptions that calls raise: a class for each error of the library.
 
-Each is a subclass of `SourceMapError`. If memory runs out, Python's own `MemoryError` is raised instead.
+Each is a subclass of `SourceMapError`. If memory runs out, Python's own `MemoryError` is raised instead. If several
+errors apply, one of them is raised.
 
     >>> import sourcemap
     >>> try:
@@ -109,7 +110,7 @@ class IncompatibleSourceMap(SourceMapError, ValueError):
 
 
 class InvalidDataUrl(SourceMapError, ValueError):
-    """The text is no data URL of a source map."""
+    """The text is no data URL of the form that `Map.from_data_url` reads."""
 
     code = 12
 
@@ -133,7 +134,9 @@ class InvalidRamBundleIndex(SourceMapError, IndexError):
 
 
 class InvalidRamBundleEntry(SourceMapError, ValueError):
-    """The entry of a module in a bundle is not valid."""
+    """The entry of a module in a bundle is not valid. For an item of a `Split`: its module is invalid, whatever the
+    reason. For example, the text of the module is not UTF-8.
+    """
 
     code = 16
 
@@ -151,7 +154,7 @@ class InvalidRangeMappingIndex(SourceMapError, ValueError):
 
 
 class InvalidBase64(SourceMapError, ValueError):
-    """A character of the mappings, `chr(number)`, is no digit of base 64."""
+    """A byte of the mappings or of the range mappings is no digit of base 64. `number` is the value of this byte."""
 
     code = 19
 

@@ -20,7 +20,7 @@ from ._tokens import Token
 from ._view import View
 from .errors import SourceMapError
 
-# Of a longer line of a source only this many characters are printed, around the column.
+# Of a longer line of a source only this many characters are printed: those around the column, or the first ones.
 LONGEST_LINE = 100
 
 
@@ -72,7 +72,8 @@ class Translator:
         return [text, *self._excerpt(frame, generated.map, original)]
 
     def _position(self, frame: Frame) -> Optional[Tuple[int, Optional[int]]]:
-        """The generated position of a frame, counted from 0; None if it is out of range for a map."""
+        """The generated position of a frame, counted from 0; None if one of its numbers is below 0 or above
+        4294967294."""
         line = frame.line - FIRST_LINE
         column = None if frame.column is None else frame.column - self._columns_from
         return (line, column) if 0 <= line < NONE and (column is None or 0 <= column < NONE) else None
@@ -131,7 +132,7 @@ def original_function(frame: Frame, generated: Generated, line: int, column: int
 
 
 def excerpt(view: View, line: int, column: Optional[int], context: int) -> List[str]:
-    """The lines of a source around a line, with their numbers, and a mark below the column."""
+    """The lines of a source around a line, with their numbers, and a mark below the column if the line has it."""
     before = None if column is None else view.slice(line, 0, column)
     start = 0
     if before is not None and len(view[line]) > LONGEST_LINE:
@@ -153,12 +154,14 @@ def shortened(line: str, start: int) -> str:
 
 
 def printable(text: str) -> str:
-    """The text with U+FFFD for each character that a terminal might take for a command."""
+    """The text with U+FFFD for each character that is not printable. A terminal might take such a character for a
+    command."""
     return ''.join(unit if unit.isprintable() else '\N{REPLACEMENT CHARACTER}' for unit in text)
 
 
 def translate_lines(lines: Iterable[str], translator: Translator) -> Iterator[str]:
-    """Translates a trace line by line. Lines keep their ends; a line that is added ends like the one of its frame."""
+    """Translates a trace line by line. Lines keep their ends; a line that is added ends like the one of its frame. If
+    that line has no end, a newline is put before each line that is added."""
     for line in lines:
         text = line.rstrip('\r\n')
         end = line[len(text) :]
@@ -196,8 +199,8 @@ def add_arguments(parser: argparse.ArgumentParser) -> None:
 def run(arguments: argparse.Namespace) -> int:
     """Translates standard input to standard output, line by line. Returns the exit status. If the file of `--map` can't
     be read, this raises an `OSError`; if it holds no map, the error is printed and the status is 1. An error of
-    another map is printed, and does not change the status. Input without a frame is no error: a program that did not
-    fail may write into this filter."""
+    another map is printed, and does not change the status, unless `Finder.find` raises it. Input without a frame is no
+    error: a program that did not fail may write into this filter."""
     try:
         map = None if arguments.map is None else open_map(arguments.map)
     except SourceMapError as error:

@@ -176,9 +176,11 @@ impl SourceMapBuilder {
     /// path of the file is the text of the source, as it was added, resolved against
     /// the folder `base_path`. A relative `base_path` counts from the current
     /// folder, and none is the current folder. A source is skipped if it leads to no
-    /// path of a file, or if its file can't be read or is not UTF-8. A source may also
-    /// be skipped if the `file` URL of the folder and the source together have about
-    /// 2^28 bytes or more. Returns how many sources got contents. Fails with
+    /// path of a file, or if its file can't be read or is not UTF-8. A source without a
+    /// path of its own, such as an empty one or `#a`, leads to the folder and is skipped
+    /// too. All sources are skipped if the path of the folder is not UTF-8. A source
+    /// may also be skipped if the `file` URL of the folder and the source together have
+    /// about 2^28 bytes or more. Returns how many sources got contents. Fails with
     /// [`Error::Io`](crate::Error::Io) if the current folder is unknown.
     pub fn load_local_source_contents(&mut self, base_path: Option<&Path>) -> Result<usize> {
         let folder = local::folder(base_path)?;

@@ -25,7 +25,11 @@ pub fn decode_slice(slice: &[u8]) -> Result<DecodedMap> {
     Ok(DecodedMap::of_handle(MapHandle::open(slice)?))
 }
 
-/// Reads a map of any kind from a `data:` URL of base64.
+/// Reads a map of any kind from a `data:` URL of base64. The URL begins with
+/// `data:application/json;base64,`. Before `;base64,` it may have `;charset=utf-8` or
+/// `;charset=utf8`. All of this is in lower case. The base64 is the standard encoding
+/// of some bytes: padded, and without white space. Any other text is
+/// [`Error::InvalidDataUrl`](crate::Error::InvalidDataUrl).
 pub fn decode_data_url(url: &str) -> Result<DecodedMap> {
     Ok(DecodedMap::of_handle(MapHandle::open_url(url)?))
 }

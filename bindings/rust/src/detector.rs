@@ -27,9 +27,9 @@ impl SourceMapRef {
     }
 
     /// Returns the URL that the reference leads to from the URL of its text. Returns
-    /// none if the reference is a `data:` URL, or if `minified_url` or the reference
-    /// is rejected as a URL. May also return none if `minified_url` and the
-    /// reference together have 2^28 bytes or more. Escapes that parsing adds to
+    /// none if the reference begins with `data:`, in lower case, or if `minified_url`
+    /// or the reference is rejected as a URL. May also return none if `minified_url`
+    /// and the reference together have 2^28 bytes or more. Escapes that parsing adds to
     /// `minified_url` count too.
     pub fn resolve(&self, minified_url: &str) -> Option<String> {
         must(handle::resolve(self.get_url(), minified_url))
@@ -44,7 +44,8 @@ impl SourceMapRef {
         resolve_path(self.get_url(), minified_path)
     }
 
-    /// Returns the map in a `data:` URL, or none of another URL.
+    /// Returns the map in a reference that begins with `data:`, in lower case. Returns
+    /// none of any other reference.
     pub fn get_embedded_sourcemap(&self) -> Result<Option<DecodedMap>> {
         let url = self.get_url();
         if url.starts_with("data:") {
@@ -67,9 +68,10 @@ pub fn locate_sourcemap_reference<R: Read>(rdr: R) -> Result<Option<SourceMapRef
     locate_sourcemap_reference_slice(&read_all(rdr)?)
 }
 
-/// Returns the first reference to a map in a generated text. Fails with
-/// [`Error::Io`](crate::Error::Io) if a line is not UTF-8, and no line before it has a
-/// reference.
+/// Returns the first reference to a map in a generated text. A reference is a line
+/// that begins with `//# sourceMappingURL=` or `//@ sourceMappingURL=`. Only a line
+/// feed ends a line here. Fails with [`Error::Io`](crate::Error::Io) if a line is not
+/// UTF-8, and no line before it has a reference.
 ///
 /// ```
 /// use sourcemap::{locate_sourcemap_reference_slice, SourceMapRef};
@@ -89,7 +91,7 @@ pub fn is_sourcemap<R: Read>(rdr: R) -> bool {
     read_all(rdr).is_ok_and(|bytes| is_sourcemap_slice(&bytes))
 }
 
-/// Returns whether bytes are a map, by the keys of their JSON value.
+/// Returns whether bytes are a map, by the keys and the version of their JSON value.
 pub fn is_sourcemap_slice(slice: &[u8]) -> bool {
     handle::is_source_map(slice).unwrap_or(false)
 }

@@ -27,9 +27,10 @@ pub enum Error {
     VlqLeftover,
     /// A segment has no number.
     VlqNoValues,
-    /// A number of a segment is too large.
+    /// A number of a segment is too large, or has more than 13 digits.
     VlqOverflow,
-    /// A segment has this many numbers. Only 1, 4 and 5 are valid.
+    /// A segment has this many numbers. Only 1, 4 and 5 are valid. A count above
+    /// 4294967295 is given as 4294967295.
     BadSegmentSize(u32),
     /// A segment names a source of this id, which does not exist.
     BadSourceReference(u32),
@@ -38,14 +39,17 @@ pub enum Error {
     /// The map is of another kind than the call takes, or exceeds a limit: a count
     /// of items, a line or a column would exceed 4294967295.
     IncompatibleSourceMap,
-    /// A text is no data URL of a source map.
+    /// A text is no data URL of the form that
+    /// [`decode_data_url`](crate::decode_data_url) reads.
     InvalidDataUrl,
     /// An index map can't become one regular map, for this reason.
     CannotFlatten(String),
     /// A RAM bundle does not begin with its magic number.
     InvalidRamBundleMagic,
     /// The number of the module is past the last number of an indexed RAM bundle, or
-    /// a file in the folder of modules is not named `NUMBER.js`.
+    /// the name of a file in the folder of modules is not valid, as
+    /// [`parse_unbundle_from_path`](crate::ram_bundle::RamBundle::parse_unbundle_from_path)
+    /// says.
     InvalidRamBundleIndex,
     /// The entry of a module in a RAM bundle is malformed, a module is invalid as
     /// [`split_ram_bundle`](crate::ram_bundle::split_ram_bundle) says, or a bundle
@@ -70,8 +74,10 @@ pub enum JsonError {
     /// The text is not JSON or not UTF-8, has more than 127 levels, has a number too
     /// large for an `f64`, or escapes one half of a surrogate pair without the other.
     Parse,
-    /// The text is JSON, but no object, or a field has the wrong type, or a required
-    /// field is missing.
+    /// The text is JSON, but no object, or a field has the wrong type or an invalid
+    /// value, or a required field is missing. A debug id is invalid if it is no UUID. A
+    /// version, an id, a line or a column is invalid if it is no whole number from 0 to
+    /// 4294967295.
     Shape,
 }
 

@@ -12,8 +12,10 @@ use crate::utils::{must, write_all};
 
 /// A map of React Native's Hermes engine, with the scopes of its sources.
 ///
-/// It dereferences to its [`SourceMap`], which has no scopes. The first call that
-/// clones, compares or writes this [`SourceMap`] alone copies the map without
+/// It dereferences to its [`SourceMap`], which has no scopes. Some calls need this
+/// [`SourceMap`] as a regular map. They clone, compare or write it alone, ask for a
+/// function name in it, or pass it as an adjustment. [`SourceMapHermes::rewrite`] is
+/// such a call if it loads contents. The first such call copies the map without
 /// scopes. A change of the map drops that copy.
 pub struct SourceMapHermes {
     sm: SourceMap,
@@ -61,9 +63,9 @@ impl SourceMapHermes {
 
     /// Looks up the token's generated position in this map, and returns the name of
     /// the function there. For a range token that a lookup on its own line returned,
-    /// it looks up the position of that lookup. Hermes maps have their tokens on
-    /// generated line 0. For a token on another line the call returns none. If the
-    /// functions of the token's source are not in order, the result is unspecified.
+    /// it looks up the position of that lookup. Only positions on generated line 0 have
+    /// names. For a token on another line the call returns none. If the functions of
+    /// the token's source are not in order, the result is unspecified.
     pub fn get_scope_for_token(&self, token: Token<'_>) -> Option<&str> {
         match token.looked_up() {
             (0, offset) => self.get_original_function_name(offset),
@@ -71,7 +73,9 @@ impl SourceMapHermes {
         }
     }
 
-    /// Rewrites the map, as [`SourceMap::rewrite`] does, with its scopes.
+    /// Rewrites the map, as [`SourceMap::rewrite`] does, with its scopes. If several
+    /// sources resolve to one text, only one of them keeps its scopes: the source of
+    /// the first token that uses one of these sources.
     pub fn rewrite(self, options: &RewriteOptions<'_>) -> Result<Self> {
         Ok(SourceMapHermes {
             sm: self.sm.rewrite(options)?,

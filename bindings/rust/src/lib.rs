@@ -26,8 +26,10 @@
 //! # Panics
 //!
 //! If the library runs out of memory, calls that do not return a [`Result`] panic.
-//! Only [`is_sourcemap`] and [`is_sourcemap_slice`] return false then, and do not
-//! panic.
+//! Only [`is_sourcemap`], [`is_sourcemap_slice`] and
+//! [`ram_bundle::is_ram_bundle_slice`] return false then, and do not panic. A call
+//! that returns a [`Result`] panics too if memory runs out while it makes a view,
+//! builds an index map, copies the map in a Hermes map, or loads contents from files.
 
 #![deny(unsafe_code)]
 #![warn(missing_docs)]

@@ -21,9 +21,16 @@ pub(crate) fn folder(base_path: Option<&Path>) -> io::Result<PathBuf> {
 
 /// The contents of a source, if it leads to a file that can be read as text.
 pub(crate) fn read_source(folder: &Path, source: &str) -> Option<String> {
-    // A reference is resolved against the folder of its base.
+    // A reference is resolved against the folder of its base. One without a path of its
+    // own leads to the base itself, so its path depends on the name of the base. In the
+    // library such a reference leads to the folder.
     let path = resolve_path(source, &folder.join("base"))?;
-    fs::read_to_string(path).ok()
+    let other = resolve_path(source, &folder.join("other"))?;
+    if path == other {
+        fs::read_to_string(path).ok()
+    } else {
+        None
+    }
 }
 
 /// Sets the contents of the sources of a map to those that the rewritten map is to

@@ -69,7 +69,7 @@ pub struct RamBundleModuleIter<'a> {
     ram_bundle: &'a RamBundle<'a>,
 }
 
-/// The modules of a RAM bundle, each with its file name, its text and its map.
+/// The modules of a RAM bundle, each with a file name, its text and its map.
 pub struct SplitRamBundleModuleIter<'a> {
     split: SplitHandle,
     items: Range<usize>,
@@ -94,11 +94,12 @@ impl<'a> RamBundle<'a> {
 
     /// Reads a bundle of files. The path is that of the startup file. Beside this
     /// file is the folder `js-modules`. The folder has the file `UNBUNDLE`, and a
-    /// file `NUMBER.js` for each module. Links and folders in `js-modules` are ignored.
-    /// NUMBER has only ASCII digits, and is below `usize::MAX`. If two files have the
-    /// same number, the later name in the order of bytes counts. Fails with
-    /// [`Error::NotARamBundle`] if [`is_unbundle_path`] returns false for the path, and
-    /// with [`Error::InvalidRamBundleIndex`] if a plain file has another name.
+    /// file `NUMBER.js` for each module. Links and folders in `js-modules` are ignored,
+    /// but `UNBUNDLE` may be a link to a file. NUMBER has only ASCII digits, and is
+    /// below `usize::MAX`. If two files have the same number, the later name in the
+    /// order of bytes counts. Fails with [`Error::NotARamBundle`] if
+    /// [`is_unbundle_path`] returns false for the path, and with
+    /// [`Error::InvalidRamBundleIndex`] if a plain file has another name.
     pub fn parse_unbundle_from_path(bundle_path: &Path) -> Result<Self> {
         let repr = Repr::Unbundle(Unbundle::read(bundle_path)?);
         Ok(RamBundle { repr })
@@ -333,12 +334,17 @@ fn split_item(split: &SplitHandle, item: usize) -> Result<(String, SourceView, S
     Ok((name.to_owned(), SourceView::of_text(text), map))
 }
 
-/// Splits a bundle into its modules, each with its file name, its text and its
-/// map, by the index map of the bundle.
+/// Splits a bundle into its modules, each with a file name, its text and its map, by
+/// the index map of the bundle. The file name is the number in decimal digits, without
+/// leading zeros, and `.js`.
 ///
 /// A module begins on the line that the list [`SourceMapIndex::x_facebook_offsets`]
 /// has for its number. The iterator skips modules that are missing. A module for which
 /// the list has none is skipped too, unless reading the module from the bundle fails.
+/// Line 4294967295 is an exception. In a decoded map the list has none for a module on
+/// this line, but the module is not skipped, unless [`SourceMapIndex::get_section_mut`]
+/// returned a section. In a map that [`SourceMapIndex::new_ram_bundle_compatible`] made
+/// the list has this line, but the module is skipped as if the list had none.
 /// The iterator returns [`Error::InvalidRamBundleEntry`] for each invalid module. A
 /// module is invalid if reading it from the bundle fails, if its text is not UTF-8, or
 /// if the list is too short to have its number. It is also invalid if the flat map has

@@ -87,7 +87,8 @@ impl SourceView {
         self.handle.line_count()
     }
 
-    /// Returns the first reference to a map in the text.
+    /// Returns the first reference to a map in the text, as
+    /// [`locate_sourcemap_reference_slice`] does.
     pub fn sourcemap_reference(&self) -> Result<Option<SourceMapRef>> {
         locate_sourcemap_reference_slice(self.source().as_bytes())
     }

@@ -6,7 +6,9 @@ use crate::errors::Result;
 use crate::handle;
 
 /// Returns the path that leads from the folder of a file to another file, as from a
-/// generated text to its map.
+/// generated text to its map. Both `/` and `\` separate the parts of a path. Both
+/// paths must start from the same folder, and no part of the folder of `base` may be
+/// `.` or `..`. Otherwise the path may lead to another file.
 ///
 /// ```
 /// use sourcemap::make_relative_path;

@@ -52,7 +52,8 @@ pub(crate) fn resolve_path(url: &str, base: &str) -> Result<Option<String>> {
     made_of(ffi::sm_resolve_path, url, base)
 }
 
-/// The path from the folder of a file to another file.
+/// The path from the folder of a file to another file, if both paths are as
+/// [`make_relative_path`](crate::make_relative_path) asks.
 pub(crate) fn relative_path(base: &str, target: &str) -> Result<String> {
     Ok(made_of(ffi::sm_relative_path, base, target)?.unwrap_or_default())
 }

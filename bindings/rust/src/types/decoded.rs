@@ -53,7 +53,8 @@ impl DecodedMap {
     }
 
     /// Returns the closest token to a generated position. In an index map, a section
-    /// without a map answers nothing.
+    /// without a map answers nothing. If the sections of an index map are not in order
+    /// at every level, the result may be the wrong token, or none.
     #[inline]
     pub fn lookup_token(&self, line: u32, col: u32) -> Option<Token<'_>> {
         let sm = match self {

@@ -163,7 +163,7 @@ impl SourceMapIndex {
         must(self.handle_mut().set_file(value));
     }
 
-    /// Returns how many sections there are.
+    /// Returns how many sections there are, but at most 4294967295.
     pub fn get_section_count(&self) -> u32 {
         self.handle().counts().sections
     }
@@ -191,7 +191,8 @@ impl SourceMapIndex {
     /// Returns the original name of the function at a generated position, as
     /// [`SourceMap::get_original_function_name`] does. The search stays in the map of
     /// the closest token. The text is read at the positions of the tokens in that map:
-    /// the start of the section is not added.
+    /// the start of the section is not added. If the sections are not in order at every
+    /// level, the name may be wrong or missing.
     pub fn get_original_function_name(
         &self,
         line: u32,
@@ -209,7 +210,8 @@ impl SourceMapIndex {
     /// The token is one of the section's map; if index maps are nested, one of the
     /// innermost section's map. Its generated line counts from the first line of that
     /// section. On that line its generated column counts from the column where the
-    /// section begins.
+    /// section begins. If the sections are not in order at every level, the result may
+    /// be the wrong token, or none.
     pub fn lookup_token(&self, line: u32, col: u32) -> Option<Token<'_>> {
         let section = self.closest_section((line, col))?;
         let (first_line, first_col) = section.offset;
@@ -253,13 +255,15 @@ impl SourceMapIndex {
         self.flatten()?.rewrite(options)
     }
 
-    /// Returns whether the map has both lists of a RAM bundle.
+    /// Returns whether the map has both lists of a RAM bundle. In a decoded map an
+    /// empty list of paths counts as none.
     pub fn is_for_ram_bundle(&self) -> bool {
         self.x_facebook_offsets().is_some() && self.x_metro_module_paths().is_some()
     }
 
     /// Returns the list of the lines at which the modules of a RAM bundle begin, by
-    /// the numbers of the modules. An item is none if no module has its number.
+    /// the numbers of the modules. An item is none if no module has its number. In a
+    /// decoded map an item is also none if the module begins on line 4294967295.
     /// Returns none if the map has no such list.
     pub fn x_facebook_offsets(&self) -> Option<&[Option<u32>]> {
         let offsets = self

@@ -7,7 +7,8 @@ use crate::types::{RawToken, SourceMap, Token};
 /// How many tokens are read by one call of the library.
 const BLOCK: usize = 256;
 
-/// The tokens of a map, in order.
+/// The tokens of a map, in order. If the map has more than 4294967295 tokens, the
+/// iterator does not end.
 pub struct TokenIter<'a> {
     sm: &'a SourceMap,
     /// The index of the token after those in the block.

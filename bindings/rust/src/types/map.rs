@@ -165,13 +165,13 @@ impl SourceMap {
     }
 
     /// Returns the token with this number, counted from 0, or none if there is no
-    /// such token.
+    /// such token. A number above 4294967295 gives none.
     pub fn get_token(&self, idx: usize) -> Option<Token<'_>> {
         let raw = self.raw_token(u32::try_from(idx).ok()?)?;
         Some(Token::listed(self, raw))
     }
 
-    /// Returns how many tokens there are.
+    /// Returns how many tokens there are, but at most 4294967295.
     pub fn get_token_count(&self) -> u32 {
         self.handle.counts().tokens
     }
@@ -204,11 +204,11 @@ impl SourceMap {
     /// Guesses the original name of the function at a generated position.
     /// `minified_name` is the name of this function in the generated text, and `sv`
     /// is a view of that text. The search begins at the closest token and goes back
-    /// over at most 128 tokens. It stops at the first token for which the generated
-    /// text has `minified_name` at the token's position, and `function` at the
-    /// position of the token before it. White space before either word is skipped,
-    /// but not past the end of the line. Returns the name of the token at
-    /// `minified_name`, or none if there is no such token, if it has no name, or if
+    /// over at most 128 tokens, this one included. It stops at the first token for
+    /// which the generated text has `minified_name` at the token's position, and
+    /// `function` at the position of the token before it. White space before either
+    /// word is skipped, but not past the end of the line. Returns the name of the token
+    /// at `minified_name`, or none if there is no such token, if it has no name, or if
     /// `minified_name` is no identifier.
     pub fn get_original_function_name(
         &self,

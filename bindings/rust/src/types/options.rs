@@ -11,8 +11,9 @@ pub struct RewriteOptions<'a> {
     /// Whether the contents that the map has are kept.
     pub with_source_contents: bool,
     /// Whether contents that the map lacks, or does not keep, are read from local
-    /// files. Sources are skipped as by
+    /// files. Sources lead to files, and are skipped, as by
     /// [`load_local_source_contents`](crate::SourceMapBuilder::load_local_source_contents).
+    /// But a source is first resolved against the source root.
     pub load_local_source_contents: bool,
     /// The folder against which sources are resolved to find their local files. A
     /// relative path counts from the current folder. None is the current folder.

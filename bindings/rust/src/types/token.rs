@@ -20,9 +20,11 @@ pub struct RawToken {
     /// The original column, from 0. In a decoded map it is `!0` if the token has no
     /// source.
     pub src_col: u32,
-    /// The id of the source, or `!0` without one.
+    /// The id of the source, or `!0` without an id. In a map that was built, an id may
+    /// name no source.
     pub src_id: u32,
-    /// The id of the name, or `!0` without one.
+    /// The id of the name, or `!0` without an id. In a map that was built, or whose
+    /// names were removed, an id may name nothing.
     pub name_id: u32,
     /// Whether the token is a range token. It then also maps the columns after it,
     /// on its own generated line and before the next token. A column that lies N
@@ -145,7 +147,8 @@ impl<'a> Token<'a> {
         (self.get_src_line(), self.get_src_col())
     }
 
-    /// Returns the id of the source, or `!0` without one.
+    /// Returns the id of the source, or `!0` without an id. In a map that was built, an
+    /// id may name no source.
     pub fn get_src_id(&self) -> u32 {
         self.answer.src_id
     }
@@ -175,7 +178,8 @@ impl<'a> Token<'a> {
         self.get_name().is_some()
     }
 
-    /// Returns the id of the name, or `!0` without one.
+    /// Returns the id of the name, or `!0` without an id. In a map that was built, or
+    /// whose names were removed, an id may name nothing.
     pub fn get_name_id(&self) -> u32 {
         self.answer.name_id
     }

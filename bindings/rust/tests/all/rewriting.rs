@@ -138,10 +138,12 @@ impl Drop for Folder {
     }
 }
 
-const FILES: [(&str, &[u8]); 3] = [
+const FILES: [(&str, &[u8]); 5] = [
     ("a.js", b"file a"),
     ("sub/b c.js", b"file b"),
     ("bytes.js", b"\xff"),
+    ("base", b"file base"),
+    ("other", b"file other"),
 ];
 
 #[test]
@@ -175,6 +177,25 @@ fn a_builder_loads_contents_from_files() {
         None,
         Some("own"),
     ];
+    assert_eq!(contents, expected);
+}
+
+#[test]
+fn a_source_without_a_path_leads_to_the_folder() {
+    let folder = Folder::new("without-a-path", &FILES);
+    let mut builder = SourceMapBuilder::new(None);
+    for source in ["", "#a", "?a", "base", "other"] {
+        builder.add_source(source);
+    }
+    assert_eq!(
+        builder
+            .load_local_source_contents(Some(&folder.0))
+            .expect("a folder"),
+        2
+    );
+    let map = builder.into_sourcemap();
+    let contents: Vec<_> = map.source_contents().collect();
+    let expected = [None, None, None, Some("file base"), Some("file other")];
     assert_eq!(contents, expected);
 }
 
