@@ -122,10 +122,9 @@ class Finder:
         self._found: Dict[str, Optional[Generated]] = {}
 
     def find(self, file: str) -> Optional[Generated]:
-        """The map and the text of a file. None if there is no map, or if the map or the file can't be read. Such an
-        error is printed once for the file, on standard error. Raises `MemoryError` if memory runs out. Without `map`,
-        raises `UnicodeEncodeError` if the file refers to the file of its map, and the absolute path of the generated
-        file is not UTF-8."""
+        """The map and the text of a file. None if there is no map, or if the map or the file can't be read. It is also
+        None if the file refers to the file of its map, and the absolute path of the generated file is not UTF-8. Each
+        of these errors is printed once for the file, on standard error. Raises `MemoryError` if memory runs out."""
         if file not in self._found:
             path = next((path for path in self._candidates(file) if self._is_there(path)), None)
             self._found[file] = self._open(path)
@@ -145,7 +144,7 @@ class Finder:
         try:
             text = path.read_bytes() if path is not None and os.path.isfile(path) else None
             map = self._map if self._map is not None else self._map_of(path, text)
-        except (OSError, SourceMapError) as error:
+        except (OSError, SourceMapError, UnicodeEncodeError) as error:  # the last: the path of the file is not UTF-8
             print(f'sourcemap: the map of {path}: {reason_of(error)}', file=sys.stderr)
             return None
         return None if map is None else Generated(map, _view_of(text))

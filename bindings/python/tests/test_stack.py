@@ -351,6 +351,19 @@ class Traces(unittest.TestCase):
         self.assertEqual(trace, SPIDERMONKEY_TRACE)
         self.assertEqual(errors.getvalue(), f'sourcemap: the map of {self.generated}: {self.map}: Permission denied\n')
 
+    def test_generated_file_whose_path_is_not_utf_8(self) -> None:
+        """Its reference can't be resolved. That is reported, and the frames are printed unchanged."""
+        folder = self.root / os.fsdecode(b'\xff')
+        folder.mkdir()
+        example.write(folder)
+        errors = io.StringIO()
+        with contextlib.redirect_stderr(errors):
+            lines = stack.translate_lines(
+                SPIDERMONKEY_TRACE.splitlines(keepends=True), stack.Translator(Finder(folder))
+            )
+            self.assertEqual(''.join(lines), SPIDERMONKEY_TRACE)
+        self.assertEqual(errors.getvalue().count('sourcemap: the map of '), 1)
+
     def test_index_map(self) -> None:
         section = {'offset': {'line': 0, 'column': 0}, 'map': json.loads(example.MAP)}
         self.map.write_text(json.dumps({'version': 3, 'sections': [section]}), 'utf-8')
