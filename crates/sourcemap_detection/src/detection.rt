@@ -1,4 +1,5 @@
-//! Detects source maps by the keys of their JSON value, without reading a record.
+//! Detects source maps by the keys of their JSON value, without reading a record. Keys with the
+//! value null do not count. Of the other values, only the value of `version` counts.
 ghost use Rattle.std.specs.Prelude.{◌≡◌, ◌≢◌, ◌↔◌, IsTrue, IfOk, IfSome, IsOkUnless, MatchResult, false};
 ghost use Rattle.serde_json.specs.View.{view};
 ghost use Rattle.sourcemap_errors.specs.declared.errors.Error.TheVariants.{OutOfMemory};
