@@ -143,8 +143,8 @@ impl<'view> Word<'view> {
         Word { cursor, end }
     }
 
-    // The identifier at the offset `word` of the cursor. `None` if the line does not reach column
-    // `col`, or if no identifier starts at `word`. `col` is the column that this word was made for.
+    // The identifier that starts at this word. `None` if none starts there, or if the line ends
+    // before column `col`. `col` must be the column given to `moved_to` or `Cursor::new`.
     fn identifier(&self, col: u32) -> Option<&'view str>
         ensures { option_copied result ≡ identifier_from self.now.cursor.line.now col
             self.now.cursor.at.offset self.now.cursor.at.units }
