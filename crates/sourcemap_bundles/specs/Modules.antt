@@ -74,7 +74,8 @@ abbrev pub bundle_startup : BundleValue → Result (List ℕ) Error
 bundle_startup (indexed header bytes) = indexed_startup header bytes
 bundle_startup (files folder) = Ok folder.startup
 
--- the module with this number; `None` if the number has no module; an indexed bundle may also give an error
+-- the module with this number; `None` if the number has no module. An indexed bundle instead gives an error for a
+-- number that is not below `bundle_count`, and may give other errors
 abbrev pub bundle_module : BundleValue → ℕ → Result (Option ModuleValue) Error
 bundle_module (indexed header bytes) id = indexed_module header bytes id
 bundle_module (files folder) id = Ok (file_module folder id)

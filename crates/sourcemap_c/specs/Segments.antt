@@ -26,7 +26,7 @@ pub record WritesNumbers (segment : List ℕ) (old new : List ℤ) (count : ℕ)
   pub written : new ≡ overwritten numbers old
   pub counted : count ≡ length numbers
 
--- the handle has the text of a segment with these numbers, each number in as few digits as possible
+-- the handle has the text of a segment with these numbers, each number in as few digits as possible, and 0 as `A`
 abbrev pub HoldsSegment : List ℤ → Option (List ℕ) → Type 0
 HoldsSegment numbers (Some text) = Spells numbers text
 HoldsSegment numbers None = ⊥

@@ -23,11 +23,13 @@ abbrev pub LacksTextOf : (index : ℕ) → Option MapValue → Failure → Type 
 LacksTextOf index None failure = failure ≡ WrongKind
 LacksTextOf index (Some m) failure = (failure ≡ Absent) × (text_of_token index m ≡ None)
 
--- the text of the token that is closest to a position; `None` if there is no closest token
+-- the text of the token that is closest to a position; `None` if there is no closest token. The column in the text
+-- includes the `extra_columns` of the lookup
 abbrev pub text_at : MapTree → ℕ × ℕ → Option (List ℕ)
 text_at t p = option_map token_text (meaning t p)
 
--- `held` is a text; false if there is no map. If the map is in order, `held` is the text of the closest token.
+-- `held` is a text; false if there is no map. If the map is in order, `held` is the text of the closest token
+-- (`text_at`).
 abbrev pub HoldsTextAt : ℕ × ℕ → Option MapTree → (held : Option (List ℕ)) → Type 0
 HoldsTextAt p None held = ⊥
 HoldsTextAt p (Some t) held = (text : List ℕ) × (held ≡ Some text) × (IsInOrder t → text_at t p ≡ Some text)

@@ -19,7 +19,7 @@ use sourcemap_c_handles::errors::{ErrorReport, Failure, Outcome, finish};
 use sourcemap_c_handles::{Handle, Held};
 use std::alloc::Global;
 
-// The parts of an index map besides its sections.
+// The parts of an index map besides its sections and its debug id.
 #[derive(Drop)]
 struct Parts {
     file: Option<String>,

@@ -19,7 +19,8 @@ pub record Origin : Type 0 where
   pub name : ℕ
   pub is_range : Bool
 
--- the columns from a range token to a position on its line; 0 for any other token, and for a position on another line
+-- the columns from a range token to a position on its line; 0 for any other token, for a position on another line, and
+-- for a position before the token
 abbrev pub distance : RawToken → ℕ × ℕ → ℕ
 distance token p = if token.is_range && (token.dst_line == p.0) then p.1 - token.dst_col else 0
 

@@ -20,6 +20,7 @@ has_map_keys keys =
 abbrev pub is_map : Data → Bool
 is_map d = option_map_or has_map_keys (minimal_of d) false
 
--- after the junk header, if there is one, the bytes are the JSON text of a value with the keys of a source map
+-- after the junk header, if there is one, the bytes can be read as JSON (`HoldJson`), and their value has the keys of a
+-- source map
 abbrev pub AreMap : List ℕ → Type 0
 AreMap bytes = (d : Data) × HoldJson bytes d × IsTrue (is_map d)

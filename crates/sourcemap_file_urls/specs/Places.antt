@@ -37,7 +37,7 @@ end_text folder parts = if folder || (length parts == 0) then codes "/" else []
 abbrev pub escaped : List (List ℕ) → List ℕ
 escaped parts = flat_map (λ part. codes "/" ++ percent_encode ESCAPED part) parts
 
--- the text of the URL of a path
+-- the text that is parsed to the URL of a path; it still contains each `..` of the path
 abbrev pub url_text : List ℕ → Bool → List ℕ
 url_text path folder = codes "file://" ++ escaped (components path) ++ end_text folder (components path)
 
@@ -65,7 +65,7 @@ NamesPath base reference (Ok None) = (named_path base reference ≡ None) ⊎ Is
 NamesPath base reference (Ok (Some path)) = named_path base reference ≡ Some path
 NamesPath base reference (Err e) = e ≡ OutOfMemory
 
--- a reference resolved by the URL Standard against the `file` URL of `path`; an error if the text of this `file` URL is
+-- a reference resolved by `parse_url` against the `file` URL of `path`; an error if the text of this `file` URL is
 -- rejected, or if the reference is rejected
 abbrev pub joined : List ℕ → Bool → List ℕ → Parsed Parts
 joined path folder reference = and_then (parse_url None (url_text path folder)) (λ base. parse_url (Some base) reference)

@@ -31,7 +31,8 @@ steps_up above = flat_map (λ part. codes "../") above
 abbrev pub or_dot : List ℕ → List ℕ
 or_dot text = if length text == 0 then codes "." else text
 
--- the path of a target relative to the folder of a base
+-- the path of a target relative to the folder of a base. Both paths should be absolute, or both relative, and no part
+-- of the folder should be `.` or `..`. Otherwise the result may lead to another file
 abbrev pub relative_path : List ℕ → List ℕ → List ℕ
 relative_path base target =
     let apart = after_common (folder_parts base) (parts target) in

@@ -10,8 +10,8 @@ use Rattle.sourcemap_errors.specs.declared.errors.Error.TheVariants.{OutOfMemory
 abbrev pub IsLong : ℕ → Type 0
 IsLong size = 2 ^ 28 ≤ size
 
--- the result for texts that together have `size` bytes; `parsed` is the result by the URL Standard. A returned URL is
--- the URL in `parsed`. `None` is returned only if `parsed` is an error or the texts are long. The only error is
+-- the result for texts that together have `size` bytes; `parsed` is the result of `parse_url`. A returned URL is the
+-- URL in `parsed`. `None` is returned only if `parsed` is an error or the texts are long. The only error is
 -- `OutOfMemory`
 abbrev pub ReadsAs : ℕ → Parsed Parts → Result (Option Parts) Error → Type 0
 ReadsAs size parsed (Ok (Some url)) = parsed ≡ Ok url

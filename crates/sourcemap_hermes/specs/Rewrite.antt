@@ -18,9 +18,9 @@ rewritten removal h = record {
   scopes = picked_scopes h.scopes (first_ids h.map);
 }
 
--- the result of `rewrite`. If it is a map, its regular map is a result of `SourceMap::rewrite`, and its scopes are the
--- scopes of the map `rewritten`. If it is an error, it is `Io` of kind `InvalidInput`: contents are to be loaded, but
--- neither `base_path` nor `current_dir` is absolute
+-- the result of `rewrite`, other than `OutOfMemory`. If it is a map, its regular map is a result of
+-- `SourceMap::rewrite`, and its scopes are the scopes of the map `rewritten`. If it is an error, it is `Io` of kind
+-- `InvalidInput`: contents are to be loaded, but neither `base_path` nor `current_dir` is absolute
 abbrev pub Rewrites : RewriteOptions → HermesValue → Result HermesValue Error → Type 0
 Rewrites options h (Ok new) = MapRewrites options h.map (Ok new.map) × (new.scopes ≡ picked_scopes h.scopes (first_ids h.map))
 Rewrites options h (Err e) = LacksFolder options e

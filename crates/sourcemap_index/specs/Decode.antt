@@ -34,8 +34,8 @@ PartsDecode fields sections answer =
     (answer ≡ Err IncompatibleSourceMap)
     (Then (λ a. SectionsDecode sections a) (λ ss a. a ≡ Ok (index_in fields ss)) answer)
 
--- the index map that a record decodes to, or the error. A record without sections is an error, and its keys are not
--- decoded
+-- the index map that a record decodes to, or the error. A record without the key `sections` is an error, and its other
+-- keys are not decoded. An empty list of sections is no error
 abbrev pub IndexDecodes : Tree → Result IndexValue Error → Type 0
 IndexDecodes (plain fields) answer = answer ≡ Err IncompatibleSourceMap
 IndexDecodes (indexed fields sections) answer = PartsDecode fields sections answer

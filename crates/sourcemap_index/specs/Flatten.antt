@@ -49,7 +49,7 @@ RewriteAnswer options t answer = Then (FlatAnswer t) (λ m a. Rewrites options m
 -- `t` can be flattened. The tokens of the flat map have the positions and meanings in `flat_list t`, sorted stably by
 -- position. `m` has as many tokens as the flat map. The n-th token of `m` has the generated position and the meaning of
 -- the flat map's n-th token, but `without_removed` changes the meaning: the source loses the first prefix in `cuts`
--- that matches the source, and the name is removed if names are not kept
+-- that matches the source (`without_prefix`), and the name is removed if names are not kept
 abbrev pub SaysFlatLess : Removal → MapTree → MapValue → Type 0
 SaysFlatLess removal t m = (whole : MapValue) × (flat t ≡ Ok whole) × SaysFlat t whole × TokensMeanLess removal whole m
 
@@ -59,8 +59,8 @@ abbrev pub MeansFlatLess : Removal → MapTree → MapValue → Type 0
 MeansFlatLess removal t m = (whole : MapValue) × (flat t ≡ Ok whole) × MeansLess removal whole m
 
 -- `t` can be flattened. If a position has a meaning in `t`, the position has this meaning in `m`, changed by
--- `without_removed`: the source loses the first prefix in `cuts` that matches the source, and the name is removed if
--- names are not kept
+-- `without_removed`: the source loses the first prefix in `cuts` that matches the source (`without_prefix`), and the
+-- name is removed if names are not kept
 abbrev pub AnswersLess : Removal → MapTree → MapValue → Type 0
 AnswersLess removal t m =
     (whole : MapValue) × (flat t ≡ Ok whole)

@@ -1,4 +1,4 @@
--- The section that a position is looked up in, and the tokens that a lookup may find.
+-- The sections in a list, and the tokens that a lookup may find.
 use Rattle.std.specs.Prelude.{◌≡◌, ◌⊎◌, ℕ, List, Some, slice_get}
 use Rattle.sourcemap_map_regular.specs.Token.{TokenValue, lookup as lookup_regular}
 use Rattle.sourcemap_index_model.specs.MapTree.{MapTree, leaf, index, held, MapSections, no_sections, hollow, filled, MapSection}

@@ -102,7 +102,7 @@ impl SourceMapIndex {
     }
 
     // The number of tokens in the maps of all sections, without those in nested index maps. It is
-    // only a capacity, which saves reallocations: no result depends on it.
+    // only a capacity, which saves reallocations.
     fn token_capacity(&self) -> usize {
         let mut capacity: usize = 0;
         for section in &self.sections {
@@ -133,7 +133,8 @@ impl SourceMapSection {
 }
 
 impl DecodedMap {
-    // The number of tokens of a regular map or a Hermes map; 0 for an index map.
+    // The number of tokens of a regular map or a Hermes map, at most 4294967295; 0 for an index
+    // map.
     fn token_capacity(&self) -> usize {
         match self {
             DecodedMap::Regular(map) => map.get_token_count() as usize,
@@ -142,7 +143,8 @@ impl DecodedMap {
         }
     }
 
-    // Adds the map to `gathering`. The tokens of the map are moved by the offset (`line`, `col`).
+    // Adds the map to `gathering`. All tokens of the map move down by `line`. The tokens on line 0
+    // of the map also move right by `col`.
     #[cycle(flatten)]
     fn gather<'a>(
         &'a self,

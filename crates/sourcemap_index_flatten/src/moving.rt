@@ -97,7 +97,8 @@ pub(crate) fn move_all(
     Ok(())
 }
 
-// Adds to `all` the new source id of each token whose old source id is in `ignored`.
+// Adds to `all` the new source id of each token whose old source id is in `ignored`. If `sources`
+// has no new id for such a token, adds `NO_ID`.
 pub(crate) fn add_ignored(
     all: &mut BTreeSet<u32>,
     tokens: &[RawToken],

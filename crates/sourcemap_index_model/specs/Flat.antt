@@ -49,7 +49,7 @@ token_in pieces piece t = record t {
   name_id = number_in (names_in pieces) (name_of piece.1 t.name_id);
 }
 
--- the new source ids of the tokens whose source is on the ignore list of their map
+-- the new source ids of the tokens whose source id is on the ignore list of their map
 abbrev pub ignored_in : List Piece → Piece → List ℕ
 ignored_in pieces piece =
     map (λ t. (token_in pieces piece t).src_id)

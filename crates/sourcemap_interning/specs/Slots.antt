@@ -39,13 +39,14 @@ abbrev pub AreRight : List (List ℕ) → List Slot → Type 0
 AreRight texts slots =
     (slot_index : ℕ) (slot : Slot) → slice_get slots slot_index ≡ Some slot → slot.number ≢ 4294967295 → IsRight texts slot
 
--- the `count` slots from `start` on are taken, each by a text other than `text`
+-- the `count` slots from `start` on are taken, none of them by `text`
 abbrev pub ArePassed : List (List ℕ) → List Slot → ℕ → List ℕ → ℕ → Type 0
 ArePassed texts slots start text count =
     (k : ℕ) → k < count → (slot : Slot) × (slice_get slots (start + k) ≡ Some slot) × (slot.number ≢ 4294967295)
     × (slice_get texts slot.number ≢ Some text)
 
--- the result of a search for a text in the 32 slots from `start` on
+-- a possible result of a search for a text in the 32 slots from `start` on. `Found number` says only that `texts` has
+-- the text at `number`
 abbrev pub IsProbed : List (List ℕ) → List Slot → ℕ → List ℕ → Probe → Type 0
 IsProbed texts slots start text (Found number) = slice_get texts number ≡ Some text
 IsProbed texts slots start text (Free slot_index) =

@@ -13,7 +13,7 @@ use std::alloc::{AllocError, Global};
 use std::collections::BTreeMap;
 use std::marker::Model;
 
-// The mask of a new index. A mask is one less than the number of slots at which a search can start.
+// The mask of a new index. A search starts at the slot `hash & mask`.
 const FIRST_MASK: usize = 31;
 
 /// Texts that are numbered in the order in which they first occur. A search starts at the slot that
@@ -24,7 +24,7 @@ pub struct TextIndex<'a> {
     // the texts, by number
     texts: Vec<&'a str>,
     slots: Vec<Slot>,
-    // one less than the number of slots at which a search can start
+    // a search starts at the slot `hash & mask`
     mask: usize,
     // the numbers of the texts that found no free slot
     others: BTreeMap<&'a str, u32>,
@@ -104,8 +104,8 @@ impl<'a> TextIndex<'a> {
         Ok(number)
     }
 
-    // Grows the table if the number of texts is at least half the number of slots at which a search
-    // can start. The texts and their numbers stay the same, also after an error.
+    // Grows the table if the number of texts is at least half of `mask + 1`. The texts and their
+    // numbers stay the same, also after an error.
     fn grow(&mut self) -> Result<(), AllocError>
         ensures { self.new ≡ self.old }
     {

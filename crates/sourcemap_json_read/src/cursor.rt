@@ -158,7 +158,8 @@ fn skip_comma_at(text: &[u8], at: usize) -> Position
     }
 }
 
-// The token that starts at `position`, and the position after it.
+// The token that starts at `position`, and the position after it. White space after a string is
+// skipped too, and then the colon of a key.
 #[inline(always)]
 fn read_step(
     alloc: Global,

@@ -52,7 +52,8 @@ pub record IsLineTable (tokens : List RawToken) (n : ℕ) (table : LineTable) : 
 abbrev pub IsTableOf : List RawToken → LineTable → Type 0
 IsTableOf tokens table = AreInOrder tokens × IsLineTable tokens (length tokens) table
 
--- if the tokens are sorted, those on the line are the tokens from index `low` up to, not including, `high`
+-- if the tokens are sorted, those on the line are the tokens from index `low` up to, not including, `high`. If there
+-- are none, both are the index of the first token on a later line, or the token count if there is no such token
 pub record IsSpan (tokens : List RawToken) (line low high : ℕ) : Type 0 where
   pub ordered : low ≤ high
   pub inside : high ≤ length tokens
@@ -69,7 +70,7 @@ Rises number low high = (index : ℕ) → low ≤ index → index + 1 < high →
 abbrev pub col_at : List RawToken → RawToken → ℕ → ℕ
 col_at tokens d index = (slice_index_or tokens index d).dst_col
 
--- the number of binary digits of n, or `most` if there are more
+-- the number of binary digits of n (0 for n = 0), or `most` if there are more
 abbrev pub digits_within : (most n : ℕ) → ℕ
 digits_within zero n = 0
 digits_within (suc most) n = if n == 0 then 0 else suc (digits_within most (n / 2))

@@ -6,6 +6,6 @@ use Rattle.sourcemap_line_index.specs.declared.probe.KeyProbe.{KeyProbe}
 abbrev pub key_of : KeyProbe → ℕ × ℕ
 key_of probe = (probe.line, probe.col)
 
--- the number of comparisons that the probe has made
+-- the number of comparisons that the probe has made, at most 4294967295
 abbrev pub comparisons_of : KeyProbe → ℕ
 comparisons_of probe = probe.count

@@ -47,7 +47,7 @@ pub record HasFewItems (r : Fields) : Type 0 where
   pub names : length (list_or_empty r.names) ≤ 4294967295
   pub contents : length (list_or_empty r.sources_content) ≤ 4294967295
 
--- the tokens of a record's mappings, or the first error of the mappings
+-- the tokens of a record's `mappings` and `rangeMappings`, or the first error of these two texts
 abbrev pub TokensAnswer : Fields → Result (List RawToken) Error → Type 0
 TokensAnswer r answer = MappingsAnswer (list_or_empty r.mappings) (list_or_empty r.range_mappings)
     (record { sources = length (list_or_empty r.sources); names = length (list_or_empty r.names) }) answer

@@ -23,8 +23,8 @@ RecordDecodes r (Err e) = ((¬ HasFewItems r) × (e ≡ IncompatibleSourceMap)) 
 
 -- The records of regular maps.
 
--- whether the record encodes a regular map: it has neither the sections of an index map nor the function names of a
--- Hermes map
+-- whether the record encodes a regular map: it has neither `sections` nor `x_facebook_sources`, not even as an empty
+-- list
 abbrev pub is_regular : Tree → Bool
 is_regular (plain fields) = is_none fields.x_facebook_sources
 is_regular (indexed _ _) = false

@@ -22,8 +22,8 @@ IsRecordOf m t =
     × IsWritten (length m.names) m.tokens mappings × IsRangeText m.tokens ranges
     × (t ≡ plain (record_with m mappings ranges))
 
--- `back` has the parts of `m`. It may lack repeated tokens, name ids that name nothing, and contents that belong to no
--- source
+-- `back` has the parts of `m`, except that its tokens are `reduced`: they lack repeated tokens and name ids that name
+-- nothing. Contents that belong to no source may differ
 pub record KeepsParts (back m : MapValue) : Type 0 where
   pub tokens : back.tokens ≡ reduced (length m.names) m.tokens
   pub file : back.file ≡ m.file

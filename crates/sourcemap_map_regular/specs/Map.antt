@@ -58,7 +58,8 @@ source_of m id = slice_get (resolved_sources m) id
 abbrev pub name_of : MapValue → ℕ → Option (List ℕ)
 name_of m id = slice_get m.names id
 
--- the contents of a source, if the map has them
+-- the contents that the map has for this source id, if it has any. The map may have contents for an id even if no
+-- source has this id
 abbrev pub contents_of : MapValue → ℕ → Option (List ℕ)
 contents_of m id = item_at m.contents id
 

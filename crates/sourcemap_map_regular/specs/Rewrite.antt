@@ -43,7 +43,8 @@ abbrev pub contents_for : MapValue → List ℕ → Option (List ℕ)
 contents_for m text = slice_get (present (map (contents_if m text) m.tokens)) 0
 
 -- the prefixes to remove. `~` means the common prefix of all sources that are absolute paths. The common prefix is
--- computed before sources are resolved against the root
+-- computed before sources are resolved against the root. It is the last prefix of the list, and is left out if it is
+-- empty or `/`
 abbrev pub cuts : Removal → MapValue → List (List ℕ)
 cuts removal m = all_prefixes removal.prefixes m.sources
 
@@ -92,8 +93,8 @@ Rewrites options m (Err e) = LacksFolder options e
 
 -- Meaning.
 
--- the meaning `says`, with two changes: the first matching prefix of `cuts removal m` is removed from the source, and
--- the name is removed if names are not kept
+-- the meaning `says`, with two changes: the first matching prefix of `cuts removal m` is removed from the source
+-- (`without_prefix`), and the name is removed if names are not kept
 abbrev pub without_removed : Removal → MapValue → Meaning → Meaning
 without_removed removal m says = record says {
   source = option_map (without_prefix (cuts removal m)) says.source;

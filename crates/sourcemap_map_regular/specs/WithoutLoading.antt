@@ -1,4 +1,4 @@
--- A rewriting that loads no contents has one possible result, and its only error is `OutOfMemory`.
+-- A rewriting without `load_local_source_contents` has one possible result, and its only error is `OutOfMemory`.
 use Rattle.std.specs.Prelude.{◌≡◌, false, MatchBool, Result, Ok, Err}
 use Rattle.std.proofs.Common.{ap, sym, subst, ◌∙◌}
 use Rattle.sourcemap_errors.specs.Answer.{Gives, IsAnswer}

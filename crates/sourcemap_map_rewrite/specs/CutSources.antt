@@ -5,8 +5,8 @@ use Rattle.std.specs.Str.{bytes_eq}
 use Rattle.sourcemap_texts.specs.Paths.{common_prefix}
 use Rattle.sourcemap_map_rewrite.specs.Kept.{present}
 
--- the common prefix of the absolute paths among the texts; `None` if `~` is not one of the prefixes, or if there is no
--- common prefix
+-- the common prefix of the absolute paths among the texts; `None` if `~` is not one of the prefixes, or if the common
+-- prefix is empty or `/` alone
 abbrev pub common_if : (prefixes texts : List (List ℕ)) → Option (List ℕ)
 common_if prefixes texts =
     cond (list_any (λ prefix. bytes_eq prefix (codes "~")) prefixes) (common_prefix texts) None

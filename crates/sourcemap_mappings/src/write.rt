@@ -116,7 +116,8 @@ fn put_gap(
 }
 
 // Writes the segment of a token into the buffer from index `start` on, relative to `against`.
-// Returns the index after the segment. The next segment is relative to the new value of `against`.
+// Returns the index after the segment. The next segment on the line is relative to the new value of
+// `against`.
 #[inline(always)]
 fn put_segment(
     buffer: &mut [u8; BUFFER_SIZE],

@@ -262,7 +262,7 @@ pub record AreInRange (fields : Fields) : Type 0 where
 abbrev pub IsSectionHeadInRange : SectionHead → Type 0
 IsSectionHeadInRange head = FitsU32 head.line × FitsU32 head.column
 
--- numbers are below 2^32 and a debug id has 16 bytes, as in every record in memory
+-- numbers outside `file` and `names` are below 2^32, and a debug id has 16 bytes, as in every record in memory
 abbrev mutual
   pub IsInRange : Tree → Type 0
   IsInRange (plain fields) = AreInRange fields

@@ -1,4 +1,4 @@
-// Records from JSON values. Each string is moved out of its value.
+// Records from JSON values. Strings are moved, not copied.
 ghost use Rattle.std.specs.Prelude.{◌≡◌, ℕ, List, Some, map, option_map, codes, false, OnOk};
 ghost use Rattle.std.specs.Str.{bytes_eq};
 ghost use Rattle.serde_json.specs.Find.{get_member};

@@ -1,6 +1,6 @@
 // Records as JSON values. The strings of a record are moved into the JSON value, not copied. The
-// clauses `in_range` say that numbers are below 2^32 and that a debug id has 16 bytes. Without
-// these bounds a JSON value might not read back.
+// clauses `in_range` say that numbers outside of `file` and `names` are below 2^32, and that a
+// debug id has 16 bytes. Without these bounds a JSON value might not read back.
 ghost use Rattle.std.specs.Prelude.{◌≡◌, map, option_map, IfOk, IfErr, IfSome, OnOk};
 ghost use Rattle.std.specs.List.{AllByRecursion};
 ghost use Rattle.serde_json.specs.Data.{array};

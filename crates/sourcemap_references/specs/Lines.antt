@@ -36,7 +36,7 @@ pub record AreUnmarked (text : List ℕ) (end : ℕ) : Type 0 where
   pub within : end ≤ length text
   pub left : first_reference text ≡ if_text (take end text) (first_on (lines_after text end))
 
--- the property holds of the first line with a mark, if there is such a line
+-- the property holds of the first line with a mark, if a line that was read has a mark
 abbrev pub IfMarked : Lines → (Line → Type 0) → Type 0
 IfMarked (Marked line) Holds = Holds line
 IfMarked (Unmarked _) Holds = Unit {0}

@@ -9,7 +9,7 @@ use Rattle.sourcemap_errors.specs.declared.errors.Error.TheVariants.{OutOfMemory
 use Rattle.sourcemap_file_urls.specs.Places.{resolved_file_path}
 use Rattle.sourcemap_file_urls.specs.Urls.{IsLong}
 
--- a URL that contains the source map itself
+-- the URL starts with `data:`, in lower case. Such a URL contains the source map itself
 abbrev pub is_data_url : List ℕ → Bool
 is_data_url url = starts_with nat_eq url (codes "data:")
 

@@ -205,7 +205,7 @@ fn is_end(byte: u8) -> bool
     byte == b'\n' || byte == b'\r'
 }
 
-// The length in bytes of the line terminator at the start of a text.
+// The length in bytes of the line terminator at the start of a text: 2 for CRLF, otherwise 1.
 fn terminator_length(text: &[u8]) -> usize
     ensures { result ≡ (cond (starts_with_crlf text.now) 2 1) }
 {

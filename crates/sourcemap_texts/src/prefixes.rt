@@ -24,7 +24,7 @@ fn after_prefix<'a>(text: &'a str, prefix: &str) -> Option<&'a str>
     rest.strip_prefix("/")
 }
 
-// The rest of the text after the first prefix that matches, `None` if no prefix matches.
+// The result of `after_prefix` for the first prefix that matches, `None` if no prefix matches.
 fn after_first_prefix<'a, S: AsStr>(text: &'a str, prefixes: &[S]) -> Option<&'a str>
     ensures { unwrap_or (option_copied result) text.now
         ≡ without_prefix (map S.text prefixes.now) text.now }

@@ -1,4 +1,4 @@
--- The answers to a list of positions: one line for each line of the list, in order.
+-- The answers to a list of positions: one answer for each line of the list, in order.
 use Rattle.std.specs.Prelude.{ℕ, List, ◌++◌, codes, flat_map, Option, Some, None}
 use Rattle.sourcemap.specs.Token.{token_text}
 use Rattle.sourcemap.specs.Types.{Meaning}

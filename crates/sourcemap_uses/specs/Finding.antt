@@ -28,8 +28,8 @@ file_at (Some path) = file path
 file_at None = nowhere
 
 -- the file that `url` resolves to against `path`, the path of the text that has the URL. The answer is `nowhere` if
--- `resolved_path` is `None`. The answer may also be `nowhere` if the `file` URL of `path` and `url` together have 2^28
--- bytes or more (`IsLongJoin`). The only error is `OutOfMemory`
+-- `resolved_path` is `None`. The answer may also be `nowhere` if the `file` URL of `path` has 2^28 bytes or more, or if
+-- `url` and the parsed `file` URL together have 2^28 bytes or more (`IsLongJoin`). The only error is `OutOfMemory`
 abbrev pub FileOfUrl : List ℕ → List ℕ → Result FoundValue Error → Type 0
 FileOfUrl url path answer =
     Then (UnlessLong (resolved_path path url) (IsLongJoin (url_text path false) url)) (λ found a. a ≡ Ok (file_at found)) answer

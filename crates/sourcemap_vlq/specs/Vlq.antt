@@ -79,7 +79,7 @@ pub record GoesTo (text part : List ℕ) (c : ℕ) : Type 0 where
   pub split : text ≡ part ++ c ∷ more
   pub unfinished : IsUnfinished part
 
--- the first number of a text has this error
+-- the first number of a text has this error; an empty text has the error `VlqLeftover`
 abbrev pub NumberError : List ℕ → Error → Type 0
 NumberError text (InvalidBase64 c) = (part : List ℕ) × GoesTo text part c × (digit_value c ≡ None)
 NumberError text VlqOverflow = (part : List ℕ) × (c : ℕ) × GoesTo text part c × (digit_value c ≢ None) × ¬ FitsOneNumber (part ++ c ∷ [])

@@ -101,8 +101,8 @@ fn two_digits(text: &[u8]) -> Option<(i64, &[u8])>
     Some((number_from(raw), tail))
 }
 
-// Decodes a number of any length. A call would need stack space for its result. The caller would
-// reserve this space on its fast paths too. So the function is inlined.
+// Decodes a number of at most thirteen digits. A call would need stack space for its result. The
+// caller would reserve this space on its fast paths too. So the function is inlined.
 #[inline(always)]
 fn long_number(text: &[u8]) -> Result<(i64, &[u8])>
     ensures number { IfOk result (λ read. BeginsWith text.now read.0 read.1.now) }
