@@ -1,5 +1,5 @@
--- On the lines of a module, its map has the meaning of the flat map. This holds wherever the closest token of
--- the flat map is on these lines too.
+-- In the text of a module, its map has the meaning of the flat map. This holds wherever the closest token of the flat
+-- map is in this text too.
 use Rattle.std.proofs.Common.{◌≡◌, ◌∙◌, refl, sym, ap, subst, ℕ, ◌+◌, ◌-◌, ◌<◌, ◌≤◌, ◌==◌, ◌&&◌, List, [], ◌∷◌, length, map, filter, Bool, true, false, cond, not, nat_lt, nat_eq, Option, Some, None, option_map, unwrap_or, slice_get, arith}
 use Rattle.std.specs.List.{AllByRecursion}
 use Rattle.std.proofs.lemmas.Bool.{eqb-true}

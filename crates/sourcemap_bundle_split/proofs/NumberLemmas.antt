@@ -78,7 +78,7 @@ met-fold count (x ∷ more) ids zero id at below =
     (met.0, stays-fold count more (with_id count ids x) id met.0 (subst (λ y. number_of (with_id count ids y) id ≡ Some met.0) (sym first) met.1))
 met-fold count (x ∷ more) ids (suc k) id at below = met-fold count more (with_id count ids x) k id at below
 
--- Each used id is below the count, and none comes twice.
+-- Each id of `used_ids` is below the count, and none comes twice.
 
 list_any-append : (q : ℕ) (ids : List ℕ) (k : ℕ) → list_any (nat_eq q) (ids ++ k ∷ []) ≡ true → (list_any (nat_eq q) ids ≡ true) ⊎ (q ≡ k)
 list_any-append q [] k any = inr (grind (arith, nat_tests, any))
@@ -158,7 +158,8 @@ any-number (x ∷ ids) id n found = by_cases (x == id) (number_of ids id) refl r
     by_cases false (Some m) b is rest =
         let same : nat_eq id x ≡ false = grind (arith, nat_tests, b) in rw same (rest m is)
 
--- the text at the number of a used id is the text at the id; if the id names nothing, neither does its number
+-- the text at the number of a used id is the text at the id; an id that names nothing has no number, and `no_id` names
+-- nothing either
 pub text_by_number : (texts : List (List ℕ)) (ids : List ℕ) (k id : ℕ) → length texts ≤ 4294967295 → slice_get ids k ≡ Some id
     → slice_get (texts_at texts (used_ids (length texts) ids)) (unwrap_or (number_of (used_ids (length texts) ids) id) no_id) ≡ slice_get texts id
 text_by_number texts ids k id few at = by_index (slice_get_cases texts id).1

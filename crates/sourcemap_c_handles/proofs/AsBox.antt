@@ -1,4 +1,4 @@
--- A seal and its parts own what a box of the same types owns.
+-- A full seal and its parts own what a box of the same types owns.
 use mir.Syntax.{impl, tnil, dnil}
 use mathlib.Core.List.{[]}
 use denote.Signature.{Slot, plain}

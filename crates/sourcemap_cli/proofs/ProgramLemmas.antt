@@ -384,7 +384,7 @@ refusal_alike : (e f : Error) (text : List ℕ) → IsSameError e f → IsRefusa
 refusal_alike (Io e) (Io f) text same h = h
 refusal_alike e f text same h = subst (λ x. IsRefusal x text) same h
 
--- bytes decode to one map or one error, and so does a file
+-- bytes decode to one map or one error, and so does a file; of two `Io` errors only the kinds are compared
 decoded_alike : (a b : Result MapTree Error) → AreSame a b → PrintAlike a b
 decoded_alike (Ok t) (Ok u) same = same
 decoded_alike (Err e) (Err f) same = λ text refused. refusal_alike e f text same refused
@@ -490,7 +490,7 @@ reported_is_cut_short : (words : List (List ℕ)) (e reported : Error) → (repo
 reported_is_cut_short words e reported (inl same) h = subst (λ x. IsCutShort words x) (sym same) h
 reported_is_cut_short words e reported (inr out) h = out_of_memory words reported out
 
--- the reply was printed, or the error instead of it
+-- unless writing failed, the reply was printed, or an error instead of it
 pub runs : (words : List (List ℕ)) (input : Option (List ℕ)) (made : Result Reply Error)
     (old new : Option (List ℕ)) (result : Result ℕ Error)
     → Reading input (λ bytes. WithFile None (λ file. MatchResult made (IsReplyTo words bytes file) (IsCutShort words)))

@@ -73,15 +73,16 @@ module _ (removal : Removal) (h : HermesValue) (few : length h.map.sources ≤ 4
   }
 
   module _ (well : IsWellFormed h) (distinct : HasDistinctSources h) where
-    -- what holds of each token of the map: the rewritten map keeps its source and its name, and the token is
-    -- within the counts
+    -- what holds of each token of the map: its source, if any, is among the used sources, and its name, if any, among
+    -- the used names. The token is within the counts
     abbrev IsOwn : RawToken → Type 0
     IsOwn t = IsKept h.map t × IsWithin (length h.map.sources) (length h.map.names) t
 
     all_own : AllByRecursion IsOwn h.map.tokens
     all_own = All-both (IsKept h.map) (IsWithin (length h.map.sources) (length h.map.names)) h.map.tokens (all_tokens_kept h.map) well.map
 
-    -- the source at the new id `index` had the old id `id`, or neither id has scopes
+    -- the source at the new id `index` had the old id `id`, or no source has the new id `index` and the old id `id` has
+    -- no scopes
     abbrev StandsFor : ℕ → ℕ → Type 0
     StandsFor index id =
         (slice_get (first_ids h.map) index ≡ Some id)

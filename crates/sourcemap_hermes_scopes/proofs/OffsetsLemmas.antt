@@ -58,8 +58,8 @@ line_offsets-append before here (x ∷ xs) ys =
     (line_offsets-append before (here ++ x ∷ []) xs ys
     ∙ ap (λ zs. line_offsets before (here ++ x ∷ []) xs ++ line_offsets before zs ys) (append_assoc here (x ∷ []) xs))
 
--- of the parts `all` of a line, those before the suffix `left` are decoded;
--- `before` has the segments of earlier lines, `here` those of this line so far
+-- what holds when, of the parts `all` of a line, those before the suffix `left` are decoded; `before` has the segments
+-- of earlier lines, `here` those of this line so far
 pub record PartsSoFar (before : List Segment) (all left : List (List ℕ)) (old new : List HermesScopeOffset) (last : HermesScopeOffset) : Type 0 where
   pub here : List Segment
   pub read : (later : List Segment) → SegmentsRead left later → SegmentsRead all (here ++ later)
@@ -106,7 +106,7 @@ AddsOffsets-all before all old new last so_far = record {
 
 -- Lines.
 
--- of the lines `all`, those before the suffix `left` are decoded
+-- what holds when, of the lines `all`, those before the suffix `left` are decoded
 pub record LinesSoFar (all left : List (List ℕ)) (offsets : List HermesScopeOffset) (last : HermesScopeOffset) : Type 0 where
   pub before : List Segment
   pub decoded_lines : List (List Segment)

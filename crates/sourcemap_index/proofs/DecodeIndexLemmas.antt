@@ -27,7 +27,7 @@ use Rattle.sourcemap_index.specs.declared.family.DecodedMap.{DecodedMap}
 use Rattle.sourcemap_index.specs.declared.family.SourceMapIndex.{SourceMapIndex}
 use Rattle.sourcemap_index.specs.Decode.{SectionDecodes, PartsDecode, IndexDecodes, index_in, index_with}
 
--- ---- how many sections a record holds, at all levels
+-- how many sections and lists of sections a record holds, at all levels
 
 abbrev mutual
   pub sections_below : Tree → ℕ
@@ -93,7 +93,7 @@ prepend-more done v (Err e) = refl
 
 -- ---- the kinds
 
--- a record with scopes of its sources is decoded to a Hermes map, one without them to a regular map
+-- a record without sections is decoded to a Hermes map if it has scopes of its sources, otherwise to a regular map
 module _ (fields : Fields) where
   hermes_made : (scopes : Option (List ScopeEntry)) (h : HermesValue) → DecodesWith fields scopes (Ok h) → LeafDecodes fields scopes (Ok (leaf (hermes h)))
   hermes_made None h k = absurd cc

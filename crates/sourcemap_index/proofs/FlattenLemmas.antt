@@ -66,7 +66,7 @@ pieces-next before s rest = by_map s.map
     by_map None = refl
     by_map (Some t) = by_flat (flat t)
 
--- all sections but `rest` are gathered
+-- the pieces gathered in `g`, and then the sections in `rest`, have the same result as all sections
 abbrev pub SoFar : (all rest : List MapSection) → Gathering → Type 0
 SoFar all rest g = (pieces : List Piece) × (pieces_after [] (sections_from all) ≡ pieces_after pieces (sections_from rest)) × Gathers pieces g
 

@@ -38,7 +38,7 @@ absolute_lt (a, b) (c, d) (e, f) = grind (arith, nat_tests)
 pub absolute_eq : (o p q : ℕ × ℕ) → is_eq (position_cmp (absolute_position o p) (absolute_position o q)) ≡ is_eq (position_cmp p q)
 absolute_eq (a, b) (c, d) (e, f) = grind (arith, nat_tests)
 
--- a position at or after the offset, made relative and then absolute again, is unchanged
+-- a line at or after the line of the offset, made relative and then absolute again, is unchanged
 absolute_line : (a c : ℕ) → a ≤ c → c - a + a ≡ c
 absolute_line a c h = omega arith
 

@@ -58,7 +58,7 @@ module _ {X Y K L : Type 0} (key : X → K) (cmp : K → K → Ordering) (key' :
   sorted_by-change [] = refl
   sorted_by-change (x ∷ xs) = ap (insert_by key' cmp' (change x)) (sorted_by-change xs) ∙ insert_by-change x (sorted_by key cmp xs)
 
--- If two lists have the same keys, one is sorted if the other is.
+-- If two lists have the same keys in the same order, one is sorted if the other is.
 
 module _ {X K : Type 0} (key : X → K) (lt : K → K → Bool) where
   Rises-keys : (xs : List X) → Rises (λ x y. lt (key x) (key y)) xs → Rises lt (map key xs)

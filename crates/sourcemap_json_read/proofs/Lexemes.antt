@@ -165,7 +165,7 @@ pub null_word : IsWordOf null null_text
 unfolding lex word
 null_word rest e = after_literal null rest e
 
--- the token is a value by itself
+-- the token is a value by itself, whatever lexemes follow
 abbrev pub IsValue : Token → Type 0
 IsValue t = (p : Place) (ls : List Lexeme) → may_begin p ≡ true → punctuate p (token t ∷ ls) ≡ t ∷ punctuate after_value ls
 

@@ -32,7 +32,7 @@ closes_object text position after e o = closes_object_there _ (drop position.at 
 pub closes_array : (text : List ℕ) (position after : Position) → head (drop position.at text) ≡ 93 → Closes position after → tokens_from text position ≡ end_array ∷ tokens_from text after
 closes_array text position after e o = closes_array_there _ (drop position.at text) e o.0 ∙ after_closing text _ position after o
 
--- a string that begins at `position` and decodes to `s`; the lexemes after it are those from `at` on
+-- a string that begins at `position`, is allowed there and decodes to `s`; the lexemes after it are those from `at` on
 pub record IsStringAt (text : List ℕ) (position : Position) (s : List ℕ) (at : ℕ) : Type 0 where
   pub opens : head (drop position.at text) ≡ 34
   pub may : may_begin (grammar_state position.state) ≡ true

@@ -12,7 +12,7 @@ use Rattle.json.proofs.Printed.Strings.{escape_to_stop, escape_at}
 use Rattle.sourcemap_json_read.specs.Runs.{is_plain, is_stop}
 use Rattle.sourcemap_json_write.specs.declared.quoting.TheConstants.{LETTERS}
 
--- the table has the letter of each control byte
+-- the table has the letter of each control byte, and 0 for those that have none
 table_is : LETTERS ≡ map escape_letter (range_with_len 0 32)
 table_is = refl
 

@@ -103,7 +103,7 @@ module _ (tokens : List RawToken) (p : ℕ × ℕ) (low high index : ℕ) (up : 
   closest-at-index-inside e r still l true same back stepped a found = no_step index a (subst (λ k. SomeIff a (k ≤ index) (index - k)) stepped found) ∙ index-hit e r still l (sym same)
   closest-at-index-inside e r still l false same back stepped a found = index-miss (index-apart e r still l (sym same)) a (subst (λ k. SomeIff a (k ≤ index) (index - k)) stepped found)
 
-  -- the result is index if its token is at p, otherwise index - 1, and none if index is 0
+  -- the result is index if its token is at p. Otherwise it is index - 1, or none if index is 0
   pub closest-at-index : (e : RawToken) (n : ℕ) (r : ℕ × ℕ) → r ≡ q → (index < high → n ≡ index) → (b : Bool) → b ≡ is_eq (nat_cmp r.1 (get_or tokens n e).dst_col) → (back : ℕ) → back ≡ bool_byte (not (nat_lt index high && b))
       → (a : Option ℕ) → SomeIff a (back ≤ index) (index - back) → a ≡ option_map (λ found. found.0) (closest_token tokens p)
   closest-at-index e n r still here b same back stepped a found =

@@ -45,7 +45,8 @@ Remains-half most made size next half some counted halved r =
 pub Remains-end : (most made size : ℕ) → Remains most made size → made ≤ most
 Remains-end most made size r = let within = r.enough in omega arith
 
--- the numbers before index are below the key, and those from `left` indices later on are not
+-- if the numbers from `first` up to, not including, `end` do not fall, those before index are below the key, and those
+-- from `left` indices later on are not
 pub record IsWindow (number : ℕ → ℕ) (key first index left end : ℕ) : Type 0 where
   pub before : first < index → number (index - 1) < key
   pub from : index + left < end → key ≤ number (index + left)

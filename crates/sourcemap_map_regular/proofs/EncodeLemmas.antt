@@ -29,7 +29,7 @@ use Rattle.sourcemap_map_regular.specs.Decode.{list_or_empty, name_read, source_
 use Rattle.sourcemap_map_regular.proofs.MapLemmas.{of_item, meaning-item}
 use Rattle.sourcemap_map_regular.specs.Encode.{KeepsParts, ReadsBack, Restores, RecordAnswer, record_with, written_ids}
 
--- Sorting sorted ids changes nothing.
+-- Sorting strictly sorted ids changes nothing.
 
 flipped : (x k : ℕ) → nat_cmp x k ≡ Less → nat_cmp k x ≡ Greater
 flipped x k e = grind (arith, nat_tests)

@@ -76,7 +76,7 @@ module _ (m : MapValue) (removal : Removal) (few_sources : length m.sources ≤ 
 
   -- Meaning.
 
-  -- what is true of all tokens is true of the closest one, if there is one
+  -- `P` is true of the token, if there is one
   abbrev IfSomeToken : (RawToken → Type 0) → Option RawToken → Type 0
   IfSomeToken P None = Unit {0}
   IfSomeToken P (Some t) = P t

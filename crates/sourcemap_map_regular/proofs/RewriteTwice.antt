@@ -1,4 +1,4 @@
--- Rewriting a second time by default options changes nothing.
+-- Rewriting twice by default options gives the same map as rewriting once.
 use Rattle.std.proofs.Common.{◌≡◌, refl, sym, ap, ◌∙◌, ℕ, ◌≤◌, List, [], ◌∷◌, length, map, Bool, true, false, cond, Some, None, Option, inl, inr, ◌⊎◌, option_map, option_and_then}
 use Rattle.std.specs.List.{AllByRecursion}
 use Rattle.std.specs.Option.{option_or}

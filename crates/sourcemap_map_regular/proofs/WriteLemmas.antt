@@ -1,4 +1,5 @@
--- A map has at most one record. Its text is shallow and has no fraction and no junk header, so it decodes.
+-- A map has at most one record. Its text is shallow and has no fraction and no junk header, so it decodes if the record
+-- does.
 use Rattle.std.proofs.Common.{◌≡◌, inl, ℕ, ◌+◌, length, ◌≤◌, List, [], ◌∷◌, map, Option, Some, None, option_map, Bool, true, false, ◌||◌, Ok, refl, sym, ap, ◌∙◌, subst, arith}
 use Rattle.std.specs.Ordering.{nat_cmp, match_ordering}
 use Rattle.std.specs.Cmp.Lexicographic.{slice_cmp}
@@ -22,7 +23,7 @@ use Rattle.sourcemap_map_regular.specs.Decode.{RecordDecodes, RegularDecodes}
 use Rattle.sourcemap_map_regular.specs.Write.{IsText, IsEncoded, IsCompactTextOf}
 use Rattle.sourcemap_records.proofs.BytesLemmas.{value_of_record}
 
--- at most `n` levels, and no fraction
+-- at most `n` levels, and no floating-point number
 abbrev pub IsLow : ℕ → Data → Type 0
 IsLow n d = (depth d ≤ n) × (has_float d ≡ false)
 

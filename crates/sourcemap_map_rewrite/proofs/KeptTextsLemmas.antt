@@ -60,7 +60,7 @@ module _ (texts : List (List ℕ)) (n : NewNumbers) (is : AreNumbered texts n) (
           let within : k < length before = slice_get_within before k seen.text (slice_get-id_of seen.text before k e) in
           absurd (omega arith)
 
-  -- any other number belongs to a text that was moved
+  -- if `number` is not the next number, the text of `id` was moved
   old_text : number ≢ length before → (k : ℕ) × (id_of seen.text before ≡ Some k)
   old_text other = by_case (id_of seen.text before) refl
     where

@@ -1,4 +1,4 @@
--- The bytes in the buffer: digits of differences, all of them ASCII.
+-- The digits of differences in the buffer, all of them ASCII.
 use Rattle.std.proofs.Common.{◌≡◌, ℕ, ◌+◌, ◌-◌, ◌*◌, ◌^◌, ◌<◌, ◌≤◌, ◌==◌, Bool, true, false, nat_lt, Some, List, [], ◌∷◌, ◌++◌, length, slice_index, refl, sym, subst, ◌∙◌, arith, inl, inr, ℤ, pos, negsuc, unsigned_abs, ◌/◌, ◌%◌, take, set, ap}
 use Rattle.std.specs.List.{AllByRecursion}
 use Rattle.std.specs.Str.{IsAscii}
@@ -47,7 +47,8 @@ difference_near a b ha hb = elim (cases_lt a b) [
       rw is (omega arith)
 ]
 
--- if what is left of the raw value is below 32, it is the last digit of the difference
+-- if what is left of the raw value is below 32, it is the last digit of the difference. It can be 0 only if no digit
+-- comes before it
 pub Adds-last : (a b : ℕ) (old part : List ℕ) (left : ℕ) → a < 2 ^ 32 → b < 2 ^ 32 → AllByRecursion HasContinuation part → left < 32
     → raw_difference a b ≡ raw_of part + 2 ^ (5 * length part) * left → (0 < length part → 0 < left)
     → Adds (difference a b ∷ []) old (old ++ (part ++ glyph left ∷ []))

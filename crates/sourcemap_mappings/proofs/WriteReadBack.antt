@@ -1,4 +1,4 @@
--- Decoding the encoded texts gives the reduced list of tokens.
+-- Decoding the encoded texts of sorted tokens that satisfy `AllWithin` gives their reduced list.
 use Rattle.std.proofs.Common.{◌≡◌, ℕ, ◌+◌, ◌^◌, ◌||◌, ◌<◌, ◌≤◌, suc, zero, Bool, true, false, cond, List, [], ◌∷◌, ◌++◌, length, map, filter, Option, Some, None, Ok, refl, sym, ap, subst, ◌∙◌, inl, inr, append_assoc, append-nil, arith, add-zero, zero-add}
 use Rattle.std.specs.List.{join_with_byte, AllByRecursion, slice_index_or, last_or, list_any}
 use Rattle.std.specs.Option.{option_map_or}
@@ -53,7 +53,8 @@ carries_line sources names at before (t ∷ ts) all few few_names sound c =
     subst (λ (us : List RawToken). Carries names us (all ++ s ∷ later)) (append_assoc before (t ∷ []) ts)
     (subst (λ (ss : List Segment). Carries names ((before ++ t ∷ []) ++ ts) ss) (append_assoc all (s ∷ []) later) rest)
 
--- the bits of a text, from this index on, begin with the range flags of these tokens
+-- the bits of a text, from this index on, begin with the range flags of these tokens; a bit past the end of the text is
+-- false
 Flags : List ℕ → ℕ → List RawToken → Type 0
 Flags bits at ts = (k : ℕ) → k < length ts → bit_of bits (at + k) ≡ slice_index_or (map (λ t. t.is_range) ts) k false
 
@@ -332,7 +333,7 @@ texts_fit names tokens text (Some bits) some written is =
     each_beside (IsLine names ts) (FitBits ts) 0 (lines_of text) (lines_of bits) lines.0 fit
     (λ m h k. absurd (omega (arith, lines.1, ranges.1)))
 
--- the texts of sorted tokens decode to the reduced list
+-- the texts of sorted tokens that satisfy `AllWithin` decode to the reduced list
 pub reads_back : (sources names : ℕ) (tokens : List RawToken) (text : List ℕ) (ranges : Option (List ℕ))
     → sources < 2 ^ 32 → names < 2 ^ 32 → AreInOrder tokens → AllWithin sources names tokens → AllByRecursion IsSmall (without_repeats tokens)
     → Rises (without_repeats tokens) → filter (is_above (line_count tokens)) (without_repeats tokens) ≡ without_repeats tokens

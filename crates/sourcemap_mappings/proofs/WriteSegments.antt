@@ -114,8 +114,8 @@ IsLine-more names ts t part segment rises upto spelled line =
 
 -- The invariant of encoding.
 
--- the text so far, and what the next segment is relative to; `done` are the tokens so far, `previous` is the
--- last one
+-- the text so far, and what the next segment is relative to if it is on the same line; `done` are the tokens so far,
+-- `previous` is the last one
 pub record Writing (names : ℕ) (done : List RawToken) (previous : Option RawToken) (against : RawToken) (text : List ℕ) : Type 0 where
   pub walked : Walked against.dst_line done previous
   pub small : AllByRecursion IsSmall (without_repeats done)

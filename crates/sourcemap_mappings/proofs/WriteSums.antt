@@ -1,4 +1,4 @@
--- The sums of the written numbers give the tokens back, with `no_id` for name ids that name nothing.
+-- The sums of the written numbers give sound tokens (`IsSound`) back, with `no_id` for name ids that name nothing.
 use Rattle.std.proofs.Common.{◌≡◌, ℕ, ◌+◌, ◌-◌, ◌%◌, ◌^◌, ◌<◌, ◌≤◌, ◌==◌, ◌&&◌, nat_lt, nat_le, Bool, true, false, cond, List, [], ◌∷◌, ◌++◌, length, sum_by, Option, Some, None, ℤ, pos, unsigned_abs, refl, sym, ap, ◌∙◌, ⊎_elim, add-zero, arith, slice_get}
 use Rattle.std.specs.Option.{option_map_or}
 use Rattle.std.specs.List.{AllByRecursion}
@@ -47,7 +47,7 @@ sum_same k b all s was is =
 
 -- Tokens.
 
--- a token within the counts of sources and names, whose lines and columns have 32 bits
+-- a token that satisfies `IsWithin`, whose lines and columns have 32 bits
 pub record IsSound (sources names : ℕ) (t : RawToken) : Type 0 where
   pub dst_line : t.dst_line < 2 ^ 32
   pub dst_col : t.dst_col < 2 ^ 32
@@ -121,7 +121,7 @@ all_sound_from sources names [] few within small = tt
 all_sound_from sources names (t ∷ ts) few within small =
     (sound_by sources names t (has_source t) refl few within.0 small.0, all_sound_from sources names ts few within.1 small.1)
 
--- the sums over some segments, except for columns, are the fields that were written last, 0 if none was
+-- the sums over some segments, except for generated columns, are the fields that were written last, 0 if none was
 pub record Carries (names : ℕ) (before : List RawToken) (all : List Segment) : Type 0 where
   pub id : sum_at 1 all ≡ last_field has_source (λ t. t.src_id) before
   pub line : sum_at 2 all ≡ last_field has_source (λ t. t.src_line) before
@@ -172,7 +172,8 @@ Carries-more sources names at before all t few few_names sound c =
             name = sum_more 4 t.name_id _ all s (omega arith) c.name (ap (step_of 4) ns) ∙ sym (last_field-push_yes (has_name names) (λ u. u.name_id) before t name);
           }
 
--- with the segment of a token, the sum of the columns of its line is the column of the token
+-- with the segment of a token, the sum of the first numbers of the segments of its line is the generated column of the
+-- token
 pub column_more : (sources names at : ℕ) (before : List RawToken) (here : List Segment) (t : RawToken) → IsSound sources names t
     → sum_at 0 here ≡ last_field (is_on t.dst_line) (λ u. u.dst_col) before
     → sum_at 0 (here ++ segment_of names at before t ∷ []) ≡ t.dst_col

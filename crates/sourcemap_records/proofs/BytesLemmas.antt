@@ -1,4 +1,5 @@
--- Bytes and values have at most one result each. Results of inner calls are results of outer calls.
+-- If a record has at most one result, so have bytes and values. Of two `Io` errors only the kinds are compared. Results
+-- of inner calls are results of outer calls.
 use Rattle.std.proofs.Common.{◌≡◌, inl, inr, refl, sym, ◌∙◌, ap, ℕ, List, [], Option, Some, None, Result, Ok, Err, IfSome, MatchOption, MatchResult, IsErrAnd}
 use Rattle.serde_json.specs.Data.{Data}
 use Rattle.serde_json.specs.Read.{read}

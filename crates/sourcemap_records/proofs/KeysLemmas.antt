@@ -1,4 +1,4 @@
--- The groups of a record, read one after another, are its fields.
+-- The debug id and the groups of a record, read one after another, are its fields.
 use Rattle.std.proofs.Common.{◌≡◌, ℕ, List, [], ◌∷◌, Option, Some, None, codes, false, refl, sym, ap, ◌∙◌}
 use Rattle.std.specs.List.{list_any}
 use Rattle.std.specs.Str.{bytes_eq}

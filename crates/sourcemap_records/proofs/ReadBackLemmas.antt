@@ -1,4 +1,4 @@
--- What was written is read back.
+-- What was written is read back, if it is in range and no `file` is a JSON null.
 use Rattle.std.proofs.Common.{◌≡◌, ◌≢◌, ℕ, zero, suc, Result, Ok, Err, IfOk, OnOk, ◌<◌, ◌^◌, ◌||◌, ◌==◌, List, [], ◌∷◌, Option, Some, None, option_map, map, length, Bool, true, false, if◌then◌else◌, nat_lt, IfSome, All, codes, inl, true≢false, refl, sym, ap, ◌∙◌, arith}
 use Rattle.sourcemap_records.proofs.FieldLemmas.{ok_injective}
 use Rattle.std.proofs.lemmas.Bool.Decides.{nat_tests}

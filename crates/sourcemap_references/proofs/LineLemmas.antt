@@ -100,8 +100,8 @@ line_counts false found later some = refl
 
 -- ---- lines without a mark
 
--- the bytes before this index are lines without a reference: if they are UTF-8, the reference of the text is
--- that of the bytes from the index on
+-- what holds of an index if the bytes before it are lines without a reference. If these bytes are UTF-8,
+-- `first_reference` of the text is that of the bytes from the index on. Otherwise it is `None`
 pub record IsPassed (text : List ℕ) (start : ℕ) : Type 0 where
   pub within : start ≤ length text
   pub parts : (later : List ℕ) → is_utf8 (take start text ++ later) ≡ (is_utf8 (take start text) && is_utf8 later)
@@ -183,7 +183,7 @@ passed-line text start end passed ends none inside =
           ∙ ap (λ b. if b then first_reference (drop (end + 1) text) else None) (sym same);
     }
 
--- if the line that ends here has no mark, no line so far has one
+-- if no line before has a mark, and the line that ends here has none, no line so far has one
 pub unmarked : (text : List ℕ) (start end : ℕ) → IsPassed text start → EndsAt text start end → is_some (reference_on (slice_range text start end)) ≡ false
     → AreUnmarked text end
 unmarked text start end passed ends none = record { within = ends.within; left = left-after text start end passed ends none }

@@ -531,7 +531,7 @@ offset-ahead line offset units end more u p b l m =
     let first = p.1 in
     (b, omega arith)
 
--- `total` units of a text are counted, and `rest` is left
+-- `total` units of a text are counted, and `rest` has as many units as are left
 pub record Counted (text rest : List ℕ) (total : ℕ) : Type 0 where
   pub utf8 : IsUtf8 rest
   pub left : total + width (chars rest) ≡ width (chars text)

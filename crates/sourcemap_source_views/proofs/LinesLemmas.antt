@@ -18,7 +18,7 @@ use lib.Bits.{bit_or}
 use lib.Lanes.{chunk, mask_l, top, zip2}
 use lib.Count.{count_trailing_zeros}
 
--- the length in bytes of a terminator at the front of a text
+-- the length in bytes of the terminator at the front of a text: 2 for CRLF, otherwise 1
 abbrev pub terminator_len : List ℕ → ℕ
 terminator_len text = cond (starts_with_crlf text) 2 1
 
@@ -240,8 +240,8 @@ mask-after (x ∷ xs) (suc k) =
     ap (λ n. mask_l (map is_terminator (x ∷ xs)) / n) (pow-suc 2 k ∙ mul_comm (2 ^ k) 2) ∙ sym (div-div-eq-div-mul (mask_l (map is_terminator (x ∷ xs))) 2 (2 ^ k))
     ∙ ap (λ n. n / 2 ^ k) (half (is_terminator x) (mask_l (map is_terminator xs))) ∙ mask-after xs k
 
--- the lowest bit of the mask `left` is that of the first terminator from `offset` to `end`, `gap` bytes on;
--- the bits above it are the mask of the bytes after that terminator
+-- the first terminator from `offset` to `end` is `gap` bytes on; the bits of the mask `left` above bit `gap` are the
+-- mask of the bytes after that terminator
 pub record Lowest (text : List ℕ) (offset end left gap : ℕ) : Type 0 where
   pub inside : offset + gap < end
   pub quiet : (k : ℕ) → offset ≤ k → k < offset + gap → is_terminator (get_or text k 0) ≡ false
@@ -389,7 +389,7 @@ AreEnded-lines_of (byte ∷ next ∷ text) =
       | inr p ↦ AreEnded-cut byte (next ∷ text) p after
     ]
 
--- lines joined with their terminators are the text
+-- a byte in front of the first line's body comes in front of the joined lines
 joined-body : (byte : ℕ) (lines : List Line) → 0 < length lines → joined (with_body byte lines) ≡ byte ∷ joined lines
 joined-body byte [] l = absurd (omega arith)
 joined-body byte (line ∷ lines) l = refl
@@ -424,7 +424,7 @@ joined-lines_of (byte ∷ text) =
       ]
     ]
 
--- the range is that of the body of the line at this index, between character boundaries of the text
+-- the bytes in the range are the body of the line at this index; the range is between character boundaries of the text
 pub record IsInText (text : List ℕ) (lines : List Line) (row : ℕ) (range : ℕ × ℕ) : Type 0 where
   pub ordered : range.0 ≤ range.1
   pub start : IsCharBoundary text range.0

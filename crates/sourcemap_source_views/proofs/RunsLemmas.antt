@@ -88,7 +88,7 @@ drop_front zero front back l = refl
 drop_front (suc i) [] back l = absurd (omega arith)
 drop_front (suc i) (x ∷ front) back l = drop_front i front back (omega arith)
 
--- a character boundary of a prefix is one of the whole text
+-- if both parts of a text are UTF-8, a character boundary of the first part is one of the whole text
 boundary_in_front : (front back : List ℕ) (i : ℕ) → IsUtf8 front → IsUtf8 back → IsCharBoundary front i → IsCharBoundary (front ++ back) i
 boundary_in_front front back i u v b =
     let few = b.0 in
@@ -271,7 +271,8 @@ named_bytes (n ∷ ns) rest name valid spelt some =
     let bytes : encode_utf8_all (n ∷ (ns ++ take_while is_part rest)) ≡ name ++ encode_utf8_all (take_while is_part rest) = encodes-append (n ∷ ns) (take_while is_part rest) ∙ ap (λ t. t ++ encode_utf8_all (take_while is_part rest)) spelt in
     same_name name (encode_utf8_all (take_while is_part rest)) rest refl ∙ sym (ap (λ t. bytes_eq t name) bytes) ∙ sym (ap (λ i. is_text name (unless_empty i)) is)
 
--- if the text starts with the name, its identifier is the name unless the next character can continue it
+-- if the text starts with the name, and the name is an identifier and not empty, the identifier of the text is the name
+-- unless the next character can continue it
 pub named_if : (text rest name : List ℕ) → IsUtf8 name → is_identifier (chars name) ≡ true → name ≢ [] → text ≡ name ++ rest
     → not (first_passes is_part (chars rest)) ≡ is_text name (unless_empty (identifier_at_start (chars text)))
 named_if text rest name u valid some e =

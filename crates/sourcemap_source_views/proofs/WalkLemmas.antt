@@ -51,7 +51,7 @@ not_fired name None item items other = refl
 not_fired name (Some token) item items (inl none) = absurd (none-some token (sym none))
 not_fired name (Some token) item items (inr e) = rw e refl
 
--- the result does not change when an item is passed
+-- the result does not change when an item is passed, unless `called` has a value and the item is `function`
 pub found_after-passed : {S : Type 0} (name : List ℕ) (called : Option S) (item : S × Option (List ℕ)) (left next : List (S × Option (List ℕ))) (n : ℕ) (due : Option S)
     → 0 < n → left ≡ item ∷ next
     → (called ≡ None) ⊎ (is_text (codes "function") item.1 ≡ false)

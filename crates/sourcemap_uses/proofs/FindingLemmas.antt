@@ -15,7 +15,7 @@ weaker : (e : Error) (P Q : Type 0) → (P → Q) → UnlessMemory e P → Unles
 weaker OutOfMemory P Q f h = tt
 weaker _ P Q f h = f h
 
--- the map of a URL without an embedded map is in the file that the URL resolves to, or nowhere
+-- the map of a URL that does not start with `data:` is in the file that the URL resolves to, or nowhere
 pub no_map_held : (url path : List ℕ) → EmbeddedAnswer url (Ok None)
     → (r : Result FoundMap Error) → IsAnswer found_value (FileOfUrl url path) r → IsAnswer found_value (MapOfUrl url path) r
 no_map_held url path none (Ok found) file = inl (None, none, file)

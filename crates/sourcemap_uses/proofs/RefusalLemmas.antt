@@ -11,7 +11,7 @@ pub unless_memory : (e : Error) (P Q : Type 0) → (P → Q) → UnlessMemory e 
 unless_memory OutOfMemory P Q f h = tt
 unless_memory _ P Q f h = f h
 
--- if a value is specified, the only error is out of memory
+-- a specified value is not also an error
 pub never_due : {Y : Type 0} (due : Y) (e : Error) (Q : Type 0) → Ok due ≡ Err e → Q
 never_due due e Q wrong = absurd (cc)
 
@@ -22,7 +22,7 @@ pub never_refused : {X Y : Type 0} (view : X → Y) (due : Y) (r : Result X Erro
 never_refused view due (Ok x) Q gave = tt
 never_refused view due (Err e) Q gave = due_refused due e (Q e) gave
 
--- the only error of writing a regular map is out of memory
+-- the only error of encoding a regular map as bytes is out of memory
 pub unwritten : (m : MapValue) (e : Error) (P : Type 0) → UnlessMemory e (RecordAnswer m (Err e)) → UnlessMemory e P
 unwritten m e P h = unless_memory e ⊥ P (λ never. absurd never) h
 

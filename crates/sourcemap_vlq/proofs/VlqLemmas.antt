@@ -115,7 +115,7 @@ split_at text n h = sym (take-append-drop n text) ∙ ap (λ rest. take n text +
 pub GoesTo-at : (text : List ℕ) (n : ℕ) → n < length text → IsUnfinished (take n text) → GoesTo text (take n text) (get_or text n 0)
 GoesTo-at text n h unfinished = record { more = drop (n + 1) text; split = split_at text n h; unfinished = unfinished }
 
--- a digit with the continuation bit extends an unfinished number
+-- a digit that has the continuation bit and does not overflow extends an unfinished number
 pub IsUnfinished-more : (text : List ℕ) (n v : ℕ) → n < length text → IsUnfinished (take n text)
     → digit_value (get_or text n 0) ≡ Some v → 32 ≤ v
     → (nat_lt n 12 || ((n == 12) && nat_lt (v % 32) 8)) ≡ true → IsUnfinished (take (n + 1) text)
@@ -138,7 +138,7 @@ raw_of-more text n v h e =
     let pushed : raw_of (take n text ++ get_or text n 0 ∷ []) ≡ raw_of (take n text) + 2 ^ (5 * length (take n text)) * data_of (get_or text n 0) = raw_of-push (take n text) (get_or text n 0) in
     ap raw_of (take_more text n 0 h) ∙ (pushed ∙ (rw (len, bits) (omega arith)))
 
--- a digit without the continuation bit ends the number
+-- a digit that has no continuation bit and does not overflow ends the number
 pub BeginsWith-last : (text : List ℕ) (n v : ℕ) → n < length text → IsUnfinished (take n text)
     → digit_value (get_or text n 0) ≡ Some v → v < 32
     → (nat_lt n 12 || ((n == 12) && nat_lt (v % 32) 8)) ≡ true

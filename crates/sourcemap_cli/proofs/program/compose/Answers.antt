@@ -1,4 +1,4 @@
--- The map is adjusted by the one in the file, or the file cannot be read or decoded.
+-- The map is adjusted by the one in the file, or adjusting fails, or the file cannot be read or decoded.
 use Rattle.std.proofs.Common.{option_map}
 use Rattle.std.proofs.lemmas.Result.{err_from_is_err_and}
 use Rattle.sourcemap.specs.AnyMap.{map_tree}

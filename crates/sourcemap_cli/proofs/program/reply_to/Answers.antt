@@ -1,4 +1,4 @@
--- The reply to a command, or the usage; no other reply is right.
+-- The reply to a command, or the usage; no other reply is right, but for the texts of std's errors.
 use Rattle.std.proofs.Common.{Some, map, string_bytes}
 use Rattle.sourcemap_cli.specs.Program.{file_read}
 use Rattle.sourcemap_cli.proofs.ProgramLemmas.{only_reply, reply_of_command, reply_to_others}

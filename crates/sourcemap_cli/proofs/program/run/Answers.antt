@@ -1,4 +1,4 @@
--- The reply was printed, or the error instead of it.
+-- Unless writing failed, the reply was printed, or an error instead of it.
 use Rattle.std.proofs.Common.{map, string_bytes}
 use Rattle.sourcemap_cli.proofs.ProgramLemmas.{runs}
 use Rattle.sourcemap_cli.proofs.program.run.Goals as goal

@@ -1,4 +1,4 @@
--- A data URL that does not decode to a map.
+-- A data URL whose decoding returns an error.
 use Rattle.std.proofs.Common.{◌≡◌, true, rules}
 use Rattle.sourcemap_references.specs.Resolution.{is_data_url}
 use Rattle.sourcemap_embedding.proofs.EmbeddedLemmas.{error_embedded}

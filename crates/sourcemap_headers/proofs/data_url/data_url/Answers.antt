@@ -1,4 +1,4 @@
--- The text before the base64 digits.
+-- The text before the base64 digits, then these digits.
 use Rattle.std.proofs.Common.{rules}
 use Rattle.sourcemap_headers.proofs.data_url.data_url.Goals as goal
 

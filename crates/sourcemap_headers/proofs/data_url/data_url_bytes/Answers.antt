@@ -1,4 +1,4 @@
--- An error of base64 becomes `InvalidDataUrl`.
+-- A `DecodeError` of base64 becomes `InvalidDataUrl`.
 use Rattle.std.proofs.Common.{rules}
 use Rattle.sourcemap_headers.proofs.data_url.data_url_bytes.Goals as goal
 

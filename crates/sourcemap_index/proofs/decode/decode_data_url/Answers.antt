@@ -1,4 +1,5 @@
--- A data URL has one answer. Only texts that are no data URL have the error `InvalidDataUrl`.
+-- A data URL has one answer. Of two `Io` errors only the kinds are compared. Only texts that are no data URL have the
+-- error `InvalidDataUrl`.
 use Rattle.sourcemap_index.proofs.DecodeLemmas.{url_only}
 use Rattle.sourcemap_index.proofs.UrlErrorLemmas.{refused_as_no_url}
 use Rattle.sourcemap_index.proofs.decode.decode_data_url.Goals as goal

@@ -1,4 +1,4 @@
--- Bytes have one answer.
+-- Bytes have one answer. Of two `Io` errors only the kinds are compared.
 use Rattle.sourcemap_index.proofs.DecodeLemmas.{bytes_only}
 use Rattle.sourcemap_index.proofs.decode.decode_vec.Goals as goal
 

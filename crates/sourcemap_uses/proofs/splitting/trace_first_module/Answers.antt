@@ -1,4 +1,5 @@
--- The text for the first module, or an error. In this module, its map has the meaning of the flattened map.
+-- The text for the first module, or an error. In this module, its map has the meaning of the flattened map, if the
+-- closest token of the flattened map is in this module too.
 use Rattle.std.proofs.lemmas.Result.{err_from_is_err_and}
 use Rattle.std.proofs.Common.{◌≡◌, ◌∙◌, ◌+◌, ◌-◌, sym, ap, subst, Ok, IfOk, string_bytes, arith}
 use Rattle.sourcemap.specs.Answer.{Gives}

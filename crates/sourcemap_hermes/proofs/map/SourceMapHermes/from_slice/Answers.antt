@@ -1,4 +1,4 @@
--- Bytes decode to at most one result.
+-- Bytes decode to at most one result, except that they determine only the kind of an `Io` error.
 use Rattle.sourcemap_records.proofs.BytesLemmas.{bytes_only}
 use Rattle.sourcemap_hermes.specs.Decode.{RecordDecodesAsHermes}
 use Rattle.sourcemap_hermes.specs.Map.{hermes_value}

@@ -1,4 +1,4 @@
--- Bytes have one answer.
+-- Bytes have one answer. Of two `Io` errors only the kinds are compared.
 use Rattle.sourcemap_records.proofs.BytesLemmas.{bytes_only}
 use Rattle.sourcemap_index.specs.Decode.{IndexDecodes}
 use Rattle.sourcemap_index.specs.Family.{index_value}

@@ -1,4 +1,4 @@
--- The result for the bytes is determined.
+-- The result for the bytes is determined, unless memory runs out. Only the kind of an `Io` error is determined.
 use Rattle.sourcemap_map_regular.specs.Decode.{RegularDecodes}
 use Rattle.sourcemap_records.proofs.BytesLemmas.{bytes_only}
 use Rattle.sourcemap_map_regular.proofs.DecodeLemmas.{regular_decodes_once}
