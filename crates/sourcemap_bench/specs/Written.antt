@@ -13,6 +13,6 @@ abbrev pub IsWritten : List ℕ → Option (List ℕ) → Option (List ℕ) → 
 IsWritten bytes old new = (t : MapTree) × BytesDecode bytes (Ok t)
     × ((text : List ℕ) × IsEncoded (RecordAnswer t) text × Appends old new text)
 
--- the errors: the bytes do not decode, or the writer fails
+-- the errors other than `OutOfMemory`: the bytes do not decode, or the writer fails
 abbrev pub IsUnwritten : List ℕ → Error → Type 0
 IsUnwritten bytes e = BytesDecode bytes (Err e) ⊎ IsIo e

@@ -38,7 +38,7 @@ pub fn size_of<R: Files + Env + AllocGlobal>(
     }
 }
 
-// A builder with a source for each line.
+// A builder with a source for each different line.
 fn builder_of_lines(alloc: Global, text: &str) -> Result<SourceMapBuilder> {
     let mut builder = SourceMapBuilder::new(alloc, None)?;
     for line in text.lines() {

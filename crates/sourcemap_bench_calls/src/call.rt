@@ -1,4 +1,6 @@
-//! The measured calls, and the word of the command line for each.
+//! The measured calls, and the word of the command line for each. If a call reads the first line of
+//! the input separately, this line must end with `\n`. A line counts as 0 if a number is expected
+//! and the line is not a number below 2^32.
 
 use sourcemap::Result;
 use std::alloc::Global;
@@ -72,7 +74,7 @@ pub enum BuilderCall {
     /// `builder-raw`: `add_raw` of a token for each line. The number on the line is the generated
     /// column, the source id and the name id.
     AddRaw,
-    /// `builder-tokens`: `add_token` of each token of a map.
+    /// `builder-tokens`: `add_token` of each token of a regular map.
     AddTokens,
     /// `builder-sources`: for each line, adds the line as a source, then calls `set_source` on that
     /// source with the same line.
@@ -118,12 +120,12 @@ pub enum IndexCall {
     /// call for each line after the first, with the number on that line.
     AdjustRows,
     /// `section-urls`: `SourceMapSection::set_url` on sections of an index map. The index map is on
-    /// the first line of the input. The next lines are the URLs, one for each section, in order.
-    /// Extra lines are ignored. Sections without a line are not changed.
+    /// the first line of the input. The next lines are the URLs, one for each section, in the order
+    /// of the offsets. Extra lines are ignored. Sections without a line are not changed.
     SetUrls,
     /// `section-maps`: `SourceMapSection::set_sourcemap` on sections of an index map. The index map
     /// is on the first line of the input. The next lines are the new maps, one for each section, in
-    /// order. Extra lines are ignored. Sections without a line are not changed.
+    /// the order of the offsets. Extra lines are ignored. Sections without a line are not changed.
     SetMaps,
 }
 

@@ -89,7 +89,7 @@ fn make_sections(alloc: Global, bytes: &[u8]) -> Result<usize> {
     Ok(index.get_section_count() as usize)
 }
 
-// The index map on the first line, and the text after it.
+// The index map on the first line, and the text after it. The first line must end with `\n`.
 fn index_and_text(alloc: Global, bytes: &[u8]) -> Result<(SourceMapIndex, &str)> {
     let (line, text) = split_first_line(bytes)?;
     let index = SourceMapIndex::from_slice(alloc, line.as_bytes())?;

@@ -3,8 +3,8 @@
 use sourcemap::{Result, SourceMap};
 use std::str;
 
-/// Returns the first line and the text after it, or two empty texts if there is no `\n`. Returns
-/// `Utf8` if the bytes are not UTF-8.
+/// Returns the text before the first `\n` and the text after it, or two empty texts if there is no
+/// `\n`. Returns `Utf8` if the bytes are not UTF-8.
 pub fn split_first_line(bytes: &[u8]) -> Result<(&str, &str)> {
     Ok(str::from_utf8(bytes)?.split_once('\n').unwrap_or_default())
 }

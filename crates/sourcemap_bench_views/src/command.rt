@@ -7,7 +7,8 @@ ghost use Rattle.sourcemap_bench_views.specs.Command.{word_of, AskFor};
 pub enum Operation {
     /// `lines`: makes a view of a text and iterates over its lines.
     Lines,
-    /// `names`: walks back from every 128th token, and searches for a name that no function has.
+    /// `names`: walks back from the position of every 128th token, and searches for a name that no
+    /// function has.
     Names,
 }
 

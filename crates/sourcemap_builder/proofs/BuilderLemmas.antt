@@ -43,8 +43,8 @@ with_changes-put cs ts i x h full =
     with_changes-set (fitted (length ts) cs) ts i x (omega (arith, full))
     ∙ ap (λ current. slice_set current i x) (with_changes-filled cs ts (length ts) (length ts) (omega arith) (omega arith))
 
--- if there are no more changes than texts, the text at an index is its change if there is one, else the text that was
--- there
+-- if there are at most as many changes as texts: the text at an index is the change there, if there is one, otherwise
+-- the text that was there
 pub slice_get-with_changes : (cs : List (Option (List ℕ))) (ts : List (List ℕ)) (i : ℕ) → length cs ≤ length ts
     → slice_get (with_changes cs ts) i ≡ option_or (option_and_then (λ text. text) (slice_get cs i)) (slice_get ts i)
 slice_get-with_changes [] [] zero h = refl
@@ -56,8 +56,8 @@ slice_get-with_changes (None ∷ cs) (t ∷ ts) zero h = refl
 slice_get-with_changes (Some x ∷ cs) (t ∷ ts) zero h = refl
 slice_get-with_changes (c ∷ cs) (t ∷ ts) (suc i) h = slice_get-with_changes cs ts i (omega arith)
 
--- if there are no more changes than texts, a new text is appended and not replaced; a text that is there already
--- changes nothing
+-- if there are at most as many changes as texts: adding a new text appends it to the changed texts, and no change
+-- applies to it. Adding a text that is already one of the texts has no effect
 pub with_changes-with_text : (cs : List (Option (List ℕ))) (ts : List (List ℕ)) (t : List ℕ) → length cs ≤ length ts
     → with_changes cs (with_text ts t) ≡ cond (is_some (id_of t ts)) (with_changes cs ts) (with_changes cs ts ++ t ∷ [])
 with_changes-with_text cs ts t h =

@@ -158,8 +158,9 @@ any-number (x ∷ ids) id n found = by_cases (x == id) (number_of ids id) refl r
     by_cases false (Some m) b is rest =
         let same : nat_eq id x ≡ false = grind (arith, nat_tests, b) in rw same (rest m is)
 
--- the text at the number of a used id is the text at the id; an id that names nothing has no number, and `no_id` names
--- nothing either
+-- `id` is an item of `ids`. The new list has the texts of the used ids, and the number of a used id is its index there.
+-- At the number of `id` the new list has the text that `texts` has at `id`. If `texts` has no text at `id`, then `id`
+-- has no number, and the new list has no text at `no_id`
 pub text_by_number : (texts : List (List ℕ)) (ids : List ℕ) (k id : ℕ) → length texts ≤ 4294967295 → slice_get ids k ≡ Some id
     → slice_get (texts_at texts (used_ids (length texts) ids)) (unwrap_or (number_of (used_ids (length texts) ids) id) no_id) ≡ slice_get texts id
 text_by_number texts ids k id few at = by_index (slice_get_cases texts id).1

@@ -48,7 +48,7 @@ pub fn bundle_text(alloc: Global, bundle: &RamBundle<'_>) -> Result<String> {
     Ok(text)
 }
 
-/// Returns the `bundle_text` of a parsed bundle, or the text of the error of parsing.
+/// Returns the `bundle_text` of a parsed bundle, or the `error_text` of the error of parsing.
 pub fn parsed_text(alloc: Global, parsed: Result<RamBundle<'_>>) -> Result<String> {
     match parsed {
         Ok(bundle) => bundle_text(alloc, &bundle),

@@ -31,7 +31,8 @@ same_entries (p ∷ m) (q ∷ n) h =
     let number : q.0 ≡ p.0 = h.0.0 in
     let text : q.1.items ≡ p.1.items = same_from_all_zip (λ x y. y ≡ x) p.1.items q.1.items h.0.1.0 (λ x y e. e) in cc
 
--- selecting one of three lists of stored entries by an order selects the list of the files that it holds
+-- `match_ordering` selects one of three lists of stored entries. It makes no difference whether `numbered_file_value`
+-- converts the entries before or after this selection
 match_ordering-map : (o : Ordering) (a b c : List (ℕ × Vec ℕ Global))
     → map numbered_file_value (match_ordering o a b c) ≡ match_ordering o (map numbered_file_value a) (map numbered_file_value b) (map numbered_file_value c)
 match_ordering-map Less a b c = refl
@@ -62,7 +63,8 @@ IsReadBy-push names startup folder name id text (found, numbered, read) n = (
   ap (λ f. with_file f (id, text)) read ∙ sym (fold_push with_file (no_modules startup) found (id, text)),
 )
 
--- selecting one of two optional stored texts by a test selects the bytes that it holds
+-- if a test selects one of two optional stored texts, the bytes of the selected text are those that the same test
+-- selects from the bytes of the two texts
 lookup-cond : (b : Bool) (text : Vec ℕ Global) (rest : Option (Vec ℕ Global))
     → option_map (λ v. v.items) (cond b (Some text) rest) ≡ cond b (Some text.items) (option_map (λ v. v.items) rest)
 lookup-cond true text rest = refl

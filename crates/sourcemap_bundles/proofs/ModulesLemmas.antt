@@ -26,7 +26,8 @@ modules_skip bundle (suc gap) id n end at fits none =
     ∙ ap (λ item. with_item item (modules_from bundle (end - (id + 1)) (id + 1))) (none id (omega arith) below)
     ∙ modules_skip bundle gap (id + 1) n end next fits (λ k from past. none k (omega (arith, from)) past)
 
--- the first file from a number on is the next module if its number is below `end`
+-- let `n` be the first number from `id` on that has a file. If `n` is below `end`, the file of `n` is the first of the
+-- modules from `id` on, and the others are the modules from `n + 1` on
 pub modules_file : (folder : FilesValue) (id n end : ℕ) (found : ModuleValue) → id ≤ n → n < end
     → file_module folder n ≡ Some found → ((k : ℕ) → id ≤ k → k < n → file_module folder k ≡ None)
     → modules_from (files folder) (end - id) id ≡ Ok found ∷ modules_from (files folder) (end - (n + 1)) (n + 1)

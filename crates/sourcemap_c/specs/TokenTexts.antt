@@ -28,8 +28,7 @@ LacksTextOf index (Some m) failure = (failure ≡ Absent) × (text_of_token inde
 abbrev pub text_at : MapTree → ℕ × ℕ → Option (List ℕ)
 text_at t p = option_map token_text (meaning t p)
 
--- `held` is a text; false if there is no map. If the map is in order, `held` is the text of the closest token
--- (`text_at`).
+-- There is a map, and `held` is a text. If the map is in order, `held` is the text of the closest token (`text_at`).
 abbrev pub HoldsTextAt : ℕ × ℕ → Option MapTree → (held : Option (List ℕ)) → Type 0
 HoldsTextAt p None held = ⊥
 HoldsTextAt p (Some t) held = (text : List ℕ) × (held ≡ Some text) × (IsInOrder t → text_at t p ≡ Some text)

@@ -1,4 +1,4 @@
--- A full seal and its parts own what a box of the same types owns.
+-- A `Sealed` with a value owns what a `Box<Held>` owns. A `Parts<Held, Global>` owns the same.
 use mir.Syntax.{impl, tnil, dnil}
 use mathlib.Core.List.{[]}
 use denote.Signature.{Slot, plain}

@@ -384,7 +384,8 @@ refusal_alike : (e f : Error) (text : List ℕ) → IsSameError e f → IsRefusa
 refusal_alike (Io e) (Io f) text same h = h
 refusal_alike e f text same h = subst (λ x. IsRefusal x text) same h
 
--- bytes decode to one map or one error, and so does a file; of two `Io` errors only the kinds are compared
+-- two results of decoding that are the same print alike. Two `Io` errors of the same kind count as the same. So all
+-- results of decoding the same bytes, or the same file, print alike
 decoded_alike : (a b : Result MapTree Error) → AreSame a b → PrintAlike a b
 decoded_alike (Ok t) (Ok u) same = same
 decoded_alike (Err e) (Err f) same = λ text refused. refusal_alike e f text same refused

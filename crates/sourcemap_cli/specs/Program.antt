@@ -179,8 +179,8 @@ abbrev pub file_read : Result (Vec ℕ Global) Error → Result (List ℕ) Error
 file_read (Ok bytes) = Ok bytes.items
 file_read (Err e) = Err e
 
--- what reading a file may return: bytes, an `Io` error of opening or reading it, of any kind except `OutOfMemory`, or
--- the error `OutOfMemory`
+-- what reading a file may return: bytes, the error `OutOfMemory`, or an `Io` error of opening or reading the file. This
+-- `Io` error may have any kind except `OutOfMemory`
 abbrev pub MayBeRead : Result (List ℕ) Error → Type 0
 MayBeRead (Ok bytes) = Unit {0}
 MayBeRead (Err e) = UnlessReadFails e ⊥

@@ -213,7 +213,8 @@ module _ (ts : List RawToken) (bs : List Stretch) (r : Rises (λ a b. is_before 
   meets : overlap a s ≡ true
   meets = and_from (is_before a.start s.end) (is_before s.start a.end) (after-before a.start q s.end inside_a.0 inside_s.1) (after-before s.start q a.end inside_s.0 inside_a.1)
 
-  -- the start of `a` is on the line of q. So is the later start of `a` and `o`, if they overlap
+  -- the start of `a` is on the line of q. If `a` and `o` overlap, the later one of their two starts (`later_start a o`)
+  -- is on the line of q too
   line_a : (a.start.0 ≡ q.0) × (a.start.1 ≤ q.1)
   line_a = on_the_line a.start a.end q sound_a.end inside_a.0 inside_a.1
 

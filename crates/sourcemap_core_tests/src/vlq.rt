@@ -96,7 +96,8 @@ fn writes_segments(rt: HostRuntime) {
     }
 }
 
-// The indexes of the set bits among twenty bits, and the text that encodes all twenty bits.
+// The indexes of the set bits among twenty bits, and the shortest text that encodes all twenty
+// bits.
 static BITS: [(&[usize], &str); 4] = [(&[12], "AAB"), (&[5], "g"), (&[0, 11], "Bg"), (&[], "")];
 
 fn bits(alloc: Global, positions: &[usize]) -> Result<Vec<bool>> {
@@ -119,8 +120,8 @@ fn writes_bits(rt: HostRuntime) {
     }
 }
 
-// A text, the indexes of the set bits among twenty bits, and the text with the encoding of all
-// twenty bits appended.
+// A text, the indexes of the set bits among twenty bits, and the text with the shortest encoding of
+// all twenty bits appended.
 static APPENDED: [(&str, &[usize], &str); 3] = [
     (";", &[12], ";AAB"),
     ("", &[5], "g"),

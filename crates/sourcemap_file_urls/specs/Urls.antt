@@ -10,9 +10,9 @@ use Rattle.sourcemap_errors.specs.declared.errors.Error.TheVariants.{OutOfMemory
 abbrev pub IsLong : ℕ → Type 0
 IsLong size = 2 ^ 28 ≤ size
 
--- the result for texts that together have `size` bytes; `parsed` is the result of `parse_url`. A returned URL is the
--- URL in `parsed`. `None` is returned only if `parsed` is an error or the texts are long. The only error is
--- `OutOfMemory`
+-- what `parse` or `join` may return for texts that together have `size` bytes. `parsed` is the result that `parse_url`
+-- specifies for these texts. A returned URL is the URL in `parsed`. `None` is returned only if `parsed` is an error or
+-- the texts are long. The only error is `OutOfMemory`
 abbrev pub ReadsAs : ℕ → Parsed Parts → Result (Option Parts) Error → Type 0
 ReadsAs size parsed (Ok (Some url)) = parsed ≡ Ok url
 ReadsAs size parsed (Ok None) = IsErr parsed ⊎ IsLong size

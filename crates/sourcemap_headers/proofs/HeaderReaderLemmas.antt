@@ -47,7 +47,8 @@ outputs_junk state after_return old new chunk consumes junk xs known =
     let k = consumed old new chunk consumes xs known in
     (k.0, k.1, ap (remaining_in state) k.2 ∙ junk k.0 ∙ none_before _)
 
--- a chunk that ends the header, or the first chunk if there is no header
+-- a chunk in which the header ends, or the first chunk if there is no header: the bytes that remained before the read,
+-- if known, are the chunk without its junk (`output`), then the bytes that the inner reader still has
 pub outputs_end : (state : HeaderState) (old new : Option (List ℕ)) (chunk output : List ℕ) (junk_len : ℕ) → Consumes old new chunk
     → ((later : List ℕ) → remaining_in state (chunk ++ later) ≡ Some (drop junk_len chunk ++ later)) → drop junk_len chunk ≡ output
     → (xs : List ℕ) → old ≡ Some xs

@@ -81,8 +81,8 @@ module _ (removal : Removal) (h : HermesValue) (few : length h.map.sources ≤ 4
     all_own : AllByRecursion IsOwn h.map.tokens
     all_own = All-both (IsKept h.map) (IsWithin (length h.map.sources) (length h.map.names)) h.map.tokens (all_tokens_kept h.map) well.map
 
-    -- the source at the new id `index` had the old id `id`, or no source has the new id `index` and the old id `id` has
-    -- no scopes
+    -- one of two cases holds. In the first case, the source with the new id `index` had the old id `id`. In the second
+    -- case, no source has the new id `index`, and there are no scopes for the old id `id`
     abbrev StandsFor : ℕ → ℕ → Type 0
     StandsFor index id =
         (slice_get (first_ids h.map) index ≡ Some id)

@@ -58,8 +58,8 @@ line_offsets-append before here (x ∷ xs) ys =
     (line_offsets-append before (here ++ x ∷ []) xs ys
     ∙ ap (λ zs. line_offsets before (here ++ x ∷ []) xs ++ line_offsets before zs ys) (append_assoc here (x ∷ []) xs))
 
--- what holds when, of the parts `all` of a line, those before the suffix `left` are decoded; `before` has the segments
--- of earlier lines, `here` those of this line so far
+-- what holds while a line is decoded. `all` are the parts of the line, and `left` are its parts that are not decoded
+-- yet. `before` are the segments of earlier lines, and `here` are the segments of this line so far
 pub record PartsSoFar (before : List Segment) (all left : List (List ℕ)) (old new : List HermesScopeOffset) (last : HermesScopeOffset) : Type 0 where
   pub here : List Segment
   pub read : (later : List Segment) → SegmentsRead left later → SegmentsRead all (here ++ later)

@@ -109,8 +109,8 @@ fn functions_follow_their_sources(rt: HostRuntime) {
     }
 }
 
-// A map, prefixes to strip, and the rewritten map. Sources that are stripped to the same text are
-// not merged, and keep their scopes.
+// A map, prefixes to strip, and the rewritten map. Sources that resolve to different texts are not
+// merged if they are stripped to the same text. They keep their scopes.
 static CUT: [(&str, &[&str], &str); 2] = [
     (
         r#"{"mappings":"AAAA,CCAA","sources":["/x/a.js","/y/a.js"],"x_facebook_sources":[[{"mappings":"AAA","names":["f"]}],[{"mappings":"AAA","names":["g"]}]]}"#,

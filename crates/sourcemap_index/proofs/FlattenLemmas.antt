@@ -66,7 +66,8 @@ pieces-next before s rest = by_map s.map
     by_map None = refl
     by_map (Some t) = by_flat (flat t)
 
--- the pieces gathered in `g`, and then the sections in `rest`, have the same result as all sections
+-- adding the sections in `rest` to the pieces gathered in `g` gives the same pieces, or the same error, as adding the
+-- sections in `all` to no pieces
 abbrev pub SoFar : (all rest : List MapSection) → Gathering → Type 0
 SoFar all rest g = (pieces : List Piece) × (pieces_after [] (sections_from all) ≡ pieces_after pieces (sections_from rest)) × Gathers pieces g
 

@@ -159,7 +159,7 @@ fn skip_comma_at(text: &[u8], at: usize) -> Position
 }
 
 // The token that starts at `position`, and the position after it. White space after a string is
-// skipped too, and then the colon of a key.
+// skipped too. If a colon follows, the string is a key, and the colon is skipped too.
 #[inline(always)]
 fn read_step(
     alloc: Global,

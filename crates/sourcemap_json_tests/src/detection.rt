@@ -116,7 +116,8 @@ fn a_failed_read_is_no_map(rt: HostRuntime) {
     }
 }
 
-// Whether detection returns `OutOfMemory` if the reader runs out of memory after `reads` reads.
+// Whether detection returns `OutOfMemory` if the reader runs out of memory after `reads` reads that
+// were not interrupted.
 fn runs_out_of_memory(alloc: Global, bytes: &[u8], reads: usize) -> bool {
     let reader = HaltingReader::new(bytes, reads, ErrorKind::OutOfMemory);
     matches!(is_sourcemap(alloc, reader), Err(Error::OutOfMemory))

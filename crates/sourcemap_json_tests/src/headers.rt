@@ -28,7 +28,7 @@ impl Read for OneByOne<'_> {
     }
 }
 
-// A label, bytes, and what follows their header, or the error.
+// A label, bytes, and what `StripHeaderReader` keeps of them, or the error.
 static READ: [(&str, &[u8], &str); 6] = [
     (
         "a header up to the end of its line",

@@ -65,10 +65,11 @@ fn put_escaped(out: &mut Vec<u8>, text: &[u8]) -> Result<(), AllocError>
     }
 }
 
-// Appends the string from index `from` on to `out`, escaped, until `fill` stops. Returns the index
-// reached in the string. Appends nothing and returns `from` if `try_blocks` is false, if at most
-// `LONG` bytes of the string are left, or if the byte at `from` needs a `\u` escape. Before `fill`,
-// `out` is extended by `ZEROS`. After `fill`, `out` is truncated to the escaped bytes.
+// Escapes the string, beginning at index `from`, and appends the escaped bytes to `out`, until
+// `fill` stops. Returns the index reached in the string. Appends nothing and returns `from` if
+// `try_blocks` is false, if at most `LONG` bytes of the string are left, or if the byte at `from`
+// needs a `\u` escape. Before `fill`, `out` is extended by `ZEROS`. After `fill`, `out` is
+// truncated to the escaped bytes.
 #[inline(always)]
 fn put_blocks(
     out: &mut Vec<u8>,

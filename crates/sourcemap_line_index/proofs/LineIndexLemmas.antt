@@ -45,8 +45,9 @@ Remains-half most made size next half some counted halved r =
 pub Remains-end : (most made size : ℕ) → Remains most made size → made ≤ most
 Remains-end most made size r = let within = r.enough in omega arith
 
--- if the numbers from `first` up to, not including, `end` do not fall, those before index are below the key, and those
--- from `left` indices later on are not
+-- if `first < index`, the number at `index - 1` is below the key. If `index + left < end`, the number at `index + left`
+-- is not below the key. For `first ≤ index ≤ end` and numbers that do not fall from `first` up to, not including,
+-- `end`: all of them before `index` are below the key, and all of them at `index + left` or later are not
 pub record IsWindow (number : ℕ → ℕ) (key first index left end : ℕ) : Type 0 where
   pub before : first < index → number (index - 1) < key
   pub from : index + left < end → key ≤ number (index + left)

@@ -20,7 +20,8 @@ is_less a b l = grind (arith, nat_tests)
 is_not_less : (a b : ℕ) → b ≤ a → nat_lt a b ≡ false
 is_not_less a b l = grind (arith, nat_tests)
 
--- so the bitwise and of the high half and a 32-bit number is the number if a is less than b, otherwise 0
+-- take the high half of the 64-bit wrapping difference a - b. The bitwise AND of this half and `steps` is `steps` if a
+-- is less than b, otherwise 0. Each of a, b and `steps` is below 2^32
 pub masked : (a b steps : ℕ) → a < 4294967296 → b < 4294967296 → steps < 4294967296 → bit_and steps ((a + (18446744073709551616 - b)) % 18446744073709551616 / 4294967296) ≡ (if nat_lt a b then steps else 0)
 masked a b steps fits fits' small =
     elim (cases_lt a b) [

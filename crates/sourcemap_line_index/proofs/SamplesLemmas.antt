@@ -89,8 +89,8 @@ count_by_samples (suc (suc (suc d))) count end low high from to start found left
     let among : found ≤ start + suc d = f (suc d) (subst (λ n. high - low < n) (sym (pow-succ' 2 d)) few) in
     omega arith
 
--- the numbers from `first` up to, not including, `at` were compared with a key. If they do not fall, those before
--- `index` are below it, and the others are not
+-- the numbers from `first` up to, not including, `at` were compared with `key`. If none of them is less than the one
+-- before it, then those before `index` are less than `key`, and the others are not
 pub record IsPassed (number : ℕ → ℕ) (key first index at : ℕ) : Type 0 where
   pub before : first < index → number (index - 1) < key
   pub from : index < at → key ≤ number index

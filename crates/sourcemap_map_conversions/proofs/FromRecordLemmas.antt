@@ -75,8 +75,9 @@ module _ (r : Fields) (parts : RecordParts) (are : ArePartsIn r parts) where
   pub refused-tokens : HaveFewItems parts.lists → (e : Error) → UnlessMemory e (TextsAnswer (Err e)) → UnlessMemory e (PartsAnswer r (Err e))
   refused-tokens few_items e h = UnlessMemory-weaker e (λ due. inr (have_few_items few_items, tokens_due (Err e) due)) h
 
-  -- if no list is too long and the mappings have tokens, the parts that are made of these and of the fields are those
-  -- of the record
+  -- if no list is too long and the texts of the mappings decode to `tokens`, the parts of the record are those that
+  -- `parts_read` makes of the metadata, the lists and `tokens`. So a result with these parts, or `OutOfMemory`, is an
+  -- answer for the record
   pub read : HaveFewItems parts.lists → (tokens : List RawToken) → TextsAnswer (Ok tokens) → (result : Result Parts Error)
       → Gives parts_view result (Ok (parts_read parts.metadata parts.lists tokens)) → IsAnswer parts_view (PartsAnswer r) result
   read few_items tokens h (Ok p) gave =

@@ -30,7 +30,8 @@ named texts text id = by_case (slice_get texts id)
     by_case None e = cc
     by_case (Some other) e = ap Some (sym ((bytes_eq-Decides text other).0 e))
 
--- if the texts that `ids` name are kept, no number in `ids` names a text that is not kept
+-- let `kept` contain the text at each index in `ids`, if there is one. A text that `kept` lacks is at none of these
+-- indices
 none_names : (texts kept : List (List ℕ)) (text : List ℕ) → id_of text kept ≡ None → (ids : List ℕ)
     → AllByRecursion (λ id. IsListedIfAny kept (slice_get texts id)) ids → find (names_text texts text) ids ≡ None
 none_names texts kept text new [] all = refl

@@ -15,8 +15,8 @@ const CUT: [Row; 2] = [
 
 const MOVED: [Row; 1] = [((17, 23), (0, 8, 30), NONE, false)];
 
-// `TWICE` moves position 0:5 to both 3:0 and 4:0. The token of `BEFORE` starts before 0:5. The
-// token of `THERE` starts at 0:5.
+// Both tokens of `TWICE` have the original position 0:5. Their generated positions are 3:0 and 4:0.
+// The token of `BEFORE` starts before 0:5. The token of `THERE` starts at 0:5.
 const TWICE: [Row; 2] = [
     ((3, 0), (0, 0, 5), NONE, false),
     ((4, 0), (0, 0, 5), NONE, false),

@@ -172,7 +172,7 @@ fn take_all(alloc: Global, builder: &mut SourceMapBuilder, steps: &[Step<'_>]) -
     Ok(())
 }
 
-// A builder of the file `f` after these steps.
+// A builder that began with the file `f`, after these steps.
 fn built(alloc: Global, steps: &[Step<'_>]) -> Result<SourceMapBuilder> {
     let mut builder = SourceMapBuilder::new(alloc, Some("f"))?;
     take_all(alloc, &mut builder, steps)?;

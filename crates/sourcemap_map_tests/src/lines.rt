@@ -44,7 +44,8 @@ fn tables_hold_where_lines_begin_and_end(rt: HostRuntime) {
 }
 
 // Line ends, the position where they start, and the length of the text. All other characters are
-// `a`. The text is read in blocks of 64 bytes. These line ends are near multiples of 32.
+// `a`. The text is read in blocks of 64 bytes. After a block without a line end, the next block
+// starts at the next line end. These line ends are near multiples of 32.
 static ENDS: [(&str, usize, usize); 27] = [
     ("\n", 30, 64),
     ("\n", 31, 64),

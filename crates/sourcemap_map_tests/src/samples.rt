@@ -18,7 +18,7 @@ pub const NONE: u32 = u32::MAX;
 /// Generated line and column, then source id with original line and column, name id, range flag.
 pub type Row = ((u32, u32), (u32, u32, u32), u32, bool);
 
-// The tokens of the map in the documentation of the crate `sourcemap`. The token with the last
+// The tokens of the map in the documentation of the Rust crate `sourcemap`. The token with the last
 // generated position is first in this list. The other tokens follow in order.
 static README: [Row; 9] = [
     ((0, 24), (0, 2, 8), NONE, false),

@@ -1,4 +1,5 @@
--- Decoding the first part of the rest of a line. The first two lemmas are for a part with numbers.
+-- Decoding the next part of a line: the first part that is not decoded yet. The first two lemmas are for a part with
+-- numbers.
 use Rattle.std.proofs.Common.{ℕ, ◌+◌, ◌<◌, ℤ, List, [], ◌∷◌, ◌++◌, length, Option, arith, sym, subst}
 use Rattle.std.specs.Option.{option_map_or}
 use denote.Ref.{Bor}

@@ -133,8 +133,8 @@ HasPartError-comma line rest c cs sound d (x ∷ xs) goes lacks first ne is =
     ∙ ap (λ p. p ∷ parts) (append-nil (front ++ part)))
     sound.reads (λ none. cc) goes.unfinished
 
--- after valid numbers without a `,`, and where a byte other than `,` comes next: the error of the next number, as the
--- error of the line's first part
+-- a line begins with zero or more valid numbers without a `,`. The rest of the line begins with a byte other than `,`.
+-- If the first number of the rest has the error `e`, then the first part of the line has the error `error_in_part e`
 pub HasPartError-from : (line rest : List ℕ) (c : ℕ) (cs : List ℕ) (sound : IsSound line rest) (e : Error) → Lacks sound.front → rest ≡ c ∷ cs → (c == comma) ≡ false
     → NumberError rest e → HasPartError line (error_in_part e)
 HasPartError-from line rest c cs sound (InvalidBase64 d) lacks first ne (part, goes, none) = elim (cases_Bool (d == comma)) [

@@ -121,7 +121,8 @@ all_sound_from sources names [] few within small = tt
 all_sound_from sources names (t ∷ ts) few within small =
     (sound_by sources names t (has_source t) refl few within.0 small.0, all_sound_from sources names ts few within.1 small.1)
 
--- the sums over some segments, except for generated columns, are the fields that were written last, 0 if none was
+-- for source id, original line and original column: the sum over the segments `all` (`sum_at`) is this field of the
+-- last token in `before` with a source. For the name id: of the last token with a name. Without such a token it is 0
 pub record Carries (names : ℕ) (before : List RawToken) (all : List Segment) : Type 0 where
   pub id : sum_at 1 all ≡ last_field has_source (λ t. t.src_id) before
   pub line : sum_at 2 all ≡ last_field has_source (λ t. t.src_line) before
@@ -172,8 +173,9 @@ Carries-more sources names at before all t few few_names sound c =
             name = sum_more 4 t.name_id _ all s (omega arith) c.name (ap (step_of 4) ns) ∙ sym (last_field-push_yes (has_name names) (λ u. u.name_id) before t name);
           }
 
--- with the segment of a token, the sum of the first numbers of the segments of its line is the generated column of the
--- token
+-- suppose that the first numbers of `here`, the earlier segments of the line of `t`, sum to the generated column of the
+-- last earlier token on this line, or to 0 if there is none. If the segment of `t` is appended to `here`, they sum to
+-- the generated column of `t`. Sums are modulo 2^32
 pub column_more : (sources names at : ℕ) (before : List RawToken) (here : List Segment) (t : RawToken) → IsSound sources names t
     → sum_at 0 here ≡ last_field (is_on t.dst_line) (λ u. u.dst_col) before
     → sum_at 0 (here ++ segment_of names at before t ∷ []) ≡ t.dst_col

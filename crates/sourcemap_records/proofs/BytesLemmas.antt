@@ -1,5 +1,6 @@
--- If a record has at most one result, so have bytes and values. Of two `Io` errors only the kinds are compared. Results
--- of inner calls are results of outer calls.
+-- If a record has at most one result, so have JSON values, bytes and data URLs. Of two `Io` errors only the kinds are
+-- compared. A result for a record is a result for the value and for the bytes that hold this record. A result for bytes
+-- is a result for the reader that returned them.
 use Rattle.std.proofs.Common.{◌≡◌, inl, inr, refl, sym, ◌∙◌, ap, ℕ, List, [], Option, Some, None, Result, Ok, Err, IfSome, MatchOption, MatchResult, IsErrAnd}
 use Rattle.serde_json.specs.Data.{Data}
 use Rattle.serde_json.specs.Read.{read}

@@ -1,6 +1,6 @@
--- The keys of a record in three groups. The groups, and the keys within each group, are read, and put into the JSON
--- object, in the order of the three records below. The object keeps its keys in byte order. The keys `sections`,
--- `debugId` and `debug_id` are in no group.
+-- The keys of a record in three groups: `FileKeys`, `ContentKeys` and `ExtraKeys`. The groups are read in this order.
+-- Within a group, the keys are read in the order of the fields. The keys are put into the JSON object in the same
+-- order. The object itself keeps its keys in byte order. The keys `sections`, `debugId` and `debug_id` are in no group.
 use Rattle.std.specs.Prelude.{◌≡◌, ℕ, List, [], ◌∷◌, map, codes, Option, Some, IfSome, option_map, string_bytes, false}
 use Rattle.std.specs.List.{list_any, AllByRecursion}
 use Rattle.std.specs.Str.{bytes_eq}

@@ -240,8 +240,8 @@ mask-after (x ∷ xs) (suc k) =
     ap (λ n. mask_l (map is_terminator (x ∷ xs)) / n) (pow-suc 2 k ∙ mul_comm (2 ^ k) 2) ∙ sym (div-div-eq-div-mul (mask_l (map is_terminator (x ∷ xs))) 2 (2 ^ k))
     ∙ ap (λ n. n / 2 ^ k) (half (is_terminator x) (mask_l (map is_terminator xs))) ∙ mask-after xs k
 
--- the first terminator from `offset` to `end` is `gap` bytes on; the bits of the mask `left` above bit `gap` are the
--- mask of the bytes after that terminator
+-- the first terminator at or after `offset`, and before `end`, is at `offset + gap`. The bits of the mask `left` above
+-- bit `gap` are the mask of the bytes after that terminator and before `end`
 pub record Lowest (text : List ℕ) (offset end left gap : ℕ) : Type 0 where
   pub inside : offset + gap < end
   pub quiet : (k : ℕ) → offset ≤ k → k < offset + gap → is_terminator (get_or text k 0) ≡ false

@@ -271,8 +271,8 @@ named_bytes (n ∷ ns) rest name valid spelt some =
     let bytes : encode_utf8_all (n ∷ (ns ++ take_while is_part rest)) ≡ name ++ encode_utf8_all (take_while is_part rest) = encodes-append (n ∷ ns) (take_while is_part rest) ∙ ap (λ t. t ++ encode_utf8_all (take_while is_part rest)) spelt in
     same_name name (encode_utf8_all (take_while is_part rest)) rest refl ∙ sym (ap (λ t. bytes_eq t name) bytes) ∙ sym (ap (λ i. is_text name (unless_empty i)) is)
 
--- if the text starts with the name, and the name is an identifier and not empty, the identifier of the text is the name
--- unless the next character can continue it
+-- let the name be an identifier and not empty, and let the text start with the name. The longest identifier at the
+-- start of the text is the name exactly if no character comes after the name, or one that cannot continue an identifier
 pub named_if : (text rest name : List ℕ) → IsUtf8 name → is_identifier (chars name) ≡ true → name ≢ [] → text ≡ name ++ rest
     → not (first_passes is_part (chars rest)) ≡ is_text name (unless_empty (identifier_at_start (chars text)))
 named_if text rest name u valid some e =

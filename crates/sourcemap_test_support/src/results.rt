@@ -1,5 +1,6 @@
-//! Helpers for test suites: errors and options become texts. Only `OutOfMemory` stays an error, so
-//! that no test hides a failed allocation.
+//! Helpers for test suites. Most turn errors and options into texts. For these helpers, only
+//! `OutOfMemory` stays an error, so that no text hides a failed allocation. `again` and
+//! `box_result` can return any error.
 use sourcemap_errors::errors::{Error, Result};
 use std::alloc::Global;
 

@@ -109,7 +109,8 @@ abbrev pub start_of : List (List (List ℕ)) → Option (List (List ℕ))
 start_of [] = None
 start_of (parts ∷ lists) = Some (first_parts (parts ∷ lists))
 
--- the common first parts of a start and one more list; the whole list for `None`
+-- `Some start` holds the common first parts of the lists so far. The result is the common first parts of `start` and of
+-- one more list. `None`: there are no lists so far, and the result is the one list
 abbrev pub start_with : Option (List (List ℕ)) → List (List ℕ) → List (List ℕ)
 start_with None parts = parts
 start_with (Some start) parts = common_parts start parts
@@ -330,7 +331,8 @@ abbrev pub shared_at : ℕ → ℕ → Bool → ℕ → ℕ
 shared_at at zero both_end kept = cond both_end at kept
 shared_at at (suc count) both_end kept = at + suc count
 
--- what holds when the walk is at `at` and its last cut is at `kept`
+-- what holds in the walk over both texts at index `at`, if all bytes before `at` are equal. `kept` is the index of the
+-- last separator before `at`, or 0 if there is none
 pub record IsWalk (a b : List ℕ) (at kept : ℕ) : Type 0 where
   pub within_a : at ≤ length a
   pub within_b : at ≤ length b

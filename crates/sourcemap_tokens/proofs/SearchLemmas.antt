@@ -17,7 +17,8 @@ use Rattle.std.proofs.lemmas.List.Recursion.{found_at, found_nowhere}
 use Rattle.std.proofs.lemmas.List.Sorted.{searchable_from_sorted}
 use Rattle.sourcemap_tokens.specs.Search.{find_last, closest_item, closest}
 
--- `low` is 0, or the item before index `low` has a key before p. The item at index `high`, if any, has not
+-- If `low` is not 0, the key of the item at index `low - 1` is before `p`. If the list has an item at index `high`, the
+-- key of this item is not before `p`
 pub record IsBracket {X K : Type 0} (key : X → K) (cmp : K → K → Ordering) (xs : List X) (p : K) (low high : ℕ) : Type 0 where
   pub below : (d : X) → 0 < low → is_lt (cmp (key (get_or xs (low - 1) d)) p) ≡ true
   pub above : (d : X) → high < length xs → is_lt (cmp (key (get_or xs high d)) p) ≡ false

@@ -194,7 +194,7 @@ AllWithin-reduced sources names tokens few all =
     (λ t within none. let bare = within none in (bare.0, bare.1, bare.2, sound_name_fits names t.name_id few bare.3))
     (without_repeats tokens) (All-without_repeats (IsWithin sources names) tokens all))
 
--- any two proofs of a bound are equal, as a ghost field of a type requires
+-- any two proofs of `AllWithin`, for the same counts and the same tokens, are equal
 pub AllWithin-prop : (sources names : ℕ) (tokens : List RawToken) → IsProp (AllWithin sources names tokens)
 AllWithin-prop sources names tokens = AllByRecursion-prop (IsWithin sources names) (λ token. hlevel props) tokens
 

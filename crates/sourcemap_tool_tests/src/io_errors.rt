@@ -10,7 +10,7 @@ use std::io;
 use std::io::ErrorKind;
 use std::test::Fail;
 
-// A writer that accepts `left` bytes.
+// A writer that accepts `left` calls of `write` and `flush`, or all calls if `left` is `None`.
 fn narrow(rt: &HostRuntime, left: Option<usize>) -> NarrowWriter {
     NarrowWriter {
         held: Vec::new(rt.alloc()),

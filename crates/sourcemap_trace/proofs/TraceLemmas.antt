@@ -35,7 +35,7 @@ back_alike t back Stands positions once (read, stands, restored) stands' =
     let same : read ≡ back = let both = once (Ok read) (Ok back) stands stands' in cc in
     alike back t positions (subst (λ x. MeansTheSame x t) same restored.0)
 
--- if `AnswersLike` holds, a flat map gives the answer of its index, unless the index answers `none`
+-- if `AnswersLike` holds, a flat map gives the same answer as its index map, unless the index map's answer is `none`
 flat_at : (t : MapTree) (m : MapValue) (p : Option (ℕ × ℕ)) → AnswersLike t m → answer_at (meaning t) p ≢ codes "none"
     → answer_at (meaning (leaf (regular m))) p ≡ answer_at (meaning t) p
 flat_at t m None like other = refl

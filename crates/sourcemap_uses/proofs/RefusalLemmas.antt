@@ -11,7 +11,7 @@ pub unless_memory : (e : Error) (P Q : Type 0) → (P → Q) → UnlessMemory e 
 unless_memory OutOfMemory P Q f h = tt
 unless_memory _ P Q f h = f h
 
--- a specified value is not also an error
+-- `Ok due` and `Err e` are never equal, so anything follows if they are
 pub never_due : {Y : Type 0} (due : Y) (e : Error) (Q : Type 0) → Ok due ≡ Err e → Q
 never_due due e Q wrong = absurd (cc)
 

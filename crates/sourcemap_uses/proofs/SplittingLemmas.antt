@@ -28,7 +28,7 @@ module _ (i : IndexValue) (modules : List (Result ModuleValue Error)) (split : S
       (ap (λ s. s.flat) same, (map (due_of flat) is_first.others, ap dues_in same ∙ ap (map (due_of flat)) is_first.comes_first))
   first_due (inr nothing) = absurd nothing
 
--- a returned module has the map of its text
+-- if `parts_at` returns the parts of a module, their map is the map that `parts_on` makes for this module
 pub given_map : (flat : MapValue) (line : ℕ) (found : ModuleValue) (parts : ModuleParts) → parts_at flat line found ≡ Ok parts
     → (parts_on flat line found).map ≡ parts.map
 given_map flat line found parts is = by_cases (is_some (meaning flat (line, 0)) && is_utf8 found.text) refl

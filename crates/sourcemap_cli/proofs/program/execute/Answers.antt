@@ -1,4 +1,4 @@
--- The command's output for the decoded map and its file, or the first error.
+-- The command's output for the decoded map, or the first error. `compose` and `trace` also use the file of the command.
 use Rattle.std.proofs.Common.{option_map}
 use Rattle.std.proofs.lemmas.Result.{err_from_is_err_and}
 use Rattle.sourcemap.specs.AnyMap.{map_tree}

@@ -1,4 +1,5 @@
--- The reply to a command, or the usage; no other reply is right, but for the texts of std's errors.
+-- The reply is the reply to the command, or the usage if the words are no command. No other reply is correct, except
+-- that an error of std may be reported with any text.
 use Rattle.std.proofs.Common.{Some, map, string_bytes}
 use Rattle.sourcemap_cli.specs.Program.{file_read}
 use Rattle.sourcemap_cli.proofs.ProgramLemmas.{only_reply, reply_of_command, reply_to_others}

@@ -1,4 +1,4 @@
--- Bytes with an error other than `OutOfMemory` are not a map.
+-- If `read_json` returns an error other than `OutOfMemory`, the bytes are not a map.
 use Rattle.sourcemap_detection.proofs.DetectionLemmas.{not_a_map}
 use Rattle.sourcemap_detection.proofs.detection.is_sourcemap_slice.Goals as goal
 

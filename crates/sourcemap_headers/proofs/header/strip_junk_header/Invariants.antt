@@ -2,7 +2,7 @@ use Rattle.std.proofs.Common.{◌≡◌, length}
 use Rattle.sourcemap_headers.specs.Header.{after_junk, after_header}
 use Rattle.sourcemap_headers.proofs.header.strip_junk_header.Given as goal
 
--- `after_junk` of the rest gives the same as stripping all bytes
+-- `after_junk` of the rest is equal to `after_header` of all bytes
 abbrev pub invariant-loop-rest : goal.invariant-loop-rest
 invariant-loop-rest l = after_junk l.rest ≡ after_header l.fn.bytes
 

@@ -1,5 +1,5 @@
--- A data URL has one answer. Of two `Io` errors only the kinds are compared. Only texts that are no data URL have the
--- error `InvalidDataUrl`.
+-- A data URL has one answer, unless memory runs out. Two `Io` errors of the same kind count as the same answer. Only
+-- texts that are no data URL have the error `InvalidDataUrl`.
 use Rattle.sourcemap_index.proofs.DecodeLemmas.{url_only}
 use Rattle.sourcemap_index.proofs.UrlErrorLemmas.{refused_as_no_url}
 use Rattle.sourcemap_index.proofs.decode.decode_data_url.Goals as goal

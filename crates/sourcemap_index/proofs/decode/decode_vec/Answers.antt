@@ -1,4 +1,4 @@
--- Bytes have one answer. Of two `Io` errors only the kinds are compared.
+-- Bytes have one answer, unless memory runs out. Two `Io` errors of the same kind count as the same answer.
 use Rattle.sourcemap_index.proofs.DecodeLemmas.{bytes_only}
 use Rattle.sourcemap_index.proofs.decode.decode_vec.Goals as goal
 

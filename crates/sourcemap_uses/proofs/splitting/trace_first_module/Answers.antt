@@ -1,5 +1,6 @@
--- The text for the first module, or an error. In this module, its map has the meaning of the flattened map, if the
--- closest token of the flattened map is in this module too.
+-- The text that the map of the first module gives for the position, or an error. The text is empty if there is no
+-- module. The flattened map gives the same text for the same position in the bundle, if two things are in the module:
+-- this position, and the generated position of the closest token to it in the flattened map.
 use Rattle.std.proofs.lemmas.Result.{err_from_is_err_and}
 use Rattle.std.proofs.Common.{◌≡◌, ◌∙◌, ◌+◌, ◌-◌, sym, ap, subst, Ok, IfOk, string_bytes, arith}
 use Rattle.sourcemap.specs.Answer.{Gives}

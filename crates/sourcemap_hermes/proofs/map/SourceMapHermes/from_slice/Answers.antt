@@ -1,4 +1,4 @@
--- Bytes decode to at most one result, except that they determine only the kind of an `Io` error.
+-- Unless memory runs out, the bytes determine the result. If the result is an `Io` error, they determine only its kind.
 use Rattle.sourcemap_records.proofs.BytesLemmas.{bytes_only}
 use Rattle.sourcemap_hermes.specs.Decode.{RecordDecodesAsHermes}
 use Rattle.sourcemap_hermes.specs.Map.{hermes_value}

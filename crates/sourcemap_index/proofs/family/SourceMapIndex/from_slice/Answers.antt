@@ -1,4 +1,4 @@
--- Bytes have one answer. Of two `Io` errors only the kinds are compared.
+-- Bytes have one answer, unless memory runs out. Two `Io` errors of the same kind count as the same answer.
 use Rattle.sourcemap_records.proofs.BytesLemmas.{bytes_only}
 use Rattle.sourcemap_index.specs.Decode.{IndexDecodes}
 use Rattle.sourcemap_index.specs.Family.{index_value}
