@@ -153,8 +153,9 @@ static INDEXES: [(&str, &str); 8] = [
         r#"1:2 None a map;3:0 Some("p") no map;"#,
     ),
     (r#"{"sections":[]}"#, ""),
-    // If `sections` is missing or null, the error is `IncompatibleSourceMap`. The mappings are not
-    // decoded, so invalid mappings do not change the error.
+    // If `sections` is missing or null and no field has a wrong type, the error is
+    // `IncompatibleSourceMap`. The mappings are not decoded, so invalid mappings do not change the
+    // error.
     (
         r#"{"mappings":"!"}"#,
         "encountered incompatible sourcemap format",

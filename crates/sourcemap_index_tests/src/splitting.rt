@@ -259,7 +259,8 @@ static ITEMS: [&str; 3] = [
     r#"2.js [w] {"file":"2.js","mappings":"AACEA","names":["n"],"sources":["a.js"],"sourcesContent":["A"],"version":3}"#,
 ];
 
-// Whether an item is the wanted one, or its error is `OutOfMemory`.
+// Whether an item is the wanted one, or its error is `OutOfMemory`. Also true if memory runs out
+// while the text of the item is made.
 fn is_wanted_or_out_of_memory(
     alloc: Global,
     item: Result<(String, SourceView, SourceMap)>,
@@ -272,7 +273,7 @@ fn is_wanted_or_out_of_memory(
     }
 }
 
-// How many of the three items are the wanted ones or `OutOfMemory`.
+// For how many of the three items `is_wanted_or_out_of_memory` returns true.
 fn wanted_items(alloc: Global, bundle: &RamBundle<'_>, index: &SourceMapIndex) -> Result<usize> {
     let items = split_ram_bundle(alloc, &*bundle, index)?;
     let mut count = 0usize;
