@@ -1,4 +1,4 @@
--- The closest token of a sorted list, by its neighbours.
+-- The token of a sorted list that is closest to a position: a sufficient condition and a necessary one.
 use Rattle.std.proofs.Common.{◌≡◌, refl, sym, ap, subst, ◌∙◌, ℕ, zero, suc, ◌<◌, List, [], ◌∷◌, length, Bool, true, false, cond, Some, None, Option, find, arith, inl, inr, ◌⊎◌}
 use Rattle.std.specs.List.{AllByRecursion, Contains, slice_index_or}
 use Rattle.std.specs.Option.{option_or, IfSome}
@@ -167,7 +167,8 @@ module _ (q : ℕ × ℕ) where
   before-not_at : (p : ℕ × ℕ) → is_before p q ≡ true → is_eq (position_cmp p q) ≡ false
   before-not_at p before = grind (arith, nat_tests)
 
-  -- in a list in order, a token not after `q` is the closest one if no other is from it up to `q`
+  -- let `xs` be in order, and `x` a token of `xs` at or before `q`. If no other token of `xs` is between `x` and `q`,
+  -- both included, `x` is the token closest to `q`
   pub closest-only : (x : RawToken) (xs : List RawToken) → Rises (λ a b. is_before (destination a) (destination b)) xs
       → IsIn x xs → is_before q (destination x) ≡ false
       → AllByRecursion (λ y. is_before (destination y) (destination x) ≡ false → is_before q (destination y) ≡ false → y ≡ x) xs
@@ -198,7 +199,7 @@ module _ (q : ℕ × ℕ) where
             rw (miss, last) refl
       ]
 
-  -- the token is in the list and not after `q`, and each token after it is after `q`
+  -- `t` is a token of `xs` at or before `q`. No token of `xs` at or before `q` is after `t`
   pub record IsGreatest (t : RawToken) (xs : List RawToken) : Type 0 where
     pub one : IsIn t xs
     pub reached : is_before q (destination t) ≡ false

@@ -20,7 +20,7 @@ pub on_the_line : (start end p : ℕ × ℕ) → is_before (line_end start) end 
     → (start.0 ≡ p.0) × (start.1 ≤ p.1)
 on_the_line start end p short from to = (grind (arith, nat_tests), grind (arith, nat_tests))
 
--- so if two stretches overlap, the later start is on the line of each, at the column of its start or after it
+-- if two sound stretches `a` and `o` overlap, both start on the line of `later_start a o`, at or before that position
 pub later-on_the_line : (a o : Stretch) → IsSound source a → IsSound destination o → overlap a o ≡ true
     → (a.start.0 ≡ (later_start a o).0) × (a.start.1 ≤ (later_start a o).1)
     × (o.start.0 ≡ (later_start a o).0) × (o.start.1 ≤ (later_start a o).1)
@@ -139,7 +139,6 @@ module _ (S T : List Stretch) (i j : ℕ) (a o : Stretch)
       ∙ ap (λ tokens. done ++ tokens) (sym (first_both a o (drop (i + 1) S) (drop (j + 1) T) ends ends_too at_o.later at_a.later))
       ∙ opened
 
-  -- if the token of this pair overflows, one of all tokens does
   pub overflows_in_all : list_any overflows_column (pair a o) ≡ true → list_any overflows_column all ≡ true
   overflows_in_all passes =
       elim (cases_Bool (is_before o.end a.end)) [

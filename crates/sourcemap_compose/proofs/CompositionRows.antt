@@ -21,32 +21,32 @@ two_parts = refl
 line_end : composition (at 8 28 102 35 ∷ at 8 40 102 50 ∷ at 9 10 103 12 ∷ []) (at 17 23 8 30 ∷ []) ≡ Ok (at 17 23 102 35 ∷ at 17 33 102 50 ∷ [])
 line_end = refl
 
--- of two adjustments at one position the first is empty: it pairs only strictly inside of an original
+-- the first of two adjustments at one position is empty, and overlaps an original only if the original starts earlier
 empty_inside : composition (at 0 0 1 1 ∷ []) (at 3 0 0 5 ∷ at 4 0 0 5 ∷ []) ≡ Ok (at 3 0 1 1 ∷ at 4 0 1 1 ∷ [])
 empty_inside = refl
 
 empty_at_start : composition (at 0 5 1 1 ∷ []) (at 3 0 0 5 ∷ at 4 0 0 5 ∷ []) ≡ Ok (at 4 0 1 1 ∷ [])
 empty_at_start = refl
 
--- a generated column past the highest one, and the highest one
+-- the generated column 4294967296 gives an error, the generated column 4294967295 does not
 column_overflow : composition (at 0 0 1 1 ∷ at 0 1 1 2 ∷ []) (at 0 4294967295 0 0 ∷ []) ≡ Err IncompatibleSourceMap
 column_overflow = refl
 
 last_column : composition (at 0 0 1 1 ∷ []) (at 0 4294967295 0 0 ∷ []) ≡ Ok (at 0 4294967295 1 1 ∷ [])
 last_column = refl
 
--- of two originals at one position the first is empty: it pairs only strictly inside of an adjustment
+-- the first of two originals at one position is empty, and overlaps an adjustment only if the adjustment starts earlier
 empty_original_inside : composition (at 0 5 1 1 ∷ at 0 5 2 2 ∷ []) (at 0 0 0 0 ∷ []) ≡ Ok (at 0 5 1 1 ∷ at 0 5 2 2 ∷ [])
 empty_original_inside = refl
 
 empty_original_at_start : composition (at 0 5 1 1 ∷ at 0 5 2 2 ∷ []) (at 0 0 0 5 ∷ []) ≡ Ok (at 0 0 2 2 ∷ [])
 empty_original_at_start = refl
 
--- an adjustment with the original position of a token without source
+-- an adjustment at original line and column 4294967295, as in a token without a source, gives no token
 no_source : composition (at 0 0 1 1 ∷ []) (at 0 0 4294967295 4294967295 ∷ []) ≡ Ok []
 no_source = refl
 
--- two tokens at one position, in the order of the original positions of the adjustment
+-- two new tokens at one generated position: the original positions of the adjustments decide the order
 one_position : composition (at 0 0 1 1 ∷ at 0 5 2 2 ∷ []) (at 0 0 0 0 ∷ at 0 0 0 5 ∷ []) ≡ Ok (at 0 0 1 1 ∷ at 0 0 2 2 ∷ [])
 one_position = refl
 
@@ -54,7 +54,7 @@ one_position = refl
 out_of_order : composition (at 0 5 2 2 ∷ at 0 0 1 1 ∷ []) (at 0 0 0 5 ∷ at 7 0 0 0 ∷ []) ≡ Ok (at 0 0 2 2 ∷ at 7 0 1 1 ∷ [])
 out_of_order = refl
 
--- originals whose first columns fall away
+-- the adjustment starts ten columns after an original. Only a range token with a source gets a higher original column
 cut_range : composition (range 0 0 0 7 ∷ []) (at 5 0 0 10 ∷ []) ≡ Ok (range 5 0 0 17 ∷ [])
 cut_range = refl
 

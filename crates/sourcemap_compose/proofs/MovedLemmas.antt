@@ -95,7 +95,7 @@ one_start (t ∷ ts) apart s o (inr in_s) (inl is_o) same =
     absurd (All-in (λ (u : Stretch). destination t ≡ u.start → ⊥) s (stretches destination ts) (starts_of (λ p. destination t ≡ p → ⊥) ts apart.0) in_s (ap (λ (u : Stretch). u.start) is_o ∙ sym same))
 one_start (t ∷ ts) apart s o (inr in_s) (inr in_o) same = one_start ts apart.1 s o in_s in_o same
 
--- one that starts later than another starts where that ends, or later
+-- if `o` starts after the start of `s`, `o` starts at or after the end of `s`
 starts_after : (tokens : List RawToken) → Rises (λ a b. is_before (destination a) (destination b)) tokens
     → (s o : Stretch) → IsIn s (stretches destination tokens) → IsIn o (stretches destination tokens) → is_before s.start o.start ≡ true → is_before o.start s.end ≡ false
 starts_after [] r s o in_s in_o before = absurd in_s
@@ -199,7 +199,7 @@ columns_add_up true id col line dst_line dst_col from c d at q_line q_col source
       | inr sourced ↦ rw (here, there, sourced) (parts_add_up col c d from dst_col at q_col same one two three)
     ]
 
--- A position in a stretch `a` of the adjustment and a stretch `s` of the original.
+-- A position `q` that lies both in a stretch `a` of the adjustment and in a stretch `s` of the original.
 
 module _ (ts : List RawToken) (bs : List Stretch) (r : Rises (λ a b. is_before (destination a) (destination b)) ts) (apart : AreApart ts)
     (sounds : AllByRecursion (IsSound source) bs) (a s : Stretch) (q : ℕ × ℕ)
@@ -229,7 +229,7 @@ module _ (ts : List RawToken) (bs : List Stretch) (r : Rises (λ a b. is_before 
   reached_later : (later_start a s).1 ≤ q.1
   reached_later = column_le (later_start a s) q (later-least a s (λ p. is_before q p ≡ false) inside_a.0 inside_s.0) (line_later s in_s meets).0
 
-  -- of the tokens that `a` gives, that of `s` is the last one not after the moved q
+  -- if `o` overlaps `a`, and `composed a o` is between `composed a s` and `moved a q`, both included, `o` is `s`
   only_here : (o : Stretch) → IsIn o (stretches destination ts) → overlap a o ≡ true
       → is_before (destination (composed a o)) (destination (composed a s)) ≡ false
       → is_before (moved a q) (destination (composed a o)) ≡ false → o ≡ s
@@ -281,7 +281,6 @@ module _ (ts : List RawToken) (bs : List Stretch) (r : Rises (λ a b. is_before 
       (moved-order a (later_start a s) q reached_later)
       (All-sorted_by destination position_cmp_total is_only all (All-composed is_only bs (stretches destination ts) (only_from_alone alone)))
 
-  -- the distances add up
   pub same_origin : (s.token.src_id ≡ no_id → s.token.src_col ≡ no_id) → s.token.dst_line ≡ q.0 → origin_by (composed a s) (moved a q) ≡ origin_by s.token q
   same_origin sourceless on_line =
       let on = later-on_the_line a s sound_a (sound_o s in_s) meets in
@@ -289,7 +288,7 @@ module _ (ts : List RawToken) (bs : List Stretch) (r : Rises (λ a b. is_before 
       (ap (λ (p : ℕ × ℕ). p.1) (sound_o s in_s).start) (line_later s in_s meets).1 on.3 reached_later in
       λ i. record { source = s.token.src_id; line = s.token.src_line; column = column i; name = s.token.name_id; is_range = s.token.is_range }
 
--- The law.
+-- The law `moved_positions_answer_as_before`.
 
 pub composition-sorted : (original adjustment new : List RawToken) → composition original adjustment ≡ Ok new
     → in_order (composed_all (stretches_by Adjustment adjustment) (stretches_by Original original)) ≡ new

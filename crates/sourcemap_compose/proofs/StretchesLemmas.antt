@@ -1,4 +1,4 @@
--- Stretches of a sorted list: their positions, and that no later one starts before an earlier one ends.
+-- The order of positions, and the stretches of a sorted list: no stretch starts before an earlier stretch ends.
 use Rattle.std.proofs.Common.{◌≡◌, refl, sym, ap, subst, ◌∙◌, ℕ, zero, suc, ◌+◌, ◌<◌, ◌≤◌, List, [], ◌∷◌, length, drop, Bool, true, false, Some, None, Option, slice_get, IsSortedByKey, arith, inl, inr, ◌⊎◌, add-one}
 use Rattle.std.specs.List.{AllByRecursion}
 use Rattle.std.specs.Ordering.{is_lt}
@@ -115,7 +115,7 @@ module _ (position : RawToken → ℕ × ℕ) where
   pub stretches_follow : (tokens : List RawToken) → IsSortedByKey position position_cmp tokens → Rises (λ (u s : Stretch). is_before u.start s.end) (stretches position tokens)
   stretches_follow tokens up = Rises-stretches tokens (Rises-from_sorted (λ a b. is_lt (position_cmp (position a) (position b))) (ranks_by position_cmp_total position) tokens up)
 
-  -- a stretch starts at its token, and ends no later than its line
+  -- `s` starts at the position of its token, and ends at or before the end of the line of `s.start`
   pub record IsSound (s : Stretch) : Type 0 where
     pub start : s.start ≡ position s.token
     pub end : is_before (line_end s.start) s.end ≡ false
@@ -144,7 +144,7 @@ drop-past [] (suc i) e = refl
 drop-past (y ∷ ys) zero e = cc
 drop-past (y ∷ ys) (suc i) e = drop-past ys i e
 
--- the item at an index, and that no later item is less
+-- `x` is the item of `xs` at index `i`, and no later item is less than `x`
 pub record IsAt {X : Type 0} (lt : X → X → Bool) (xs : List X) (i : ℕ) (x : X) : Type 0 where
   pub here : drop i xs ≡ x ∷ drop (i + 1) xs
   pub later : AllByRecursion (λ y. lt y x ≡ false) (drop (i + 1) xs)

@@ -1,4 +1,4 @@
--- Errors that are due unless memory ran out, and results where only one answer is allowed.
+-- Facts about what a call may return, where the error `OutOfMemory` is always allowed.
 use Rattle.std.proofs.Common.{◌≡◌, Result, Ok, Err}
 use Rattle.sourcemap_errors.specs.Answer.{UnlessMemory, Gives, IsAnswer}
 use Rattle.sourcemap_errors.specs.declared.errors.Error.{Error}
@@ -12,7 +12,7 @@ pub UnlessMemory-from : (e : Error) {P : Type 0} → P → UnlessMemory e P
 UnlessMemory-from OutOfMemory h = tt
 UnlessMemory-from _ h = h
 
--- if all allowed answers are equal, the result is the one that is due, or memory ran out
+-- if `Answers` allows only `answer`, then an allowed `result`, mapped by `view`, is `answer`, unless memory ran out
 pub Gives-only : {X Y : Type 0} (view : X → Y) (Answers : Result Y Error → Type 0)
     → ((a b : Result Y Error) → Answers a → Answers b → a ≡ b)
     → (result : Result X Error) → IsAnswer view Answers result

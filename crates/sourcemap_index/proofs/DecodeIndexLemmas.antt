@@ -27,7 +27,7 @@ use Rattle.sourcemap_index.specs.declared.family.DecodedMap.{DecodedMap}
 use Rattle.sourcemap_index.specs.declared.family.SourceMapIndex.{SourceMapIndex}
 use Rattle.sourcemap_index.specs.Decode.{SectionDecodes, PartsDecode, IndexDecodes, index_in, index_with}
 
--- how many sections and lists of sections a record holds, at all levels
+-- ---- how many sections and lists of sections a record holds, at all levels
 
 abbrev mutual
   pub sections_below : Tree → ℕ

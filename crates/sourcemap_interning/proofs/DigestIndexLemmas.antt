@@ -17,7 +17,7 @@ bytes_eq-flip a b apart = elim (cases_Bool (bytes_eq b a)) [
   | inr h ↦ h
 ]
 
--- a different string at the end does not match
+-- appending a string `new` that differs from `text` does not change whether the string at `id` equals `text`
 is_text-append : (texts : List (List ℕ)) (new text : List ℕ) (id : ℕ) → bytes_eq text new ≡ false → is_text text (slice_get (texts ++ new ∷ []) id) ≡ is_text text (slice_get texts id)
 is_text-append [] new text zero apart = apart
 is_text-append [] new text (suc id) apart = refl
@@ -32,7 +32,7 @@ is_text-last : (texts : List (List ℕ)) (text : List ℕ) → is_text text (sli
 is_text-last [] text = bytes_eq-refl text
 is_text-last (first ∷ texts) text = is_text-last texts text
 
--- if a string has no id but `found`, the result is `found`, whether the given id matches or not
+-- if `texts` can have `text` only at index `found`, `option_or` gives `found`, whether `id` matches or not
 matching_id-is : (texts : List (List ℕ)) (text : List ℕ) (id : Option ℕ) (found : ℕ) → ((n : ℕ) → slice_get texts n ≡ Some text → n ≡ found) → option_or (matching_id texts text id) (Some found) ≡ Some found
 matching_id-is texts text None found only = refl
 matching_id-is texts text (Some id) found only =
@@ -48,7 +48,7 @@ matching_id-is texts text (Some id) found only =
 matching_id-past : (texts : List (List ℕ)) (text : List ℕ) → matching_id texts text (Some (length texts)) ≡ None
 matching_id-past texts text = rw (slice_get_past texts (length texts) (le_refl (length texts))) refl
 
--- a new string that goes to `firsts`, where its digest has no id yet
+-- if `firsts` has no id for the digest of a new `text`, the index stays valid after `firsts` gets the id of `text`
 pub IsIndex-first : (firsts after : ℕ → Option ℕ) (others : List ℕ → Option ℕ) (texts : List (List ℕ)) (text : List ℕ) (count : ℕ)
     → IsIndex firsts others texts → id_of text texts ≡ None → length texts ≡ count → firsts (digest text) ≡ None
     → ((n : ℕ) → after n ≡ cond (digest text == n) (Some count) (firsts n)) → IsIndex after others (texts ++ text ∷ [])
@@ -73,7 +73,7 @@ IsIndex-first firsts after others texts text count index missing counted free no
     here : option_or (matching_id (texts ++ text ∷ []) text (after (digest text))) (others text) ≡ id_of text (texts ++ text ∷ [])
     here = rw (own, is_text-last texts text) (sym (id_of-last texts text (length texts) refl missing))
 
--- a new string that goes to `others`
+-- if `texts` are distinct, the index stays valid after `others` gets the id of a new `text`
 pub IsIndex-other : (firsts : ℕ → Option ℕ) (others after : List ℕ → Option ℕ) (texts : List (List ℕ)) (text : List ℕ) (count : ℕ)
     → IsIndex firsts others texts → AreDistinct texts → id_of text texts ≡ None → length texts ≡ count
     → ((t : List ℕ) → after t ≡ cond (bytes_eq text t) (Some count) (others t)) → IsIndex firsts after (texts ++ text ∷ [])
@@ -100,7 +100,7 @@ pub matching_id-by : (texts : List (List ℕ)) (text candidate : List ℕ) (give
     → cond same (Some id) None ≡ matching_id texts text given
 matching_id-by texts text candidate given id same is at e = rw (is, at, e) refl
 
--- both lookups together find the id
+-- the lookup by digest gives `near`, and the lookup by text gives `far`. The id is `near`, or `far` if `near` is `None`
 pub index_finds : (firsts : ℕ → Option ℕ) (others : List ℕ → Option ℕ) (texts given_texts : List (List ℕ)) (text : List ℕ) (given near far : Option ℕ)
     → IsIndex firsts others texts → given_texts ≡ texts → given ≡ firsts (digest text) → near ≡ matching_id given_texts text given → far ≡ others text → option_or near far ≡ id_of text texts
 index_finds firsts others texts given_texts text given near far index same g n f = rw (n, f, same, g) (index text)

@@ -145,7 +145,7 @@ module _ (texts : List (List ℕ)) (mask : ℕ) (slots : List Slot) (others : Li
                 inl (subst (λ u. IsReached after (start_of mask (hash_of u)) n) new.1 here)
           ]
 
-    -- no slot is free: the text goes to the tree
+    -- if no slot is free, the index stays valid when the new `text` goes to the overflow tree
     pub index-full : (others' : List ℕ → Option ℕ) → ArePassed texts slots (start_of mask (hash_of text)) text 32 → others text ≡ None
         → ((t : List ℕ) → others' t ≡ cond (bytes_eq text t) (Some (length texts)) (others t)) → IsIndex (texts ++ text ∷ []) mask slots others'
     index-full others' passed new now = record {
@@ -219,7 +219,8 @@ new-among texts i text distinct at = none_has (take i texts) text never
         let same : n ≡ i = cc in
         absurd (omega (arith, same, before.0))
 
--- an attempt to put a text into the tree, successful or not
+-- let no slot be free for the new `text`. An attempt to add `text` to the overflow tree succeeds (`put` is `true`) or
+-- fails. The index stays valid in both cases
 pub index-put : (texts : List (List ℕ)) (mask : ℕ) (slots : List Slot) (others : List ℕ → Option ℕ) (is : IsIndex texts mask slots others) (text : List ℕ) → length texts < 4294967295
     → ArePassed texts slots (start_of mask (hash_of text)) text 32 → others text ≡ None
     → (put : Bool) (texts' : List (List ℕ)) (others' : List ℕ → Option ℕ) → texts' ≡ (if put then texts ++ text ∷ [] else texts)

@@ -70,7 +70,8 @@ AreDistinct-append texts text distinct new one id at =
           rw (id_of-append texts text new one, found, last) refl
     ]
 
--- the map of ids after a new string is added
+-- if `old` gives the ids in `texts`, and `new` adds the next id for a new `text`, `new` gives the ids with `text`
+-- appended
 pub ids-append : (texts : List (List ℕ)) (text : List ℕ) (count : ℕ) (old new : List ℕ → Option ℕ) → length texts ≡ count → id_of text texts ≡ None
     → ((t : List ℕ) → old t ≡ id_of t texts) → ((t : List ℕ) → new t ≡ cond (bytes_eq text t) (Some count) (old t))
     → (t : List ℕ) → new t ≡ id_of t (texts ++ text ∷ [])
@@ -99,6 +100,6 @@ index_from text i (first ∷ texts) id e =
           (omega (arith, later.0), rw index later.1)
     ]
 
--- a string is at the index of its id
+-- if `text` has the id `id`, `texts` has `text` at index `id`
 pub slice_get-id_of : (text : List ℕ) (texts : List (List ℕ)) (id : ℕ) → id_of text texts ≡ Some id → slice_get texts id ≡ Some text
 slice_get-id_of text texts id e = let same : id - 0 ≡ id = omega arith in subst (λ n. slice_get texts n ≡ Some text) same (index_from text 0 texts id e).1

@@ -1,4 +1,4 @@
--- From the index where a search in a line ends to the closest token, and how many comparisons this takes.
+-- The index where a search in a line ends determines the closest token. Also bounds for the number of comparisons.
 use Rattle.std.proofs.Common.{◌≡◌, refl, sym, ap, subst, ◌∙◌, ℕ, zero, suc, ◌<◌, ◌≤◌, ◌+◌, ◌-◌, ◌*◌, ◌/◌, ◌^◌, arith, inl, inr, eq-eqb, min, Bool, not, ◌&&◌, nat_lt, true, false, List, length, get_or, Some, None, Option, option_map}
 use Rattle.std.proofs.Math.Nat.{pow-succ'}
 use Rattle.std.specs.Option.{IfSome, SomeIff}
@@ -45,8 +45,8 @@ closest-in-none tokens p up none =
     let bracket : IsBracket destination position_cmp tokens p 0 0 = record { below = λ d some. absurd (omega arith); above = λ d some. absurd (omega (arith, none)) } in
     ap (option_map (λ found. found.0)) (closest-none position_cmp_total destination tokens p 0 up bracket refl (λ d some. absurd (omega (arith, none))))
 
--- a search for the column of q, which is p, ended at `index`; the tokens on the line of p are those from low
--- up to, not including, high
+-- let the tokens on the line of `p` be those from `low` up to, not including, `high`. A search among these tokens for
+-- the column of `p` ended at `index`. `q` is equal to `p`
 module _ (tokens : List RawToken) (p : ℕ × ℕ) (low high index : ℕ) (up : AreInOrder tokens) (span : IsSpan tokens p.0 low high) (at_least : low ≤ index) (at_most : index ≤ high) (q : ℕ × ℕ) (kept : q ≡ p) (before : (d : RawToken) → low < index → (get_or tokens (index - 1) d).dst_col < q.1) (from : (d : RawToken) → index < high → q.1 ≤ (get_or tokens index d).dst_col) where
   col : q.1 ≡ p.1
   col = ap (λ k. k.1) kept
@@ -66,7 +66,7 @@ module _ (tokens : List RawToken) (p : ℕ × ℕ) (low high index : ℕ) (up : 
     ];
   }
 
-  -- the token at index is at p
+  -- if the token at `index` is at `p`, `index` is the index of the token closest to `p`
   index-hit : (e : RawToken) (r : ℕ × ℕ) → r ≡ q → index < high → is_eq (nat_cmp r.1 (get_or tokens index e).dst_col) ≡ true → Some index ≡ option_map (λ found. found.0) (closest_token tokens p)
   index-hit e r still l same =
       let inside = span.inside in
@@ -159,15 +159,14 @@ fewest_within (suc most) n d l small =
       ])
     ]
 
--- no fewer digits suffice
 pub binary_digits_fewest : (n d : ℕ) → n < 2 ^ d → binary_digits n ≤ d
 binary_digits_fewest n d small = fewest_within n n d (omega arith) small
 
 thirty_two_times : (d : ℕ) → 2 ^ suc (suc (suc (suc (suc d)))) ≡ 2 * (2 * (2 * (2 * (2 * 2 ^ d))))
 thirty_two_times d = rw (pow-succ' 2 (suc (suc (suc (suc d)))), pow-succ' 2 (suc (suc (suc d))), pow-succ' 2 (suc (suc d)), pow-succ' 2 (suc d), pow-succ' 2 d) refl
 
--- with samples, the bound of comparisons for the column is higher by five, but that for the line is lower by
--- five
+-- with samples, the bound for the search for the column is higher by five. The lines then hold at least 32 tokens on
+-- average, so the bound for the search for the line is lower by five
 count_by_few_lines : (d count lines start found left : ℕ) → count < 2 ^ d → 0 < lines → 32 * lines ≤ count → ((e : ℕ) → lines < 2 ^ e → found ≤ start + (e + 1)) → left ≤ found + (d + 5) → left ≤ start + (2 * d + 1)
 count_by_few_lines zero count lines start found left small some few f l = absurd (omega arith)
 count_by_few_lines (suc zero) count lines start found left small some few f l = absurd (omega arith)
@@ -179,7 +178,8 @@ count_by_few_lines (suc (suc (suc (suc (suc d))))) count lines start found left 
     let line : found ≤ start + (d + 1) = f d (omega arith) in
     omega arith
 
--- the comparisons for the line, one for equality with it, and those for the column but the last
+-- with fewer than `2 ^ d` tokens, at most `2 * d + 1` comparisons come before the last one. The search for the line,
+-- one test whether the line was found, and the search for the column make these comparisons
 pub count_before_last : (count lines samples start found left d : ℕ) → count < 2 ^ d → lines ≤ count → (lines ≡ 0 → count ≡ 0) → (0 < samples → (0 < count) × (32 * lines ≤ count)) → ((e : ℕ) → lines < 2 ^ e → found ≤ start + (e + 1))
     → ((e : ℕ) → samples ≡ 0 → count < 2 ^ e → left ≤ found + e) → ((e : ℕ) → count < 2 ^ e → left ≤ found + (e + 5)) → left ≤ start + (2 * d + 1)
 count_before_last count lines samples start found left d small few filled sampled f none some =
@@ -193,6 +193,6 @@ count_before_last count lines samples start found left d small few filled sample
           ]
     ]
 
--- with the last comparison of the column
+-- with the last comparison, there are at most `2 * (d + 1)` comparisons
 pub count_in_all : (start left end d : ℕ) → left ≤ start + (2 * d + 1) → end ≡ min (left + 1) 4294967295 → end ≤ start + 2 * (d + 1)
 count_in_all start left end d l e = omega arith

@@ -6,13 +6,13 @@ use Rattle.std.proofs.lemmas.Bool.{cases_eq, cases_lt}
 use Rattle.std.proofs.lemmas.Bool.Decides.{nat_tests}
 use Rattle.sourcemap_line_index.specs.LineIndex.{Rises}
 
--- after `made` comparisons a search in `size` indices makes at most `most` in all
+-- a binary search made `made` comparisons, and `size` indices are left. The total will be at most `most` comparisons
 pub record Remains (most made size : ℕ) : Type 0 where
   pub left : ℕ
   pub small : size < 2 ^ left
   pub enough : made + left ≤ most
 
--- at the start
+-- at the start of a search in fewer than `2 ^ d` indices, at most `d` comparisons remain
 pub Remains-start : (made size d : ℕ) → size < 2 ^ d → Remains (made + d) made size
 Remains-start made size d l = record { left = d; small = l; enough = omega arith }
 
@@ -41,13 +41,12 @@ Remains-half most made size next half some counted halved r =
           }
     ]
 
--- at the end
 pub Remains-end : (most made size : ℕ) → Remains most made size → made ≤ most
 Remains-end most made size r = let within = r.enough in omega arith
 
--- if `first < index`, the number at `index - 1` is below the key. If `index + left < end`, the number at `index + left`
--- is not below the key. For `first ≤ index ≤ end` and numbers that do not fall from `first` up to, not including,
--- `end`: all of them before `index` are below the key, and all of them at `index + left` or later are not
+-- a binary search in the numbers from `first` up to, not including, `end` still has to search `left` numbers, from
+-- `index` on. Let the numbers not fall, and let `first ≤ index ≤ end`. Then the numbers are below `key` before `index`,
+-- and at least `key` from `index + left` on
 pub record IsWindow (number : ℕ → ℕ) (key first index left end : ℕ) : Type 0 where
   pub before : first < index → number (index - 1) < key
   pub from : index + left < end → key ≤ number (index + left)
@@ -103,7 +102,7 @@ raised_on old now next l e = omega arith
 pub raised_once : (old now next : ℕ) → min old 4294967295 ≤ now → next ≡ min (now + 1) 4294967295 → min (old + 1) 4294967295 ≤ next
 raised_once old now next l e = omega arith
 
--- the results of a comparison, as relations of its numbers
+-- what the result of comparing `p` with `x` says about `p` and `x`
 pub eq_from_is_eq : (p x : ℕ) → is_eq (nat_cmp p x) ≡ true → p ≡ x
 eq_from_is_eq p x e = grind (arith, nat_tests)
 

@@ -1,4 +1,4 @@
--- The 64-bit wrapping difference of two 32-bit numbers has its high half set exactly if it is negative.
+-- For 32-bit `a` and `b`, the high half of the 64-bit wrapping `a - b` is all ones if `a` is less than `b`, else 0.
 use Rattle.std.proofs.Common.{◌≡◌, ◌∙◌, ℕ, ◌<◌, ◌≤◌, ◌+◌, ◌-◌, ◌/◌, ◌%◌, arith, inl, inr, bit_and, true, false, nat_lt, if◌then◌else◌}
 use Rattle.std.specs.Int.Bits.{and_zero_r}
 use Rattle.std.proofs.lemmas.Bool.{cases_lt}

@@ -1,4 +1,4 @@
--- Searches in samples of columns, and the range of tokens that is left after one.
+-- Searches in samples of columns. Each search leaves a range of tokens, which is then searched token by token.
 use Rattle.std.proofs.Common.{◌≡◌, refl, sym, subst, ◌∙◌, ℕ, zero, suc, ◌<◌, ◌≤◌, ◌+◌, ◌-◌, ◌*◌, ◌^◌, arith, inl, inr, List, [], ◌∷◌, length, false, max, min, nat_lt, slice_index, ◌==◌, if◌then◌else◌}
 use Rattle.std.proofs.Math.Nat.{pow-succ'}
 use Rattle.std.proofs.lemmas.Bool.{cases_eq, cases_lt}
@@ -15,7 +15,7 @@ sampled_some tokens lines columns sampled some = let is = sampled some in (let f
 pub some_from_test : (n : ℕ) → false ≡ (n == 0) → 0 < n
 some_from_test n e = grind (arith, nat_tests)
 
--- numbers that do not fall from one index to the next do not fall over many
+-- if numbers do not fall from one index to the next, the number at `i + n` is not less than the number at `i`
 rises_far : (number : ℕ → ℕ) (low high i n : ℕ) → Rises number low high → low ≤ i → i + n < high → number i ≤ number (i + n)
 rises_far number low high i zero rises l h = let same : i + 0 ≡ i = omega arith in rw same (omega arith)
 rises_far number low high i (suc n) rises l h =
@@ -28,7 +28,7 @@ some_token : (tokens : List RawToken) → 0 < length tokens → RawToken
 some_token [] l = absurd (omega arith)
 some_token (t ∷ ts) l = t
 
--- the samples of tokens whose columns do not fall do not fall either
+-- if the columns of some tokens do not fall, the samples of these columns do not fall
 pub samples_rise : (tokens : List RawToken) (columns : List ℕ) (first end low high : ℕ) → AreColumns tokens columns → ((d : RawToken) → Rises (col_at tokens d) first end)
     → first ≤ 8 * low → 8 * high < end + 8 → high ≤ length columns → Rises (slice_index columns) low high
 samples_rise tokens columns first end low high are rises l h within k lk hk =
@@ -39,7 +39,6 @@ samples_rise tokens columns first end low high are rises l h within k lk hk =
     let far' : col_at tokens d (8 * k) ≤ col_at tokens d (8 * (k + 1)) = subst (λ n. col_at tokens d (8 * k) ≤ col_at tokens d n) (sym next) far in
     rw (are.own k d (omega arith), are.own (k + 1) d (omega arith)) far'
 
--- columns that do not fall do not fall in a part of the tokens
 pub narrowed : (tokens : List RawToken) (first end from to : ℕ) → HasRisingColumns tokens first end → first ≤ from → from ≤ to → to ≤ end → HasRisingColumns tokens from to
 narrowed tokens first end from to rising l m h =
     let within = rising.within in
@@ -49,7 +48,8 @@ narrowed tokens first end from to rising l m h =
       rises = λ d index least most. rising.rises d index (omega arith) (omega arith);
     }
 
--- a search in the samples ended at `sample`, and one in the tokens continues after the sample before it
+-- a search in the samples ended at `sample`, and a search in the tokens between the samples `sample - 1` and `sample`
+-- ended at `index`. Then `index` is also the result for all tokens from `first` up to, not including, `end`
 module _ (tokens : List RawToken) (columns : List ℕ) (first end low high sample key : ℕ) (are : AreColumns tokens columns) (start : 8 * low < first + 8) (past : end ≤ 8 * high) (within : high ≤ length columns) (at_least : low ≤ sample) (at_most : sample ≤ high) where
   pub narrowed_before : (low < sample → slice_index columns (sample - 1) < key) → (from index : ℕ) → from ≡ max first (8 * sample - 7) → from ≤ index
       → (d : RawToken) → (from < index → col_at tokens d (index - 1) < key) → first < index → col_at tokens d (index - 1) < key
@@ -89,13 +89,14 @@ count_by_samples (suc (suc (suc d))) count end low high from to start found left
     let among : found ≤ start + suc d = f (suc d) (subst (λ n. high - low < n) (sym (pow-succ' 2 d)) few) in
     omega arith
 
--- the numbers from `first` up to, not including, `at` were compared with `key`. If none of them is less than the one
--- before it, then those before `index` are less than `key`, and the others are not
+-- a linear search compared `key` with the numbers from `first` up to, not including, `at`. Let these numbers not fall,
+-- and let `first ≤ index ≤ at`. Then the compared numbers are below `key` before `index`, and at least `key` from
+-- `index` on
 pub record IsPassed (number : ℕ → ℕ) (key first index at : ℕ) : Type 0 where
   pub before : first < index → number (index - 1) < key
   pub from : index < at → key ≤ number index
 
--- one more number
+-- `IsPassed` still holds after the number at `at` is compared. If this number is below `key`, `index` grows by 1
 pub passed_one : (number : ℕ → ℕ) (key first end index at skipped : ℕ) → Rises number first end → first ≤ index → index ≤ at → at < end
     → skipped ≡ (if nat_lt (number at) key then 1 else 0) → IsPassed number key first index at → IsPassed number key first (index + skipped) (at + 1)
 passed_one number key first end index at skipped rises least l inside is p =

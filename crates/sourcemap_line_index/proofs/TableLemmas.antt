@@ -63,7 +63,7 @@ table_of_none tokens = record {
   ends = λ l. absurd (omega arith);
 }
 
--- a token on the line of the one before it leaves the table unchanged
+-- the table stays unchanged if the tokens at `n - 1` and `n` are on one line
 pub table_unchanged : (tokens : List RawToken) (n : ℕ) (table : LineTable) → ContinuesLine tokens n → IsLineTable tokens n table → IsLineTable tokens (n + 1) table
 table_unchanged tokens n table continues t = record {
   same_length = t.same_length;
@@ -178,7 +178,7 @@ module _ (old more : List RawToken) (line : ℕ) where
   line_at_left : (k at : ℕ) → line_at old k ≡ Some at → line_at (old ++ more) k ≡ Some at
   line_at_left k at e = ap (option_map (λ t. t.dst_line)) (slice_get_left old more k (inside_list old k at e)) ∙ e
 
-  -- appending tokens does not affect the table of the first ones
+  -- appending the tokens `more` does not change the table of the tokens `old`
   table_of_front : (table : LineTable) → IsLineTable old (length old) table → IsLineTable (old ++ more) (length old) table
   table_of_front table t = record {
     same_length = t.same_length;
@@ -215,7 +215,7 @@ module _ (old more : List RawToken) (line : ℕ) where
         let own : one.0.dst_line ≡ slice_index table.lines row = same_some (sym (ap (option_map (λ t. t.dst_line)) one.1) ∙ last) in
         omega (arith, less, own)
 
-    -- they add one row
+    -- one or more tokens of `line`, appended to tokens of earlier lines, add one row to the table
     pub table_of_line : (table : LineTable) → AllByRecursion (λ t. t.dst_line < line) old → 0 < length more
         → IsLineTable old (length old) table → IsLineTable (old ++ more) (length (old ++ more)) (with_row table line (length old))
     table_of_line table below some t =
@@ -224,7 +224,7 @@ module _ (old more : List RawToken) (line : ℕ) where
         let whole : length old + (length more - 1) + 1 ≡ length (old ++ more) = let many = length-append old more in omega arith in
         subst (λ n. IsLineTable (old ++ more) n (with_row table line (length old))) whole (table_of_more (with_row table line (length old)) (length more - 1) (omega arith) begun)
 
--- the tokens of a row; `low` is the index of its first one, or the length of the list past the last row
+-- the tokens of a row, from index `low` on. If there is no such row, `low` is the token count
 module _ (tokens : List RawToken) (table : LineTable) (made : IsTableOf tokens table) (row low p : ℕ) (within : row < length table.firsts → low ≡ slice_index table.firsts row) (past : length table.firsts ≤ row → low ≡ length tokens) (in_rows : row ≤ length table.lines) where
   pub inside_row : low ≤ length tokens
   inside_row =
@@ -278,7 +278,8 @@ module _ (tokens : List RawToken) (table : LineTable) (made : IsTableOf tokens t
         | inr ge ↦ let is = past (omega arith) in absurd (omega arith)
       ]
 
-  -- no row has the line p: the row before, if any, has an earlier line, and this row, if any, a later one
+  -- if the row before `row` has an earlier line than `p`, and `row` has a later line than `p`, then no token is on the
+  -- line `p`. Each of the two rows may be missing
   pub span_of_none : (0 < row → slice_index table.lines (row - 1) < p) → (row < length table.lines → p < slice_index table.lines row) → IsSpan tokens p low low
   span_of_none less more = record {
     ordered = omega arith;
@@ -288,7 +289,7 @@ module _ (tokens : List RawToken) (table : LineTable) (made : IsTableOf tokens t
     on_line = λ index d from to. absurd (omega arith);
   }
 
--- this row has the line p, and its tokens end before `high`
+-- `row` is the row of the line `p`. The tokens of this row are at the indices from `low` up to, not including, `high`
 module _ (tokens : List RawToken) (table : LineTable) (made : IsTableOf tokens table) (row low high p : ℕ) (within : row < length table.firsts → low ≡ slice_index table.firsts row) (within' : row + 1 < length table.firsts → high ≡ slice_index table.firsts (row + 1)) (past' : length table.firsts ≤ row + 1 → high ≡ length tokens) (l : row < length table.lines) (here : p ≡ slice_index table.lines row) where
   starts : low ≡ slice_index table.firsts row
   starts = let same_length = made.1.same_length in within (omega arith)
@@ -336,7 +337,7 @@ module _ (tokens : List RawToken) (table : LineTable) (made : IsTableOf tokens t
             omega arith;
       }
 
--- all tokens are on one line
+-- the span of the line `p` if all tokens are on one line
 module _ (tokens : List RawToken) (table : LineTable) (made : IsTableOf tokens table) (one : length table.lines ≡ 1) (p : ℕ) where
   same_length : length table.firsts ≡ 1
   same_length = made.1.same_length ∙ one

@@ -47,8 +47,8 @@ difference_near a b ha hb = elim (cases_lt a b) [
       rw is (omega arith)
 ]
 
--- if what is left of the raw value is below 32, it is the last digit of the difference. It can be 0 only if no digit
--- comes before it
+-- `part` holds the first digits of a difference, and `left` is the rest of the raw value. Let `left` be below 32, and
+-- not 0 if `part` has a digit. Then the digit of `left` is the last digit of the difference
 pub Adds-last : (a b : ℕ) (old part : List ℕ) (left : ℕ) → a < 2 ^ 32 → b < 2 ^ 32 → AllByRecursion HasContinuation part → left < 32
     → raw_difference a b ≡ raw_of part + 2 ^ (5 * length part) * left → (0 < length part → 0 < left)
     → Adds (difference a b ∷ []) old (old ++ (part ++ glyph left ∷ []))
@@ -59,7 +59,7 @@ Adds-last a b old part left ha hb all low e some = record {
   added = refl;
 }
 
--- a difference of two digits, and of three
+-- the digits of a difference with two digits, and of a difference with three digits
 pub Adds-two : (a b : ℕ) (old : List ℕ) → a < 2 ^ 32 → b < 2 ^ 32 → 32 ≤ raw_difference a b → raw_difference a b < 1024
     → Adds (difference a b ∷ []) old (old ++ (glyph (raw_difference a b % 32 + 32) ∷ glyph (raw_difference a b / 32) ∷ []))
 Adds-two a b old ha hb more low =
@@ -78,7 +78,7 @@ Adds-three a b old ha hb more low =
     (HasContinuation-glyph (raw % 32) (omega arith), (HasContinuation-glyph (raw / 32 % 32) (omega arith), tt)) (omega arith)
     (raw_of-split (first ∷ []) raw (raw / 32) (raw_of-split [] raw raw (omega arith))) (λ _. omega arith)
 
--- two bytes are stored; only the first is kept, or both are
+-- two bytes are stored from index `at` on. The first `n` bytes then end with `x`, or with `x` and `y`
 pub pair-one : (buffer : List ℕ) (at x y n : ℕ) → n ≡ at + 1 → at + 1 < length buffer → take n (set (set buffer at x) (at + 1) y) ≡ take at buffer ++ x ∷ []
 pair-one buffer at x y n e h = take-set-le n (set buffer at x) (at + 1) y (omega arith) ∙ take-set_at buffer at n x e (omega arith)
 
@@ -89,7 +89,7 @@ pair-two buffer at x y n e h =
     ∙ ap (λ xs. xs ++ y ∷ []) (take-set_at buffer at (at + 1) x refl (omega arith))
     ∙ append_assoc (take at buffer) (x ∷ []) (y ∷ [])
 
--- three bytes are stored; the first one, two or three are kept
+-- three bytes are stored from index `at` on. The first `n` bytes then end with `x`, with `x` and `y`, or with all three
 pub triple-one : (buffer : List ℕ) (at x y z n : ℕ) → n ≡ at + 1 → at + 2 < length buffer
     → take n (set (set (set buffer at x) (at + 1) y) (at + 2) z) ≡ take at buffer ++ x ∷ []
 triple-one buffer at x y z n e h =

@@ -56,7 +56,7 @@ module _ {A : Type 0} (P : A → Type 0) (F : Error → Type 0) (Q : A → List 
   HasOneAnswer-cons : HasOneAnswer (Cons P Q) (λ e. F e ⊎ ((x : A) × P x × G x e))
   HasOneAnswer-cons = record { same = Cons-same; sound = Cons-sound; first = Cons-first }
 
--- Parts.
+-- Parts of a line.
 
 Reads-some : (c : ℕ) (cs : List ℕ) (ns : List ℤ) → Reads (c ∷ cs) ns → SegmentAnswers (c ∷ cs) (Ok ns)
 Reads-some c cs [] h = absurd (let e : suc (length cs) ≡ 0 = ap length h in omega arith)
@@ -214,7 +214,7 @@ AllWithin-lines counts n before (text ∷ texts) (line ∷ decoded_lines) small 
 
 -- From the tokens of the lines to the result.
 
--- if a call returns Ok, its value is the one that is due
+-- let `result` be `Ok due` or an error, and let `due` equal `same`. If `result` is `Ok x`, then `x` is `same`
 pub given_same : {X : Type 0} (result : Result X Error) (due same : X) → Gives (λ x. x) result (Ok due) → due ≡ same → IfOk result (λ x. x ≡ same)
 given_same (Ok x) due same given e = cc
 given_same (Err _) due same given e = tt

@@ -30,7 +30,6 @@ lines_of-first text line tail e h = ap lines_of e ∙ slice_split_at (λ b. b ==
 
 -- Parts of a line.
 
--- regroups the segments up to `s`: `before` of earlier lines, `here` of this line, and `s`
 regrouped : (P : List Segment → Type 0) (before here : List Segment) (s : Segment) → P (before ++ (here ++ s ∷ [])) → P ((before ++ here) ++ s ∷ [])
 regrouped P before here s h = subst P (sym (append_assoc before here (s ∷ []))) h
 
@@ -64,7 +63,7 @@ AddsParts-segment counts position bits before here (c ∷ cs) numbers token old 
       sums_after = after;
     }
 
--- a part is decoded, and so are the parts after it
+-- if `part` decodes to `ss` and the later `parts` decode to `later`, then `part ∷ parts` decodes to `ss ++ later`
 PartsRead-cons : (counts : Counts) (index : ℕ) (before : List Segment) (part : List ℕ) (parts : List (List ℕ)) (ss later : List Segment)
     → PartsRead counts index before (part ∷ []) ss → PartsRead counts (index + 1) (before ++ ss) parts later → PartsRead counts index before (part ∷ parts) (ss ++ later)
 PartsRead-cons counts index before [] parts ss later h rest =
@@ -102,7 +101,8 @@ line_tokens-append n bits before here (x ∷ xs) ys =
     (line_tokens-append n bits before (here ++ x ∷ []) xs ys
     ∙ ap (λ zs. line_tokens n bits before (here ++ x ∷ []) xs ++ line_tokens n bits before zs ys) (append_assoc here (x ∷ []) xs))
 
--- the first `index` of the parts `all` of line n are decoded, after the segments `before`
+-- line `n` has the parts `all` and comes after the segments `before`. The first `index` parts are decoded, the parts
+-- `left` are not decoded yet
 pub record PartsSoFar (counts : Counts) (n : ℕ) (bits : List ℕ) (before : List Segment) (all : List (List ℕ)) (index : ℕ) (left : List (List ℕ)) (old new : List RawToken) (sums : Sums) : Type 0 where
   pub here : List Segment
   pub read : (later : List Segment) → PartsRead counts index (before ++ here) left later → PartsRead counts 0 before all (here ++ later)
@@ -208,7 +208,7 @@ module _ (counts : Counts) (all : List LineText) (n : ℕ) (text : LineText) (le
       → UnlessMemory e (LinesError counts 0 [] all e)
   LinesSoFar-error e so_far f = UnlessMemory-weaker e (λ h. so_far.error e (inl h)) f
 
--- before the first line
+-- at the start, no line is decoded, there are no tokens, and all sums are 0
 pub LinesSoFar-none : (counts : Counts) (all : List LineText) → LinesSoFar counts all 0 all [] (record { rises = true; column = 0; source = 0; line = 0; source_column = 0; name = 0 })
 LinesSoFar-none counts all = record {
   before = [];
@@ -228,7 +228,7 @@ LinesSoFar-all counts all n tokens sums so_far = (
   sym (append-nil tokens) ∙ sym (so_far.tokens_read []) ∙ ap (tokens_of_lines 0 []) (append-nil so_far.decoded_lines),
 )
 
--- a line that is empty
+-- an empty line is decoded: the tokens and the sums stay the same
 pub AddsLine-none : (counts : Counts) (n : ℕ) (before : List Segment) (text bits : List ℕ) (old : List RawToken) (sums : Sums) → (length text == 0) ≡ true → AreTextSums before sums → AddsLine counts n before (text, bits) old old sums
 AddsLine-none counts n before [] bits old sums is h = record {
   line = record { bits = []; segments = [] };
@@ -240,7 +240,7 @@ AddsLine-none counts n before (c ∷ cs) bits old sums is h =
     let none : length (c ∷ cs) ≡ 0 = eqb-true _ _ is in
     absurd (omega arith)
 
--- a line that is not empty
+-- a line that is not empty is decoded if its parts are decoded, `bits` has only digits, and `n` is below 2^32
 pub AddsLine-parts : (counts : Counts) (n : ℕ) (before : List Segment) (text bits : List ℕ) (old new : List RawToken) (sums : Sums) → (length text == 0) ≡ false
     → n < 2 ^ 32 → first_non_digit bits ≡ None
     → AddsParts counts (record { line = n; index = 0 }) bits before [] (parts_of text) old new sums

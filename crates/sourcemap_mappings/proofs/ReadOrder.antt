@@ -14,7 +14,7 @@ use Rattle.sourcemap_mappings.proofs.WriteTokens.{all_push}
 abbrev pub NonePast : ℕ × ℕ → List RawToken → Type 0
 NonePast index tokens = AllByRecursion (λ t. is_lt (position_cmp index (destination t)) ≡ false) tokens
 
--- what is not after a position is not after a later one, on the same line or at the start of the next line
+-- let (`m`, `n`) not be after (`l`, `c`). Then (`m`, `n`) is not after (`l`, `d`) if `c ≤ d`, nor after (`l + 1`, 0)
 later_column : (l c d m n : ℕ) → c ≤ d → is_lt (position_cmp (l, c) (m, n)) ≡ false → is_lt (position_cmp (l, d) (m, n)) ≡ false
 later_column l c d m n le h = grind (arith, nat_tests)
 
@@ -32,7 +32,7 @@ NonePast-line : (l c : ℕ) (tokens : List RawToken) → NonePast (l, c) tokens 
 NonePast-line l c [] h = tt
 NonePast-line l c (t ∷ ts) h = (later_line l c t.dst_line t.dst_col h.0, NonePast-line l c ts h.1)
 
--- one more item, where no item so far is after it
+-- if no item of `xs` is greater than `t`, then `xs` with `t` appended still rises
 Rises-push : (lt : RawToken → RawToken → Bool) (xs : List RawToken) (t : RawToken) → Rises lt xs → AllByRecursion (λ x. lt t x ≡ false) xs → Rises lt (xs ++ t ∷ [])
 Rises-push lt [] t r h = (tt, tt)
 Rises-push lt (x ∷ xs) t r h = (all_push (λ y. lt y x ≡ false) xs t r.0 h.0, Rises-push lt xs t r.1 h.1)
@@ -42,7 +42,8 @@ AreInOrder-push xs t up h =
     let lt : RawToken → RawToken → Bool = λ a b. is_lt (position_cmp (destination a) (destination b)) in
     sorted_from_Rises lt (xs ++ t ∷ []) (Rises-push lt xs t (Rises-from_sorted lt (ranks_by position_cmp_total destination) xs up) h)
 
--- one more token at (l, d), which is not before (l, c), where no token so far is after (l, c)
+-- let the tokens be sorted, and none of them after (`l`, `c`). If a token at (`l`, `d`) with `c ≤ d` is appended, the
+-- tokens stay sorted, and none of them is after (`l`, `d`)
 pub order_push : (l c d : ℕ) (tokens : List RawToken) (t : RawToken) → destination t ≡ (l, d) → c ≤ d → AreInOrder tokens × NonePast (l, c) tokens
     → AreInOrder (tokens ++ t ∷ []) × NonePast (l, d) (tokens ++ t ∷ [])
 order_push l c d tokens t at le h =
@@ -52,7 +53,7 @@ order_push l c d tokens t at le h =
           (subst (λ p. is_lt (position_cmp (l, d) p) ≡ false) (sym at) (at_position l d)),
     )
 
--- the end of a line
+-- if no token is after a position on line `l`, then no token is after the start of line `l + 1`
 pub order_line : (l c : ℕ) (tokens : List RawToken) → AreInOrder tokens × NonePast (l, c) tokens → AreInOrder tokens × NonePast (l + 1, 0) tokens
 order_line l c tokens h = (h.0, NonePast-line l c tokens h.1)
 

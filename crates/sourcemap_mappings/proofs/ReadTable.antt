@@ -35,7 +35,7 @@ row_added tokens before more line first d old new is at below all t some row =
     let made = table_of_line before more line all old below more_than_none t in
     subst (λ ts. IsLineTable ts (length ts) new) (sym is) (subst (IsLineTable (before ++ more) (length (before ++ more))) (sym same) made)
 
--- Appends of tokens of one line.
+-- Appending tokens that are all on one line.
 
 pub adds_none : (line : ℕ) (old : List RawToken) → AddsOnLine line old old
 adds_none line old = ([], sym (append-nil old), tt)

@@ -14,7 +14,7 @@ use Rattle.sourcemap_mappings.proofs.ReadLemmas.{PartsSoFar, PartsSoFar-more}
 
 module _ (line : List ℕ) (read : Numbers) (tail : Option (Bor (List ℕ))) (first : HasFirstPart line read tail) (some : 0 < read.count)
     (earlier later : Sums) (sums : (before here : List Segment) (s : Segment) → AreSums before here earlier → AreSteps s.numbers read → AreSums before (here ++ s ∷ []) later) where
-  -- its segment is decoded
+  -- if `earlier` holds the sums before the first part of `line`, then `later` holds the sums after this part
   pub segment_read : (index : ℕ) (before here : List Segment) → AreSums before here earlier
       → IsSegmentRead index before here first.part first.numbers read.count later
   segment_read index before here h =
@@ -26,7 +26,7 @@ module _ (line : List ℕ) (read : Numbers) (tail : Option (Bor (List ℕ))) (fi
         sums_to = sums before here (record { index = index; numbers = first.numbers }) h first.steps;
       }
 
-  -- its token is added
+  -- the token of the first part of `line` is appended (`TakesPart`)
   pub taken : (counts : Counts) (position : PartPosition) (bits : List ℕ) (old new : List RawToken) → RiseFrom earlier later
       → ((before here : List Segment) (part : List ℕ) (numbers : List ℤ) → IsSegmentRead position.index before here part numbers read.count later
       → AddsParts counts position bits before here (part ∷ []) old new later)

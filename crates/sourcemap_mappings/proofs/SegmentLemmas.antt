@@ -84,8 +84,9 @@ append_some : (xs ys : List ℕ) → ys ≢ [] → xs ++ ys ≢ []
 append_some [] ys some none = some none
 append_some (x ∷ xs) ys some none = absurd cc
 
--- the byte c, which is no `,`, comes after the digits of an unfinished number, and the number has an error
--- whatever follows c
+-- after zero or more valid numbers without a `,`, `line` goes on with the digits `part` of an unfinished number and
+-- then the byte `c`, which is not `,`. If this number has the error `e` whatever follows `c`, then the first part of
+-- `line` has the error `e`
 HasPartError-at : (line front rest part : List ℕ) (numbers : List ℤ) (c : ℕ) (e : Error) → line ≡ front ++ rest → Reads front numbers → Lacks front → (c == comma) ≡ false
     → (goes : GoesTo rest part c) → ((m : List ℕ) → GoesTo (part ++ c ∷ m) part c → NumberError (part ++ c ∷ m) e) → HasPartError line e
 HasPartError-at line front rest part numbers c e whole reads lacks differs goes error =
@@ -156,13 +157,14 @@ HasPartError-from line rest c cs sound VlqLeftover lacks first ne unfinished =
     sound.reads (λ none. let same : c ∷ cs ≡ [] = sym first ∙ none in cc) unfinished
 HasPartError-from line rest c cs sound _ lacks first ne error = absurd error
 
--- before the first number of a line
+-- if no number is decoded yet, the rest is the whole `line`, and the count and all steps are 0
 pub read_none : (line : List ℕ) → (sound : IsSound line line) × Lacks sound.front × AreSteps sound.numbers (record { count = 0; steps = 0 ∷ 0 ∷ 0 ∷ 0 ∷ 0 ∷ [] })
 unfolding Lacks
 read_none line =
     (record { front = []; numbers = []; reads = refl; split = refl }, tt, record { count = refl; five = refl; each = λ k _. zero_steps k })
 
--- one more number
+-- let `read` hold the decoded numbers and `n`. If `rest` begins with the digits of `n`, then `n` is added to the
+-- decoded numbers of `line`, and `tail` is the new rest
 pub read_more : (line rest tail : List ℕ) (n : ℤ) (read : Numbers) (sound : IsSound line rest) → Lacks sound.front → BeginsWith rest n tail → AreSteps (sound.numbers ++ n ∷ []) read
     → (t : IsSound line tail) × Lacks t.front × AreSteps t.numbers read
 read_more line rest tail n read sound lacks begins steps =
@@ -172,7 +174,7 @@ read_more line rest tail n read sound lacks begins steps =
       steps,
     )
 
--- one more number, whatever its step
+-- as `read_more`, but without `read`
 sound_more : (line rest tail : List ℕ) (n : ℤ) (sound : IsSound line rest) → Lacks sound.front → BeginsWith rest n tail
     → (t : IsSound line tail) × Lacks t.front × (t.numbers ≡ sound.numbers ++ n ∷ [])
 sound_more line rest tail n sound lacks begins =
@@ -182,7 +184,7 @@ sound_more line rest tail n sound lacks begins =
       refl,
     )
 
--- the end of the line
+-- if `rest` is empty, the digits of the decoded numbers are the only part of `line`
 pub HasFirstPart-last : (line rest : List ℕ) (read : Numbers) (sound : IsSound line rest) → Lacks sound.front → AreSteps sound.numbers read → rest ≡ [] → HasFirstPart line read None
 HasFirstPart-last line rest read sound lacks steps none =
     let front : List ℕ = sound.front in

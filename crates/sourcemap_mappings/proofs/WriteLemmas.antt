@@ -20,7 +20,7 @@ Adds-join ms ns s t u x y = record {
 pub Spells-one : (n : ℤ) (digits : List ℕ) → IsShortest digits n → Spells (n ∷ []) digits
 Spells-one n digits short = (digits, [], short, sym (append-nil digits), refl)
 
--- the numbers of a token with a source, except that of its name
+-- the numbers of a token with a source, without the number for the name
 source_numbers : RawToken → RawToken → List ℤ
 source_numbers against t =
     difference t.dst_col against.dst_col

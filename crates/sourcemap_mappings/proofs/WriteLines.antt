@@ -19,7 +19,7 @@ EachLine-map P Q top n [] f h each = tt
 EachLine-map P Q top n (p ∷ ps) f h each =
     (f n p (omega arith) each.0, EachLine-map P Q top (n + 1) ps f (omega arith) each.1)
 
--- each part with the end of its line
+-- all parts in one text, with a `;` after each part
 ended : List (List ℕ) → List ℕ
 ended [] = []
 ended (part ∷ parts) = part ++ semicolon ∷ ended parts
@@ -35,7 +35,7 @@ join_ended [] last = refl
 join_ended (p ∷ []) last = sym (append_assoc p (semicolon ∷ []) last)
 join_ended (p ∷ q ∷ ps) last = ap (λ t. p ++ semicolon ∷ t) (join_ended (q ∷ ps) last) ∙ sym (append_assoc p (semicolon ∷ ended (q ∷ ps)) last)
 
--- the text of the lines above this one, each with its end
+-- `text` has one part for each line above line `line`, and a `;` after each part. Each part satisfies `P` for its line
 pub record Ended (P : ℕ → List ℕ → Type 0) (line : ℕ) (text : List ℕ) : Type 0 where
   parts : List (List ℕ)
   count : length parts ≡ line
@@ -76,7 +76,7 @@ Ended-blank P line (suc k) text blank e =
     subst (λ (t : List ℕ). Ended P (line + suc k) t) (append_assoc text (semicolon ∷ []) (replicate k semicolon))
     (subst (λ (m : ℕ). Ended P m ((text ++ semicolon ∷ []) ++ replicate k semicolon)) (omega arith) rest)
 
--- this line ends after its part, and k blank lines follow
+-- after the lines in `text`, `part` and one `;` are line `line`, and `k` more `;` are `k` blank lines
 Ended-turn_by : (P : ℕ → List ℕ → Type 0) (line k : ℕ) (text part : List ℕ) → ((m : ℕ) → line < m → P m [])
     → Ended P line text → P line part → Ended P (line + 1 + k) ((text ++ part) ++ replicate (suc k) semicolon)
 Ended-turn_by P line k text part blank e p =
@@ -85,7 +85,8 @@ Ended-turn_by P line k text part blank e p =
     (ap (λ t. t ++ replicate k semicolon) (sym (append_assoc text part (semicolon ∷ []))) ∙ append_assoc (text ++ part) (semicolon ∷ []) (replicate k semicolon))
     rest
 
--- this line ends after its part, and blank lines follow up to line n
+-- let `line < n`. After the lines in `text`, `part` and the first `;` are line `line`, and each further `;` is a blank
+-- line, up to line `n - 1`
 pub Ended-turn : (P : ℕ → List ℕ → Type 0) (line n : ℕ) (text part : List ℕ) → line < n → ((m : ℕ) → line < m → P m [])
     → Ended P line text → P line part → Ended P n ((text ++ part) ++ replicate (n - line) semicolon)
 Ended-turn P line n text part h blank e p =
@@ -106,7 +107,7 @@ Ended-last P line text part tokens at e p =
       ap (λ t. t ++ part) e.is ∙ sym (join_ended e.parts part),
     )
 
--- A text that has reached a line.
+-- A text whose last line is line `line`: `above` is the earlier lines, each with a `;`, and `here` is the last line.
 
 pub record Reached (P : ℕ → List ℕ → Type 0) (line : ℕ) (text : List ℕ) : Type 0 where
   pub above : List ℕ

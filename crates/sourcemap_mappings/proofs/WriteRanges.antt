@@ -36,7 +36,7 @@ pub record Ranging (line : ℕ) (ts : List RawToken) (text : List ℕ) (flags : 
 pub Ranging-none : Ranging 0 [] [] []
 Ranging-none = record { ended = Ended-none (IsRangeLine []); flags_are = refl }
 
--- this line ends after its range bits, and blank lines follow up to line n
+-- the step from `line` to a later line `n`: the range bits of `line` are appended, and then `n - line` line ends
 pub Ranging-turn : (line n : ℕ) (ts : List RawToken) (text bits : List ℕ) (flags : List Bool) → line < n → UpTo line ts
     → IsBitText flags bits → Ranging line ts text flags → Ranging n ts ((text ++ bits) ++ replicate (n - line) semicolon) []
 Ranging-turn line n ts text bits flags h u is r = record {

@@ -134,7 +134,7 @@ empty_on names before (t ∷ ts) ([] ∷ ps) are e = absurd (Spells-nonempty _ _
 empty_on names before (t ∷ ts) ((x ∷ xs) ∷ []) are e = absurd cc
 empty_on names before (t ∷ ts) ((x ∷ xs) ∷ q ∷ qs) are e = absurd cc
 
--- if it is not empty, its parts are the segments, and the line has tokens
+-- if the text of a line is not empty, the parts of this text are the segments, and the line has tokens
 some_on : (names : ℕ) (before ts : List RawToken) (parts : List (List ℕ)) (c : ℕ) (cs : List ℕ) → AreSegments names before ts parts → c ∷ cs ≡ join_with_byte comma parts
     → (parts_of (c ∷ cs) ≡ parts) × ((t : RawToken) × (us : List RawToken) × (ts ≡ t ∷ us))
 some_on names before [] parts c cs are e = absurd (let none = e ∙ ap (join_with_byte comma) are in cc)
@@ -142,7 +142,7 @@ some_on names before (t ∷ ts) [] c cs are e = absurd are
 some_on names before (t ∷ ts) (p ∷ ps) c cs are e =
     (ap parts_of e ∙ split_join comma p ps (segments_free comma names before (t ∷ ts) (p ∷ ps) (inl refl) are), (t, ts, refl))
 
--- the text of a line's range bits fits its tokens
+-- the text `bits` has only base64 digits, and the bits begin with the range flags of the tokens on line `n` (`Flags`)
 FitBits : List RawToken → ℕ → List ℕ → Type 0
 FitBits ts n bits = (first_non_digit bits ≡ None) × Flags bits 0 (filter (is_on n) ts)
 
@@ -270,7 +270,8 @@ each_line_all : (P : ℕ → List ℕ → Type 0) (Q : List ℕ → Type 0) (n :
 each_line_all P Q n [] f each = tt
 each_line_all P Q n (p ∷ ps) f each = (f n p each.0, each_line_all P Q (n + 1) ps f each.1)
 
--- a text of lines, split at their ends
+-- suppose that no part that satisfies `P` contains `;`. If a text satisfies `LineByLine` and has at least one line, the
+-- text splits at `;` into one part for each line, and each part satisfies `P`
 lines_split : (P : ℕ → List ℕ → Type 0) (tokens : List RawToken) (text : List ℕ) → 0 < line_count tokens
     → ((m : ℕ) (part : List ℕ) → P m part → IsFree semicolon part) → LineByLine P tokens text
     → (EachLine P 0 (lines_of text)) × (length (lines_of text) ≡ line_count tokens)
@@ -309,7 +310,7 @@ none_any (t ∷ ts) e = go t.is_range refl e (none_any ts) where
   go true is h rest = absurd cc
   go false is h rest = (is, rest h)
 
--- the text of range bits, empty where there is none
+-- the text of the range bits; empty for `None`
 abbrev range_text : Option (List ℕ) → List ℕ
 range_text ranges = option_map_or (λ bits. bits) ranges []
 

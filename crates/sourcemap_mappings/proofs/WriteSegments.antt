@@ -114,8 +114,8 @@ IsLine-more names ts t part segment rises upto spelled line =
 
 -- The invariant of encoding.
 
--- the text so far, and what the next segment is relative to if it is on the same line; `done` are the tokens so far,
--- `previous` is the last one
+-- `text` encodes the tokens so far, `done`; `previous` is the last of these tokens. A next segment on the line of
+-- `against` is relative to `against`
 pub record Writing (names : ℕ) (done : List RawToken) (previous : Option RawToken) (against : RawToken) (text : List ℕ) : Type 0 where
   pub walked : Walked against.dst_line done previous
   pub small : AllByRecursion IsSmall (without_repeats done)
@@ -141,7 +141,7 @@ Writing-repeat names done previous against text t e w =
       reached = subst (λ (ts : List RawToken). Reached (IsLine names ts) against.dst_line text) same w.reached;
     }
 
--- the line ends up to a token's own line, and a comma if that line has tokens
+-- the gap before `t` is the line ends up to the line of `t`, and then a comma if `ts` has tokens on that line
 gap_is : (line : ℕ) (ts : List RawToken) (previous : Option RawToken) (t : RawToken) → line ≤ t.dst_line → UpTo line ts → IsAtLine line ts previous
     → gap previous line t ≡ replicate (t.dst_line - line) semicolon ++ comma_tail (filter (is_on t.dst_line) ts)
 unfolding comma_tail

@@ -55,11 +55,11 @@ pub record IsSound (sources names : ℕ) (t : RawToken) : Type 0 where
   pub src_col : t.src_col < 2 ^ 32
   pub within : IsWithin sources names t
 
--- the segment of a token, with its index and the tokens before it
+-- the segment of token `t`, after the tokens `before`; the segment has this index
 abbrev pub segment_of : ℕ → ℕ → List RawToken → RawToken → Segment
 segment_of names index before t = record { index = index; numbers = numbers names (base names t.dst_line before) t }
 
--- a token has no source, a source and no name, or both
+-- the three kinds of tokens: without a source; with a source but no name; with a source and a name
 data Kind (names : ℕ) (t : RawToken) : Type 0 where
   bare : has_source t ≡ false → has_name names t ≡ false → Kind names t
   unnamed : has_source t ≡ true → has_name names t ≡ false → Kind names t
@@ -90,7 +90,7 @@ name_is names t e = grind (arith, nat_tests)
 no_name : (names : ℕ) (t : RawToken) → has_source t ≡ true → has_name names t ≡ false → names ≤ t.name_id
 no_name names t s e = grind (arith, nat_tests)
 
--- the lines and columns of a token that are written have 32 bits
+-- the generated line and column of a token are below 2^32; if the token has a source, the original ones are too
 abbrev pub IsSmall : RawToken → Type 0
 IsSmall t = (t.dst_line < 2 ^ 32) × HasSmallPositions t
 
@@ -121,8 +121,8 @@ all_sound_from sources names [] few within small = tt
 all_sound_from sources names (t ∷ ts) few within small =
     (sound_by sources names t (has_source t) refl few within.0 small.0, all_sound_from sources names ts few within.1 small.1)
 
--- for source id, original line and original column: the sum over the segments `all` (`sum_at`) is this field of the
--- last token in `before` with a source. For the name id: of the last token with a name. Without such a token it is 0
+-- the segments `all` sum (`sum_at`) to source id, original line and original column of the last token in `before` with
+-- a source, and to the name id of the last token in `before` with a name. A sum is 0 if there is no such token
 pub record Carries (names : ℕ) (before : List RawToken) (all : List Segment) : Type 0 where
   pub id : sum_at 1 all ≡ last_field has_source (λ t. t.src_id) before
   pub line : sum_at 2 all ≡ last_field has_source (λ t. t.src_line) before
@@ -173,9 +173,9 @@ Carries-more sources names at before all t few few_names sound c =
             name = sum_more 4 t.name_id _ all s (omega arith) c.name (ap (step_of 4) ns) ∙ sym (last_field-push_yes (has_name names) (λ u. u.name_id) before t name);
           }
 
--- suppose that the first numbers of `here`, the earlier segments of the line of `t`, sum to the generated column of the
--- last earlier token on this line, or to 0 if there is none. If the segment of `t` is appended to `here`, they sum to
--- the generated column of `t`. Sums are modulo 2^32
+-- suppose that the first numbers of the segments `here` sum to the generated column of the last token in `before` on
+-- the line of `t`, or to 0 if there is no such token. If `t` is sound and the segment of `t` is appended to `here`, the
+-- first numbers sum to the generated column of `t`. Sums are modulo 2^32
 pub column_more : (sources names at : ℕ) (before : List RawToken) (here : List Segment) (t : RawToken) → IsSound sources names t
     → sum_at 0 here ≡ last_field (is_on t.dst_line) (λ u. u.dst_col) before
     → sum_at 0 (here ++ segment_of names at before t ∷ []) ≡ t.dst_col

@@ -140,7 +140,7 @@ all_above n (t ∷ ts) all =
     ap (λ b. cond b (t ∷ filter (is_above (n + 1)) ts) (filter (is_above (n + 1)) ts)) (below_yes t.dst_line (n + 1) (omega arith))
     ∙ ap (λ us. t ∷ us) (all_above n ts all.1)
 
--- the step of `above_more` for one more head: it is above line n, on it or after it
+-- the step of `above_more` from `ts` to `t ∷ ts`, in three cases: `t` is above, on or after line `n`
 above_more_at : (n : ℕ) (t : RawToken) (ts : List RawToken) → From t.dst_line ts
     → filter (is_above (n + 1)) ts ≡ filter (is_above n) ts ++ filter (is_on n) ts
     → filter (is_above (n + 1)) (t ∷ ts) ≡ filter (is_above n) (t ∷ ts) ++ filter (is_on n) (t ∷ ts)
@@ -170,7 +170,7 @@ pub above_more : (n : ℕ) (ts : List RawToken) → Rises ts → filter (is_abov
 above_more n [] r = refl
 above_more n (t ∷ ts) r = above_more_at n t ts r.0 (above_more n ts r.1)
 
--- if lines never decrease and no token is after line n, the tokens above it and then those on it are the
--- whole list
+-- if the lines of `ts` never decrease and no token is after line `n`, `ts` consists of the tokens above line `n`,
+-- followed by the tokens on line `n`
 pub cut_at : (n : ℕ) (ts : List RawToken) → Rises ts → UpTo n ts → filter (is_above n) ts ++ filter (is_on n) ts ≡ ts
 cut_at n ts r u = sym (above_more n ts r) ∙ all_above n ts u

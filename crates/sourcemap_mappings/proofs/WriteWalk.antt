@@ -27,7 +27,7 @@ pub record Walked (line : ℕ) (done : List RawToken) (previous : Option RawToke
 pub Walked-none : Walked 0 [] None
 Walked-none = record { rises = tt; upto = tt; is_at_line = (refl, refl); last = refl }
 
--- a repeat leaves the list without repeats unchanged; any other token is appended to it
+-- a repeat does not change the list `without_repeats done`; any other token is appended to this list (`more_list`)
 pub same_list : (line : ℕ) (done : List RawToken) (previous : Option RawToken) (t : RawToken) → repeats previous t ≡ true → Walked line done previous
     → without_repeats done ≡ without_repeats (done ++ t ∷ [])
 same_list line done previous t e w = sym (without_repeats-repeat done t (subst (λ (o : Option RawToken). repeats o t ≡ true) w.last e))

@@ -1,4 +1,4 @@
--- The shortest prefix that is wide enough: how a walk along the characters finds it.
+-- How a walk along the characters of a line finds the shortest prefix that has at least `col` UTF-16 units.
 use Rattle.std.proofs.Common.{◌≡◌, refl, sym, ap, subst, ◌∙◌, ℕ, zero, suc, ◌+◌, ◌-◌, ◌<◌, ◌≤◌, List, [], ◌∷◌, ◌++◌, length, take, drop, nat_le, Bool, true, false, Some, None, Option, option_map, map, arith, inl, inr, chars, encode_utf8_all, encode_utf8, IsUtf8, IsAscii, IsCharBoundary, append_assoc, append-nil, find, get_or, add-one, le_refl, ap₂, slice_range}
 use Rattle.std.specs.Char.{IsScalar}
 use Rattle.std.specs.Bool.{⊤}
@@ -56,7 +56,7 @@ option_map-id (Some x) = refl
 
 -- ---- characters that start before a column
 
--- each character starts before the column, so no shorter prefix of them reaches it
+-- each character of a list starts before column `col`, so each shorter prefix of the list has fewer than `col` units
 abbrev pub BeginBefore : ℕ → List ℕ → Type 0
 BeginBefore col [] = ⊤
 BeginBefore col (c ∷ cs) = (0 < col) × BeginBefore (col - units_of c) cs
@@ -93,7 +93,7 @@ BeginBefore-further (x ∷ xs) col more b =
     ] in
     (omega arith, later)
 
--- the result is a prefix, and each of its characters starts before the column
+-- `prefix` is a prefix of `cs`, and each character of `prefix` starts before column `col`
 record Found (col : ℕ) (cs prefix : List ℕ) : Type 0 where
   rest : List ℕ
   is : cs ≡ prefix ++ rest
@@ -335,8 +335,8 @@ offset_cuts line col offset u e =
     let f = found (chars line) m.0 col m.1 in
     cut_at line m.0 f.rest col offset u f.is f.begin m.2 (found_passes (λ prefix. nat_le col (width prefix)) (prefixes (chars line)) m.0 m.1)
 
--- the offset of a later column, found in the rest of the line: the units before the first offset are
--- subtracted from the column, and the first offset is added to the result
+-- let `offset` be the offset of column `col`, with `units` units before `offset`. To find column `col + more` in the
+-- rest of the line, subtract `units` from the column, and add `offset` to the result
 pub offset-further : (line : List ℕ) (col more offset units : ℕ) → IsUtf8 line
     → Some offset ≡ column_offset line col → units ≡ width (chars (take offset line))
     → column_offset line (col + more) ≡ option_map (λ n. offset + n) (column_offset (drop offset line) (col + more - units))
@@ -396,7 +396,7 @@ ascii_boundary line offset (suc count) u b l a =
     let first : get_or line at 0 < 128 = subst (λ n. n < 128) (get_or-take (suc count) (drop at line) 0 0 (omega arith) ∙ get_or-drop at line 0 0 ∙ ap (λ n. get_or line n 0) start) (a 0) in
     IsCharBoundary-before_ascii line at (omega arith) first
 
--- ---- back to a column that is not after an offset
+-- ---- the search back from an offset to a column
 
 pub units_some : (c : ℕ) → 0 < units_of c
 units_some c = grind (arith, nat_tests)
@@ -408,8 +408,8 @@ BeginBefore-own (x ∷ xs) =
     let left : width xs ≡ units_of x + width xs - units_of x = omega arith in
     (omega arith, subst (λ n. BeginBefore n xs) left (BeginBefore-own xs))
 
--- an offset is that of a column if the units before the offset reach the column, and each character before
--- the offset starts before the column
+-- the character boundary `offset` is the offset of column `col` if at least `col` units are before `offset`, and each
+-- character before `offset` starts before column `col`
 pub offset-reached : (line : List ℕ) (offset units col : ℕ) → IsUtf8 line → IsOffset line offset units → col ≤ units → BeginBefore col (chars (take offset line)) → Some offset ≡ column_offset line col
 offset-reached line offset units col u p l b =
     let before = IsUtf8-take line offset u p.0 in
@@ -424,12 +424,13 @@ offset-reached line offset units col u p l b =
     ap (λ prefix. length (encode_utf8_all prefix)) (append-nil front) ∙ ap length (encodes-chars (take offset line) before) ∙ length-take-le offset line p.0.0 in
     sym (ap (option_map (λ prefix. length (encode_utf8_all prefix))) here ∙ ap Some bytes)
 
--- an offset is that of the column that equals the number of units before it
+-- if `units` units are before the character boundary `offset`, then `offset` is the offset of column `units`
 pub offset-own : (line : List ℕ) (offset units : ℕ) → IsUtf8 line → IsOffset line offset units → Some offset ≡ column_offset line units
 offset-own line offset units u p =
     offset-reached line offset units units u p (le_refl units) (subst (λ n. BeginBefore n (chars (take offset line))) (sym p.1) (BeginBefore-own (chars (take offset line))))
 
--- one step back over the character `c`; columns after its start, up to its end, have the offset after it
+-- one step back from `offset` over the character `c`: the start of `c` is a character boundary, and each column after
+-- the start of `c`, up to column `units`, has the offset `offset`
 pub record SteppedBack (line : List ℕ) (offset units c : ℕ) : Type 0 where
   pub some : length (encode_utf8 c) ≤ offset
   pub wide : units_of c ≤ units
@@ -489,7 +490,7 @@ no_step line offset units col u p l e =
 pub units_is : (c r : ℕ) → (c < 65536 → r ≡ 1) → (65536 ≤ c → r ≡ 2) → r ≡ units_of c
 units_is c r one two = grind (arith, nat_tests)
 
--- ---- on by blocks
+-- ---- a walk that skips blocks of the line
 
 BeginBefore-wide : (xs : List ℕ) (col : ℕ) → width xs ≤ col → BeginBefore col xs
 BeginBefore-wide [] col l = tt
@@ -520,7 +521,7 @@ offset-few line offset units u p =
     let wide = p.1 in
     omega arith
 
--- the units before a later offset are those before the first offset and those between both
+-- `units + more` units are before the later boundary `end`: `units` before `offset`, and `more` from `offset` to `end`
 pub offset-ahead : (line : List ℕ) (offset units end more : ℕ) → IsUtf8 line → IsOffset line offset units → IsCharBoundary line end → offset ≤ end → more ≡ width (chars (slice_range line offset end)) → IsOffset line end (units + more)
 offset-ahead line offset units end more u p b l m =
     let between : offset + (end - offset) ≡ end = omega arith in

@@ -60,7 +60,7 @@ pub passing-none : (test : ℕ → Bool) (rest : List ℕ) → length rest ≡ 0
 passing-none test [] e = ap (passing_bytes test) chars-nil
 passing-none test (b ∷ rest) e = absurd (omega arith)
 
--- all characters pass exactly if this length is that of all characters
+-- all characters of `cs` pass exactly if `passing_bytes` is the number of bytes of `cs`; `more` is added on both sides
 pub all_pass : (test : ℕ → Bool) (cs : List ℕ) (more : ℕ) → (more + passing_bytes test cs == more + length (encode_utf8_all cs)) ≡ list_all test cs
 all_pass test [] more = grind (arith, nat_tests)
 all_pass test (c ∷ cs) more =

@@ -111,7 +111,8 @@ ranges-uncut rest start none = ap (ranges_from start) (lines_of-uncut rest none)
 
 -- ---- a partial table
 
--- the table with one more line
+-- `more` is `ranges` with the line from `start` up to the next terminator. If the lines from `start` on complete
+-- `ranges` to `line_ranges text`, the lines after this terminator complete `more` to the same list
 pub table-more : (text : List ℕ) (start at len : ℕ) (ranges more : List (ℕ × ℕ))
     → more ≡ ranges ++ (start, start + at) ∷ []
     → len ≡ terminator_len (take (length text - (start + at)) (drop (start + at) text))
@@ -148,7 +149,8 @@ table-last text start ranges more within pushed none left =
 pub tabled-at-start : (text : List ℕ) → IsPartialTable text [] 0 0
 tabled-at-start text = record { within = omega arith; left = refl; quiet = λ k l m. absurd (omega arith) }
 
--- a terminator that is not the second byte of `\r\n`
+-- if a terminator is at `end`, and `start` is not after `end`, the table gets the line from `start` up to `end`. The
+-- next line starts at `end + len`
 pub tabled-end : (text : List ℕ) (start end len : ℕ) (table more : List (ℕ × ℕ))
     → IsPartialTable text table start end
     → start ≤ end → end < length text → is_terminator (get_or text end 0) ≡ true
@@ -173,12 +175,12 @@ tabled-end text start end len table more t ordered inside ends pushed found =
       quiet = λ k l m. absurd (omega (arith, some));
     }
 
--- the `\n` of a `\r\n`
+-- if `end` is before `start`, as at the `\n` of a `\r\n`, a partial table for `end` is also one for `end + 1`
 pub tabled-pair : (text : List ℕ) (start end : ℕ) (table : List (ℕ × ℕ)) → IsPartialTable text table start end → end < start → IsPartialTable text table start (end + 1)
 tabled-pair text start end table t after =
     record { within = t.within; left = t.left; quiet = λ k l m. absurd (omega arith) }
 
--- bytes that end no line
+-- if no byte from `offset` up to `to`, exclusive, is a terminator, a partial table for `offset` is also one for `to`
 pub tabled-on : (text : List ℕ) (start offset to : ℕ) (table : List (ℕ × ℕ)) → IsPartialTable text table start offset
     → ((k : ℕ) → offset ≤ k → k < to → is_terminator (get_or text k 0) ≡ false)
     → IsPartialTable text table start to
@@ -232,7 +234,7 @@ half : (b : Bool) (n : ℕ) → (cond b 1 0 + 2 * n) / 2 ≡ n
 half true n = omega arith
 half false n = omega arith
 
--- the mask without its lowest bits
+-- the mask of `xs` without its lowest `k` bits is the mask of `xs` without its first `k` bytes
 pub mask-after : (xs : List ℕ) (k : ℕ) → mask_l (map is_terminator xs) / 2 ^ k ≡ mask_l (map is_terminator (drop k xs))
 mask-after xs zero = div-one (mask_l (map is_terminator xs))
 mask-after [] (suc k) = zero-div (2 ^ suc k)
@@ -275,7 +277,7 @@ pub lowest_bit : (text : List ℕ) (offset end left : ℕ) → offset ≤ end �
 lowest_bit text offset end left ordered bounded few is some =
     subst (λ m. Lowest text offset end m (count_trailing_zeros 64 m)) (sym is) (lowest text offset end ordered bounded few (subst (λ m. 0 < m) is some))
 
--- if no bit is left, there is no terminator
+-- if the mask `left` of the bytes from `offset` up to `end`, exclusive, is 0, none of these bytes is a terminator
 pub no_bit : (text : List ℕ) (offset end left : ℕ) → offset ≤ end → end ≤ length text → left ≡ mask_l (map is_terminator (chunk offset (end - offset) text)) → left ≡ 0
     → (k : ℕ) → offset ≤ k → k < end → is_terminator (get_or text k 0) ≡ false
 no_bit text offset end left ordered bounded is none k l m = none_from_empty_mask is_terminator text offset (end - offset) 0 (omega arith) (sym is ∙ none) k l (omega arith)
@@ -507,7 +509,7 @@ in_text_at text start (line ∷ next ∷ lines) (suc row) range u e l b a found 
     let later = in_text_at text (start + length line.body + length line.terminator) (next ∷ lines) row range u (next_rest text start line (next ∷ lines) e) after.1 after.0 a.1 found in
     record { ordered = later.ordered; start = later.start; end = later.end; body = later.body }
 
--- each line of a text
+-- in a UTF-8 text, the range at `row` is between character boundaries and holds the body of line `row`
 pub line-in_text : (text : List ℕ) (row : ℕ) (range : ℕ × ℕ) → IsUtf8 text → slice_get (line_ranges text) row ≡ Some range → IsInText text (lines_of text) row range
 line-in_text text row range u found =
     in_text_at text 0 (lines_of text) row range u (sym (joined-lines_of text)) (omega arith) (IsCharBoundary-start text u) (AreEnded-lines_of text) found

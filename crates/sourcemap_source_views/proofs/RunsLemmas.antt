@@ -1,4 +1,4 @@
--- Words and identifiers of a line, found from those of a later offset.
+-- How the word at an offset of a line follows from the word at a later offset, and which identifier a word starts with.
 use Rattle.std.proofs.Common.{◌≡◌, refl, sym, ap, ap₂, subst, ◌∙◌, ℕ, zero, suc, ◌+◌, ◌-◌, ◌<◌, ◌≤◌, ◌≢◌, ◌==◌, nat_le, Bool, true, false, not, cond, List, [], ◌∷◌, ◌++◌, length, drop, take_while, arith, inl, inr, Some, None, IsUtf8, IsCharBoundary, chars, encode_utf8, encode_utf8_all, slice_range, append-nil}
 use Rattle.std.specs.List.{list_all}
 use Rattle.std.specs.Char.{is_whitespace}
@@ -179,7 +179,7 @@ passing-some test gap rest u few =
 pub end_at : (line : List ℕ) (word len : ℕ) → IsCharBoundary line word → IsCharBoundary (drop word line) len → len ≡ passing_bytes is_part (chars (drop word line)) → IsWordEnd line word (word + len)
 end_at line word len b inside e = (IsCharBoundary-from_rest line word len b.0 inside, ap (λ n. word + n) e)
 
--- if all characters up to `next` can continue an identifier, the runs from `word` and `next` have one end
+-- if all characters from `word` up to `next` can continue an identifier, the runs from both offsets have the same end
 pub end_kept : (line : List ℕ) (word next end len : ℕ) → IsUtf8 line → word ≤ next → IsCharBoundary line word → IsCharBoundary line next
     → len ≡ passing_bytes is_part (chars (slice_range line word next)) → len ≡ length (slice_range line word next)
     → IsWordEnd line next end → IsWordEnd line word end
@@ -192,7 +192,7 @@ end_kept line word next end len u l b d is all e =
     let end_is = e.1 in
     (e.0, omega (arith, whole, long, within, end_is))
 
--- if not all of them can, the run ends before `next`
+-- if not all characters from `word` up to `next` can continue an identifier, the run from `word` ends before `next`
 pub end_found : (line : List ℕ) (word next len : ℕ) → IsUtf8 line → word ≤ next → IsCharBoundary line word → IsCharBoundary line next
     → len ≡ passing_bytes is_part (chars (slice_range line word next)) → len ≢ length (slice_range line word next) → IsCharBoundary (slice_range line word next) len
     → IsWordEnd line word (word + len)
@@ -233,7 +233,7 @@ identifier_none line offset word w starts =
     let same : identifier_at_start words ≡ [] = identifier-by-parts words ∙ ap (λ t. cond t (take_while is_part words) []) starts in
     sym (token_of_word line offset word w ∙ ap unless_empty same)
 
--- the identifier at a column: none if the units before the offset do not reach the column
+-- `identifier_from` is what `token_at_start` finds from `offset` on if `units` is at least `col`, otherwise `None`
 pub identifier_far : (line : List ℕ) (col offset units : ℕ) → col ≤ units → token_at_start (drop offset line) ≡ identifier_from line col offset units
 identifier_far line col offset units l = let far : nat_le col units ≡ true = grind (arith, nat_tests) in rw far refl
 
@@ -271,8 +271,8 @@ named_bytes (n ∷ ns) rest name valid spelt some =
     let bytes : encode_utf8_all (n ∷ (ns ++ take_while is_part rest)) ≡ name ++ encode_utf8_all (take_while is_part rest) = encodes-append (n ∷ ns) (take_while is_part rest) ∙ ap (λ t. t ++ encode_utf8_all (take_while is_part rest)) spelt in
     same_name name (encode_utf8_all (take_while is_part rest)) rest refl ∙ sym (ap (λ t. bytes_eq t name) bytes) ∙ sym (ap (λ i. is_text name (unless_empty i)) is)
 
--- let the name be an identifier and not empty, and let the text start with the name. The longest identifier at the
--- start of the text is the name exactly if no character comes after the name, or one that cannot continue an identifier
+-- let `text` be `name ++ rest`, and let `name` be an identifier and not empty. The longest identifier at the start of
+-- `text` is `name` exactly if `rest` does not start with a character that can continue an identifier
 pub named_if : (text rest name : List ℕ) → IsUtf8 name → is_identifier (chars name) ≡ true → name ≢ [] → text ≡ name ++ rest
     → not (first_passes is_part (chars rest)) ≡ is_text name (unless_empty (identifier_at_start (chars text)))
 named_if text rest name u valid some e =

@@ -3,7 +3,7 @@ use Rattle.std.proofs.Common.{◌≡◌, refl, sym, ap, ◌∙◌, ℕ, zero, su
 use Rattle.std.specs.Result.{result_ok}
 use Rattle.std.proofs.lemmas.Option.{none-some, same_Some}
 
--- if there is an item at the index, and the index is below the maximum, it comes next
+-- if `index` is below `most`, and `x` is the item at `index`, then `x` is the first of the items left
 pub drop-next : {X : Type 0} (xs : List X) (most index : ℕ) (x : X) → index < most → Some x ≡ slice_get xs index → drop index (take most xs) ≡ x ∷ drop (index + 1) (take most xs)
 drop-next [] most index x l e = absurd (none-some x (sym e))
 drop-next (y ∷ xs) zero index x l e = absurd (omega arith)
@@ -33,7 +33,7 @@ drop-past [] (suc most) (suc index) l = refl
 drop-past (x ∷ xs) (suc most) zero l = absurd (omega arith)
 drop-past (x ∷ xs) (suc most) (suc index) l = drop-past xs most index (omega arith)
 
--- the number of a line, if it fits 32 bits
+-- if the conversion `r` of `n` to 32 bits has the value `line`, then `n` fits 32 bits and is `line`
 pub number_there : {E : Type 0} (r : Result ℕ E) (n line : ℕ) → OkIff r (n < 4294967296) n → Some line ≡ result_ok r → (n < 4294967296) × (n ≡ line)
 number_there (Ok y) n line h e = (h.0, sym h.1 ∙ same_Some y line (sym e))
 number_there (Err y) n line h e = absurd (none-some line (sym e))

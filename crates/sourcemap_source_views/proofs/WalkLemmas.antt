@@ -1,4 +1,4 @@
--- How a walk along tokens finds the one with a given identifier that a `function` follows.
+-- How a walk along tokens finds the first token with a given identifier whose next token has the identifier `function`.
 use Rattle.std.proofs.Common.{◌≡◌, refl, sym, ap, ◌∙◌, ℕ, zero, suc, ◌-◌, ◌<◌, ◌⊎◌, List, [], ◌∷◌, take, drop, true, false, cond, Some, None, Option, option_map, arith, inl, inr, codes, is_some, true≢false}
 use Rattle.std.proofs.lemmas.Bool.{cases_Bool}
 use Rattle.std.proofs.lemmas.Option.{none-some}
@@ -7,14 +7,15 @@ use Rattle.sourcemap_source_views.specs.Identifiers.{is_text, token_at_start}
 use Rattle.sourcemap_source_views.specs.Walk.{function_token}
 use Rattle.sourcemap_source_views.specs.Walks.{tokens_from}
 
--- what is found in the items left, where `called` is the item before them if it has the identifier
+-- the result of `function_token` for the items that are left and the token right before them. The second argument is
+-- this token if its identifier is `name`, otherwise `None`
 abbrev pub found_after : {S : Type 0} → List ℕ → Option S → List (S × Option (List ℕ)) → Option S
 found_after name None items = function_token name items
 found_after name (Some token) [] = None
 found_after name (Some token) (next ∷ items) =
     cond (is_text (codes "function") next.1) (Some token) (function_token name (next ∷ items))
 
--- the next item is passed
+-- the search moves past `item`, and `found_after` keeps the token of `item` if the identifier of `item` is `name`
 passed_called : {S : Type 0} (name : List ℕ) (item : S × Option (List ℕ)) (items : List (S × Option (List ℕ))) → is_text name item.1 ≡ true
     → function_token name (item ∷ items) ≡ found_after name (Some item.0) items
 passed_called name item [] e = refl
@@ -51,7 +52,7 @@ not_fired name None item items other = refl
 not_fired name (Some token) item items (inl none) = absurd (none-some token (sym none))
 not_fired name (Some token) item items (inr e) = rw e refl
 
--- the result does not change when an item is passed, unless `called` has a value and the item is `function`
+-- if `called` is `None` or the identifier of `item` is not `function`, moving past `item` keeps the result `due`
 pub found_after-passed : {S : Type 0} (name : List ℕ) (called : Option S) (item : S × Option (List ℕ)) (left next : List (S × Option (List ℕ))) (n : ℕ) (due : Option S)
     → 0 < n → left ≡ item ∷ next
     → (called ≡ None) ⊎ (is_text (codes "function") item.1 ≡ false)
@@ -81,12 +82,12 @@ found_after-fired name (Some token) item left next n due l e some fired was =
     let here : found_after name (Some token) (item ∷ take (n - 1) next) ≡ Some token = rw fired refl in
     sym here ∙ sym (ap (found_after name (Some token)) items_left) ∙ was
 
--- the tokens before another: the one that comes right before it, if there is one, and those before that
+-- writes the contract of `WalkedToken::previous` as one equation with `tokens_from`
 pub tokens_before : {T S : Type 0} (seen : T → S) (before : T → List S) (token : Option T) (tokens : List S) → MatchOption token (tokens ≡ []) (λ t. tokens ≡ seen t ∷ before t) → tokens ≡ tokens_from seen before token
 tokens_before seen before None tokens e = e
 tokens_before seen before (Some token) tokens e = e
 
--- the identifier at a cursor is that at the position in the view
+-- the identifier at a cursor stays the same if the line and the offset are first put into a pair, as in `identifier_at`
 pub identifier_at_cursor : {X : Type 0} (line : X → List ℕ) (reached : X → Option ℕ) (cursor : Option X)
     → option_and_then (λ s. option_and_then (λ at. token_at_start (drop at (line s))) (reached s)) cursor
     ≡ option_and_then (λ (found : List ℕ × ℕ). token_at_start (drop found.1 found.0)) (option_and_then (λ s. option_map (λ at. (line s, at)) (reached s)) cursor)

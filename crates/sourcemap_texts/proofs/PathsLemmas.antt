@@ -14,7 +14,7 @@ use Rattle.sourcemap_texts.specs.Paths.{is_absolute, is_separator, with_first_by
 
 -- ---- parts
 
--- a part ends before this text
+-- the text is empty or starts with a separator: the preceding part is complete
 abbrev pub ends_part : List ℕ → Bool
 ends_part [] = true
 ends_part (byte ∷ text) = is_separator byte
@@ -27,7 +27,7 @@ path_parts-joined : (byte : ℕ) (text : List ℕ) → ends_part text ≡ false 
 path_parts-joined byte [] e = cc
 path_parts-joined byte (next ∷ text) e = rw e refl
 
--- the first part of a text starts with its first byte
+-- the list `parts` is not empty, and the first part starts with `byte`
 record StartsWith (byte : ℕ) (parts : List (List ℕ)) : Type 0 where
   part : List ℕ
   others : List (List ℕ)
@@ -42,7 +42,7 @@ starts byte (next ∷ text) =
       | inr e ↦ record { part = next ∷ later.part; others = later.others; is = path_parts-joined byte (next ∷ text) e ∙ ap (with_first_byte byte) later.is }
     ]
 
--- splitting loses nothing
+-- for `concat-path_parts`: joining the parts of a text gives the text again
 concat-with_first_byte : (byte : ℕ) (parts : List (List ℕ)) → concat (with_first_byte byte parts) ≡ byte ∷ concat parts
 concat-with_first_byte byte [] = refl
 concat-with_first_byte byte (part ∷ parts) = refl
@@ -109,8 +109,8 @@ abbrev pub start_of : List (List (List ℕ)) → Option (List (List ℕ))
 start_of [] = None
 start_of (parts ∷ lists) = Some (first_parts (parts ∷ lists))
 
--- `Some start` holds the common first parts of the lists so far. The result is the common first parts of `start` and of
--- one more list. `None`: there are no lists so far, and the result is the one list
+-- the common first parts of the lists so far and of one more list `parts`. `Some start` holds the common first parts of
+-- the lists so far. `None`: there are no lists so far, and the result is `parts`
 abbrev pub start_with : Option (List (List ℕ)) → List (List ℕ) → List (List ℕ)
 start_with None parts = parts
 start_with (Some start) parts = common_parts start parts
@@ -141,11 +141,12 @@ parts_among-skipped (first ∷ texts) text e =
     ≡ map path_parts (cond b (first.now ∷ filter is_absolute (map (λ t. t.now) texts)) (filter is_absolute (map (λ t. t.now) texts))))
     [ true ↦ ap (λ l. path_parts first.now ∷ l) rest | false ↦ rest ]
 
--- the start of the texts so far and one more absolute path
+-- `start_with` gives the common first parts after one more absolute path `text`
 pub start_of-taken : (texts : List (Bor (List ℕ))) (text : Bor (List ℕ)) → is_absolute text.now ≡ true → start_of (parts_among (texts ++ text ∷ [])) ≡ Some (start_with (start_of (parts_among texts)) (path_parts text.now))
 start_of-taken texts text e = ap start_of (parts_among-taken texts text e) ∙ start_of-append (parts_among texts) (path_parts text.now)
 
--- the start of all, joined
+-- `joined` is the text in `start`, or empty for `None`. If this text splits into the common first parts of `lists`,
+-- then `joined` is these parts put together
 pub concat-first_parts : (lists : List (List (List ℕ))) (start : Option (Bor (List ℕ))) (none joined : Bor (List ℕ)) → none.now ≡ [] → joined ≡ unwrap_or start none
     → option_map (λ s. path_parts s.now) start ≡ start_of lists → joined.now ≡ concat (first_parts lists)
 concat-first_parts [] None none joined empty is same = ap (λ t. t.now) is ∙ empty
@@ -156,7 +157,8 @@ concat-first_parts (parts ∷ lists) (Some s) none joined empty is same =
 
 -- ---- where two texts differ
 
--- the length of the common first parts with one more equal byte in front, from the length without it
+-- two texts get the same byte in front: the new length of the common first parts, from the old length. `both_end`: in
+-- both texts, the new byte is a part of its own
 abbrev pub extended : ℕ → Bool → ℕ
 extended zero both_end = cond both_end 1 0
 extended (suc count) both_end = suc (suc count)
@@ -171,7 +173,6 @@ shared-nil : (a : List ℕ) → shared a [] ≡ 0
 shared-nil [] = refl
 shared-nil (x ∷ a) = refl
 
--- equal first bytes
 shared-same : (x : ℕ) (a b : List ℕ) → shared (x ∷ a) (x ∷ b) ≡ extended (shared a b) (ends_part a && ends_part b)
 shared-same x a b = let same : (x == x) ≡ true = eq-eqb x x refl in rw same refl
 
@@ -209,7 +210,7 @@ take-empty : (n : ℕ) (x : ℕ) (a : List ℕ) → path_parts (take n (x ∷ a)
 take-empty zero x a e = refl
 take-empty (suc n) x a e = let h = starts x (take n a) in let clash : [] ≡ (x ∷ h.part) ∷ h.others = sym e ∙ h.is in cc
 
--- two texts that start with one byte x, and both end a part after x
+-- a case of `parts-step`: both texts end a part after the first byte `x`
 parts-both_end : (x : ℕ) (a b : List ℕ) → ends_part a ≡ true → ends_part b ≡ true → path_parts (take (shared a b) a) ≡ common_parts (path_parts a) (path_parts b)
     → path_parts (take (shared (x ∷ a) (x ∷ b)) (x ∷ a)) ≡ common_parts (path_parts (x ∷ a)) (path_parts (x ∷ b))
 parts-both_end x a b e f tails =
@@ -278,7 +279,7 @@ parts-right_ends x c a b e f =
     ∙ ap (common_parts ((x ∷ c ∷ left.part) ∷ left.others)) (path_parts-cut x b f)
     ∙ common_parts-apart (x ∷ c ∷ left.part) (x ∷ []) left.others (path_parts b) differ)
 
--- one more equal byte in front
+-- the induction step of `path_parts-shared`: both texts get the same byte `x` in front
 parts-step : (x : ℕ) (a b : List ℕ) → path_parts (take (shared a b) a) ≡ common_parts (path_parts a) (path_parts b)
     → path_parts (take (shared (x ∷ a) (x ∷ b)) (x ∷ a)) ≡ common_parts (path_parts (x ∷ a)) (path_parts (x ∷ b))
 parts-step x [] [] tails = parts-both_end x [] [] refl refl tails
@@ -325,14 +326,15 @@ path_parts-shared (x ∷ a) (y ∷ b) =
 
 -- ---- a walk over both texts
 
--- the shared bytes after `at` equal bytes, from the number that the rests share. If that is 0, `at` bytes are
--- shared where both texts end a part at `at`, and otherwise `kept`
+-- the number of bytes that two texts with the same first `at` bytes share. If the rests of the texts share bytes, the
+-- number of these bytes is added to `at`. Otherwise the result is `at` if both texts end a part at index `at`, and
+-- `kept` if not
 abbrev pub shared_at : ℕ → ℕ → Bool → ℕ → ℕ
 shared_at at zero both_end kept = cond both_end at kept
 shared_at at (suc count) both_end kept = at + suc count
 
--- what holds in the walk over both texts at index `at`, if all bytes before `at` are equal. `kept` is the index of the
--- last separator before `at`, or 0 if there is none
+-- the invariant of a walk past equal bytes of both texts. The walk is at index `at`. `kept` is the index of the last
+-- separator before `at`, or 0 if there is none. `shared_at` gives the number of shared bytes
 pub record IsWalk (a b : List ℕ) (at kept : ℕ) : Type 0 where
   pub within_a : at ≤ length a
   pub within_b : at ≤ length b
@@ -352,7 +354,6 @@ shared_at-step at zero kept true false = refl
 shared_at-step at zero kept false false = refl
 shared_at-step at (suc count) kept cut both_end = omega arith
 
--- a text from an index within it on
 drop-within : (at : ℕ) (a : List ℕ) → at < length a → drop at a ≡ get_or a at 0 ∷ drop (at + 1) a
 drop-within at a l = rw (add-one, drop-cons a at 0) refl
 
@@ -413,7 +414,7 @@ module _ {a b : List ℕ} {at kept : ℕ} (walk : IsWalk a b at kept) (differ : 
 
 -- ---- where the shared bytes end
 
--- within the text, and before a separator or at an end of the text
+-- `n` is the start of the text, the end of the text, or the index of a separator
 pub record IsCut (a : List ℕ) (n : ℕ) : Type 0 where
   pub within : n ≤ length a
   pub before : 0 < n → n < length a → is_separator (get_or a n 0) ≡ true
@@ -442,7 +443,7 @@ separator-ascii : (c : ℕ) → is_separator c ≡ true → c < 128
 separator-ascii c e =
     elim (or_cases (c == 47) (c == 92) e) [ inl h ↦ (let is : c ≡ 47 = eqb-true c 47 h in omega arith) | inr h ↦ (let is : c ≡ 92 = eqb-true c 92 h in omega arith) ]
 
--- a text may be split there
+-- a UTF-8 text may be split at its start, at its end and before a separator
 pub IsCharBoundary-cut : (a : List ℕ) (n : ℕ) → IsUtf8 a → n ≤ length a → (0 < n → n < length a → is_separator (get_or a n 0) ≡ true) → IsCharBoundary a n
 IsCharBoundary-cut a zero utf8 within before = IsCharBoundary-start a utf8
 IsCharBoundary-cut a (suc n) utf8 within before =

@@ -6,7 +6,7 @@ use Rattle.std.specs.Str.Pattern.{FindsTextPrefix, StripsPrefix}
 use Rattle.std.proofs.lemmas.Str.Pattern.{starts_text}
 use Rattle.sourcemap_texts.specs.Prefixes.{with_slash}
 
--- a text after a prefix, if it starts with it
+-- the text after a prefix; `None` if the text does not start with the prefix
 abbrev pub stripped : List ℕ → List ℕ → Option (List ℕ)
 stripped prefix text = if starts_with nat_eq text prefix then Some (drop (length prefix) text) else None
 
@@ -26,7 +26,7 @@ strips p t (Some x) (n, (is, split, bound), rest, many) =
     let starts : true ≡ starts_with nat_eq t p = starts_text true p t (n, (is, split, bound), rw is bound) in
     rw (← starts) (ap Some (rest ∙ ap (λ k. drop k t) is))
 
--- a prefix with a slash is stripped as the prefix and then a slash, if the prefix does not end with one
+-- `with_slash p` is stripped in two steps: first `p`, and then a slash, unless `p` ends with a slash
 pub stripped-with_slash : (p t : List ℕ) → stripped (with_slash p) t
     ≡ option_and_then (λ rest. if ends_with nat_eq p (codes "/") then Some rest else stripped (codes "/") rest) (stripped p t)
 stripped-with_slash p t =

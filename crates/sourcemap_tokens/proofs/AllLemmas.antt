@@ -1,4 +1,4 @@
--- Facts about all items of a list, and of lists derived from it.
+-- Facts about a property of all items of a list, also for lists made with `++`, `map` or `flat_map`.
 use Rattle.std.proofs.Common.{◌≡◌, subst, ℕ, zero, suc, List, [], ◌∷◌, ◌++◌, map, flat_map, Some, slice_get}
 use Rattle.std.specs.List.{AllByRecursion}
 

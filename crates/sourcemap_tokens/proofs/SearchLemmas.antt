@@ -1,4 +1,4 @@
--- The closest item, from the index at which a search ends.
+-- The index at which a search ends determines the closest item.
 use Rattle.std.proofs.Common.{◌≡◌, refl, sym, ap, subst, ◌∙◌, ℕ, zero, suc, ◌+◌, ◌-◌, ◌<◌, ◌≤◌, ◌==◌, List, [], ◌∷◌, length, get_or, Bool, true, false, cond, Some, None, Option, find, map, option_map, slice_get, IfSome, IsSortedByKey, arith, inl, inr, zero-add}
 use Rattle.std.specs.List.{enumerate_from, AllByRecursion}
 use Rattle.std.specs.Option.{option_or}
@@ -146,7 +146,7 @@ module _ {X K : Type 0} {cmp : K → K → Ordering} (o : IsTotalOrder cmp) (key
       let many = length-enumerate_from 0 xs in
       rw (entry-item xs n d (omega arith)) (apart d.1 (omega arith))
 
-  -- the search ends at an item with key p
+  -- if the search ends at index `n` and the item `x` at this index has key `p`, then `x` is the closest item
   pub closest-hit : (x : X) → n < length xs → x ≡ get_or xs n x → is_eq (cmp (key x) p) ≡ true → Some (n, x) ≡ closest key cmp xs p
   unfolding closest
   closest-hit x l read here =
@@ -155,7 +155,7 @@ module _ {X K : Type 0} {cmp : K → K → Ordering} (o : IsTotalOrder cmp) (key
       let hit = closest_item-hit o (λ (e : ℕ × X). key e.1) (enumerate_from 0 xs) p n entries_sorted (entries_bracket (omega arith)) (0, x) (omega arith) (rw entry here) in
       sym (hit ∙ ap Some entry)
 
-  -- the search ends after the item x, and the item where it ends, if any, does not have key p
+  -- if the search ends at an index `n` above 0 and no item at `n` has key `p`, the item `x` at `n - 1` is the closest
   pub closest-miss : (x : X) → 0 < n → n ≤ length xs → x ≡ get_or xs (n - 1) x → IsApart key cmp xs p n → Some (n - 1, x) ≡ closest key cmp xs p
   unfolding closest
   closest-miss x some within read apart =
@@ -164,7 +164,7 @@ module _ {X K : Type 0} {cmp : K → K → Ordering} (o : IsTotalOrder cmp) (key
       let miss = closest_item-miss o (λ (e : ℕ × X). key e.1) (enumerate_from 0 xs) p n entries_sorted (entries_bracket within) (0, x) some (omega arith) (entries_apart apart) in
       sym (miss ∙ ap Some entry)
 
--- the search ends at index 0, and the item there, if any, does not have key p
+-- if the search ends at index 0 and no item at index 0 has key `p`, there is no closest item
 none_at_front : {X K : Type 0} {cmp : K → K → Ordering} (o : IsTotalOrder cmp) (key : X → K) (xs : List X) (p : K) → IsSortedByKey key cmp xs → IsBracket key cmp xs p 0 0 → IsApart key cmp xs p 0 → None ≡ closest key cmp xs p
 unfolding closest
 none_at_front o key [] p sorted b apart = refl
@@ -176,11 +176,11 @@ closest-none {cmp = cmp} o key xs p n sorted b front apart =
     none_at_front o key xs p sorted (subst (λ m. IsBracket key cmp xs p m m) front b) (subst (IsApart key cmp xs p) front apart)
 
 module _ {X K : Type 0} (key : X → K) (cmp : K → K → Ordering) (xs : List X) (p : K) where
-  -- a search begins
+  -- the search begins between 0 and the length of the list
   pub bracket-all : IsBracket key cmp xs p 0 (length xs)
   bracket-all = record { below = λ d l. absurd (omega arith); above = λ d l. absurd (omega arith) }
 
-  -- it continues after the item x at k, whose key is before p
+  -- if the key of the item `x` at index `k` is before `p`, the search continues between `k + 1` and `high`
   pub bracket-up : (low high k : ℕ) (x : X) → IsBracket key cmp xs p low high → k < length xs → x ≡ get_or xs k x → is_lt (cmp (key x) p) ≡ true → IsBracket key cmp xs p (k + 1) high
   bracket-up low high k x b l read less = record {
     below = λ d m.
@@ -191,25 +191,25 @@ module _ {X K : Type 0} (key : X → K) (cmp : K → K → Ordering) (xs : List 
     above = b.above;
   }
 
-  -- it continues up to the item x at k, whose key is not before p
+  -- if the key of the item `x` at index `k` is not before `p`, the search continues between `low` and `k`
   pub bracket-down : (low high k : ℕ) (x : X) → IsBracket key cmp xs p low high → k < length xs → x ≡ get_or xs k x → is_lt (cmp (key x) p) ≡ false → IsBracket key cmp xs p low k
   bracket-down low high k x b l read not_less = record {
     below = b.below;
     above = λ d m. subst (λ y. is_lt (cmp (key y) p) ≡ false) (read ∙ get_or_default xs k x d l) not_less;
   }
 
--- the search has ended at an item x that does not have key p
+-- if the search ends at index `n`, at an item `x` that does not have key `p`, `IsApart` holds at `n`
 pub apart_from_read : {X K : Type 0} (key : X → K) (cmp : K → K → Ordering) (xs : List X) (p : K) (n : ℕ) (x : X) → x ≡ get_or xs n x → is_eq (cmp (key x) p) ≡ false → IsApart key cmp xs p n
 apart_from_read key cmp xs p n x read other d l = subst (λ y. is_eq (cmp (key y) p) ≡ false) (read ∙ get_or_default xs n x d l) other
 
--- the search has ended after the last item
+-- if the search ends at an index `n` after the last item, `IsApart` holds at `n`
 pub apart_at_end : {X K : Type 0} (key : X → K) (cmp : K → K → Ordering) (xs : List X) (p : K) (n : ℕ) → length xs ≤ n → IsApart key cmp xs p n
 apart_at_end key cmp xs p n past d l = absurd (omega arith)
 
 pub bracket_closed : {X K : Type 0} (key : X → K) (cmp : K → K → Ordering) (xs : List X) (p : K) (low high : ℕ) → IsBracket key cmp xs p low high → high ≡ low → IsBracket key cmp xs p low low
 bracket_closed key cmp xs p low high b ends = subst (IsBracket key cmp xs p low) ends b
 
--- a test of the result of `cmp`, in terms of the key that a closure returned
+-- a closure returned the key `k` of `x`. If a test of `cmp k p` gives `b`, the same test of `cmp (key x) p` gives `b`
 module _ {X K : Type 0} (key : X → K) (cmp : K → K → Ordering) (x : X) (k p : K) (r : Ordering) (t b : Bool) where
   pub tested_less : k ≡ key x → r ≡ cmp k p → t ≡ (ordering_index r == 0) → t ≡ b → is_lt (cmp (key x) p) ≡ b
   tested_less given compared tested candidate =
@@ -250,7 +250,6 @@ module _ {X K : Type 0} (key : X → K) (cmp : K → K → Ordering) (P : X → 
   pub closest_item-has : (xs : List X) (p : K) → AllByRecursion P xs → IfSome (closest_item key cmp xs p) P
   closest_item-has xs p all = either_has (find (λ x. is_eq (cmp (key x) p)) xs) (find_last (λ x. is_lt (cmp (key x) p)) xs) (found_has _ xs all) (last_has _ xs all)
 
--- a weaker property of an item that may be missing
 if_some_weaker : {X : Type 0} {P Q : X → Type 0} → ((x : X) → P x → Q x) → (o : Option X) → IfSome o P → IfSome o Q
 if_some_weaker weaker None has = tt
 if_some_weaker weaker (Some x) has = weaker x has
@@ -277,7 +276,7 @@ module _ {X : Type 0} (test : X → Bool) where
       by_rest None later = by_test (test x) refl
       by_rest (Some y) later = later
 
--- the closest item has the key or a smaller one
+-- the key of the closest item, if any, is at most `p`
 module _ {X K : Type 0} (key : X → K) (cmp : K → K → Ordering) where
   closest_item-at_most : (xs : List X) (p : K) → IfSome (closest_item key cmp xs p) (λ x. is_le (cmp (key x) p) ≡ true)
   closest_item-at_most xs p =
@@ -321,7 +320,7 @@ entries-change : {X Y : Type 0} (change : X → Y) (n : ℕ) (xs : List X) → e
 entries-change change n [] = refl
 entries-change change n (x ∷ xs) = ap (λ rest. (n, change x) ∷ rest) (entries-change change (n + 1) xs)
 
--- the same with the index of the item
+-- if `change` keeps each key, the closest item of the changed list is the changed closest item, at the same index
 pub closest-change : {X Y K : Type 0} (key : X → K) (key' : Y → K) (cmp : K → K → Ordering) (change : X → Y) (kept : (x : X) → key' (change x) ≡ key x) (xs : List X) (p : K) → closest key' cmp (map change xs) p ≡ option_map (λ (e : ℕ × X). (e.0, change e.1)) (closest key cmp xs p)
 unfolding closest
 closest-change {X} {Y} key key' cmp change kept xs p =
@@ -336,7 +335,7 @@ module _ {X K : Type 0} (key : X → K) (cmp : K → K → Ordering) (xs : List 
       sym (closest_item-change (λ (e : ℕ × X). key e.1) key cmp (λ e. e.1) (λ e. refl) (enumerate_from 0 xs) p)
       ∙ ap (λ items. closest_item key cmp items p) (items_of_entries 0 xs)
 
-  -- the index is that of the item
+  -- the list has the closest item at the index that `closest` gives
   pub index-closest : IfSome (closest key cmp xs p) (λ e. slice_get xs e.0 ≡ Some e.1)
   unfolding closest
   index-closest =

@@ -70,7 +70,7 @@ length-in_order tokens = length-sorted_by destination position_cmp_total tokens
 pub AllWithin-in_order : (sources names : ℕ) (tokens : List RawToken) → AllWithin sources names tokens → AllWithin sources names (in_order tokens)
 AllWithin-in_order sources names tokens all = All-sorted_by destination position_cmp_total (IsWithin sources names) tokens all
 
--- tokens in order that keep the order of tokens with equal positions are the sorted list
+-- the only stable sort of `tokens` by generated position is `in_order tokens`
 pub stably_in_order : (tokens sorted : List RawToken) → AreInOrder sorted → IsStableByKey destination position_cmp tokens sorted → sorted ≡ in_order tokens
 stably_in_order tokens sorted up stable = stably_sorted destination position_cmp_total tokens sorted up stable
 
@@ -98,7 +98,7 @@ same_from_are_same s t e =
       is_range = one_flag s.is_range t.is_range name.1 i;
     }
 
--- a fold ignores repeats if its step, done twice in a row with one token, is the step done once
+-- let `sees` be a fold by `step`. If a second step in a row with the same token changes nothing, `sees` ignores repeats
 module _ {R : Type 0} (sees : List RawToken → R) (step : RawToken → R → R) (each : (t : RawToken) (ts : List RawToken) → sees (t ∷ ts) ≡ step t (sees ts)) (once : (t : RawToken) (r : R) → step t (step t r) ≡ step t r) where
   sees-changes_after : (t : RawToken) (ts : List RawToken) → sees (t ∷ changes_after t ts) ≡ sees (t ∷ ts)
   sees-changes_after t [] = refl
@@ -135,7 +135,7 @@ closest_item-without_repeats tokens p =
     sees-without_repeats (find_last before) (λ t r. option_or r (cond (before t) (Some t) None)) (λ t ts. refl) (λ t r. last_once r (cond (before t) (Some t) None)) tokens in
     rw (first, last)
 
--- the reduced list has the same closest token, up to a name id that is not below `names`
+-- the reduced list has the same closest token, except that a name id that is not below `names` becomes `no_id`
 pub closest_item-reduced : (names : ℕ) (tokens : List RawToken) (p : ℕ × ℕ) → closest_item destination position_cmp (reduced names tokens) p ≡ option_map (with_valid_name names) (closest_item destination position_cmp tokens p)
 closest_item-reduced names tokens p =
     closest_item-change destination destination position_cmp (with_valid_name names) (λ t. refl) (without_repeats tokens) p

@@ -1,4 +1,4 @@
--- The bits of a text, and the shortest text of bits, of which there is at most one.
+-- The bits of a text, and the shortest text for a list of bits. A list of bits has at most one shortest text.
 use Rattle.std.proofs.Common.{◌≡◌, ◌≢◌, ℕ, zero, suc, ◌+◌, ◌*◌, ◌/◌, ◌%◌, ◌^◌, ◌<◌, ◌≤◌, ◌==◌, Bool, true, false, List, [], ◌∷◌, ◌++◌, length, take, drop, get_or, slice_get, Option, Some, None, unwrap_or, refl, sym, ◌∙◌, ap, arith, inl, inr, if◌then◌else◌, Result, Ok, Err}
 use Rattle.std.specs.Prelude.{is_none}
 use Rattle.std.specs.List.{slice_index_or}
@@ -91,7 +91,7 @@ same_lists (x ∷ xs) (y ∷ ys) len same =
     let rest : xs ≡ ys = same_lists xs ys (omega arith) (λ j h. same (suc j) (omega arith)) in
     cc (first, rest)
 
--- a text has at most one result
+-- decoding a text to bits has at most one result
 pub BitAnswers-same : (text : List ℕ) (a b : Result (List Bool) Error) → BitAnswers text a → BitAnswers text b → a ≡ b
 BitAnswers-same text (Ok a) (Ok b) of_a of_b =
     let len : length a ≡ length b = of_a.six_a_digit ∙ sym of_b.six_a_digit in
@@ -105,7 +105,7 @@ BitAnswers-same text (Err e) (Err f) of_a of_b =
 
 -- ---- the digits of bits
 
--- a digit is appended to a text
+-- appending a byte `c` to `xs` does not change the values of the digits of `xs`
 value_at-front : (xs : List ℕ) (c k : ℕ) → k < length xs → value_at (xs ++ c ∷ []) k ≡ value_at xs k
 value_at-front [] c k h = absurd (omega arith)
 value_at-front (x ∷ xs) c zero h = refl
@@ -157,7 +157,7 @@ value_of_bits bits a b c d e f la lb lc ld le lf ea eb ec ed ee ef (suc (suc (su
     let same : (a + 2 * b + 4 * c + 8 * d + 16 * e + 32 * f) / 32 % 2 ≡ f = omega arith in ap (λ v. v == 1) same ∙ ef
 value_of_bits bits a b c d e f la lb lc ld le lf ea eb ec ed ee ef (suc (suc (suc (suc (suc (suc k)))))) h = absurd (omega arith)
 
--- digits whose bits are the first ones of a list, and false past its end
+-- each byte of `part` is a digit; bit `j` of `part` is bit `j` of `bits`, or false past the end of `bits`
 pub record Begins (bits : List Bool) (part : List ℕ) : Type 0 where
   pub digits : first_non_digit part ≡ None
   pub each : (j : ℕ) → j < 6 * length part → bit_of part j ≡ slice_index_or bits j false

@@ -21,7 +21,7 @@ pub glyph-ascii : (v : ℕ) → v < 64 → glyph v < 128
 unfolding glyph
 glyph-ascii v h = grind (arith, nat_tests)
 
--- the tables of values and of digits, compared entry by entry with their definitions
+-- the table `VALUES` agrees with `digit_value` (64 stands for `None`), and the table `GLYPHS` agrees with `glyph`
 holds_value : ℕ → Bool
 holds_value c = slice_index VALUES c == unwrap_or (digit_value c) 64
 

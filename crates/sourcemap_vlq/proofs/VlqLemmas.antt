@@ -1,5 +1,5 @@
--- Groups of digits, digit by digit. A text has at most one result of decoding, and a list of numbers at most
--- one of encoding.
+-- Numbers as groups of digits, which are read and written one digit at a time. Decoding a text has at most one result.
+-- Encoding a list of numbers has at most one result.
 use Rattle.std.proofs.Common.{◌≡◌, ◌≢◌, ℕ, zero, suc, ◌+◌, ◌*◌, ◌/◌, ◌%◌, ◌^◌, ◌<◌, ◌≤◌, ◌==◌, ◌&&◌, ◌||◌, Bool, true, false, nat_lt, nat_le, List, [], ◌∷◌, ◌++◌, length, take, drop, get_or, Option, Some, None, unwrap_or, refl, sym, ◌∙◌, ap, subst, arith, inl, inr, ◌⊎◌, if◌then◌else◌, Result, Ok, Err, ℤ, pos, negsuc, unsigned_abs, Any}
 use Rattle.std.specs.List.{AllByRecursion}
 use lib.IntN.{neg_ℤ}
@@ -57,7 +57,7 @@ IsChain-push [] c all last = last
 IsChain-push (x ∷ []) c all last = (all.0, last)
 IsChain-push (x ∷ y ∷ xs) c all last = (all.0, IsChain-push (y ∷ xs) c all.1 last)
 
--- the decoder's test for overflow, made before a digit is added: the number fits exactly if it succeeds
+-- the decoder's overflow test for a digit `c` after `part` succeeds if and only if `part` with `c` fits one number
 pub fits_in_number-small : (part : List ℕ) (c n : ℕ) → IsUnfinished part → n ≡ length part
     → (nat_lt n 12 || ((n == 12) && nat_lt (data_of c) 8)) ≡ true → FitsOneNumber (part ++ c ∷ [])
 fits_in_number-small part c n unfinished e within =
@@ -186,7 +186,8 @@ FitsOneNumber-more text n v h unfinished e within =
     let within' : (nat_lt n 12 || ((n == 12) && nat_lt (data_of c) 8)) ≡ true = rw bits within in
     rw (take_more text n 0 h) (fits_in_number-small (take n text) c n unfinished len within')
 
--- the running sum after a digit that does not overflow
+-- if `raw` is the raw value of the first `n` digits, and digit `n` passes the overflow test, the sum with digit `n` is
+-- the raw value of the first `n + 1` digits and is below 2 ^ 63
 pub sum_of-more : (text : List ℕ) (n v raw bits : ℕ) → n < length text → IsUnfinished (take n text)
     → digit_value (get_or text n 0) ≡ Some v
     → (nat_lt n 12 || ((n == 12) && nat_lt (v % 32) 8)) ≡ true
@@ -211,7 +212,7 @@ Reads-push front group (m ∷ ms) n reads is_group =
     let e : front ++ group ≡ reads.0 ++ (reads.1 ++ group) = ap (λ xs. xs ++ group) reads.3 ∙ append_assoc reads.0 reads.1 group in
     (reads.0, reads.1 ++ group, reads.2, e, Reads-push reads.1 group ms n reads.4 is_group)
 
--- the numbers read so far, and one more
+-- if `front` reads as `numbers` and `n` follows, `front` with the digits of `n` reads as `numbers` and then `n`
 pub IsSound-more : (text rest tail : List ℕ) (front : List ℕ) (numbers : List ℤ) (n : ℤ)
     → Reads front numbers → text ≡ front ++ rest → (b : BeginsWith rest n tail)
     → Reads (front ++ b.group) (numbers ++ n ∷ []) × (text ≡ (front ++ b.group) ++ tail)
@@ -220,7 +221,7 @@ IsSound-more text rest tail front numbers n reads split b = (
   split ∙ (ap (λ xs. front ++ xs) b.split ∙ sym (append_assoc front b.group tail)),
 )
 
--- ---- a text has at most one result: that of a decoder from the left
+-- ---- decoding a text has at most one result: the result of `answer_of`, which reads from left to right
 
 is_small : List ℕ → Bool
 is_small digits = nat_le (length digits) 13 && nat_lt (raw_of digits) (2 ^ 63)
@@ -243,8 +244,9 @@ with_numbers : List ℤ → Result (List ℤ) Error → Result (List ℤ) Error
 with_numbers [] r = r
 with_numbers (n ∷ ns) r = with_number n (with_numbers ns r)
 
--- the result from a byte on: `more` after a continuation bit, the number and then `next` after its last
--- digit, or an error
+-- the result from the byte `c` on, where `whole` is the current group of digits and ends with `c`: an error if `c` is
+-- not a digit or `whole` does not fit one number, else `more` if `c` has the continuation bit, else the number of
+-- `whole` and then `next`
 after_digit : List ℕ → ℕ → Option ℕ → Result (List ℤ) Error → Result (List ℤ) Error → Result (List ℤ) Error
 after_digit whole c None more next = Err (InvalidBase64 c)
 after_digit whole c (Some v) more next =
@@ -266,7 +268,7 @@ not_none (Err e) = Err e
 answer_of : List ℕ → Result (List ℤ) Error
 answer_of text = not_none (scan_from [] text)
 
--- one digit with the continuation bit
+-- the scan adds a digit `c` with the continuation bit to `part`, if `part` with `c` fits one number
 scan-continues : (part cs : List ℕ) (c : ℕ) → HasContinuation c → FitsOneNumber (part ++ c ∷ []) → scan_from part (c ∷ cs) ≡ scan_from (part ++ c ∷ []) cs
 unfolding scan_from after_digit
 scan-continues part cs c (v, e, goes) small =
@@ -390,7 +392,7 @@ answer-same text (Ok numbers) due = same-numbers text numbers due.0 due.1
 answer-same text (Err VlqNoValues) due = sym (ap answer_of due)
 answer-same text (Err e) due = same-error text due.0 e due.1 due.2 due.3
 
--- a text has at most one result
+-- decoding a text has at most one result
 pub SegmentAnswers-same : (text : List ℕ) (a b : Result (List ℤ) Error) → SegmentAnswers text a → SegmentAnswers text b → a ≡ b
 SegmentAnswers-same text a b of_a of_b = answer-same text a of_a ∙ sym (answer-same text b of_b)
 
@@ -411,7 +413,7 @@ BeginsWith-shorter text rest n b =
 
 -- ---- the shortest digits of a number
 
--- the raw value of a number, whose lowest bit is its sign
+-- the raw value of a number: twice the absolute value, plus 1 if the number is negative
 unfoldable pub total_of : ℤ → ℕ
 total_of (pos k) = 2 * k
 total_of (negsuc k) = 2 * suc k + 1
@@ -433,7 +435,7 @@ unfolding total_of
 number_of-total (pos k) = number_of-even k
 number_of-total (negsuc k) = number_of-odd (suc k)
 
--- each raw value except 1 is that of its number; 1 is a zero with a sign
+-- `total_of` maps the number of `r` to `r`, unless `r` is 1; the raw value 1 is the number 0 with the sign bit set
 total_of-number : (r : ℕ) → (r ≡ 1) ⊎ (total_of (number_of r) ≡ r)
 unfolding total_of
 total_of-number r =
@@ -649,7 +651,8 @@ no_shorter k m n other g e heavy =
           ]
     ]
 
--- if what is left of the raw value is below 32, it is the last digit, and the digits are the shortest
+-- if the rest `left` of the raw value after `part` is below 32, the digit of `left` ends the shortest digits of `n`;
+-- `n` must not be too large, and `left` must not be 0 if `part` has digits
 pub IsShortest-last : (part : List ℕ) (n : ℤ) (left : ℕ) → AllByRecursion HasContinuation part → left < 32 → unsigned_abs n < 2 ^ 62
     → total_of n ≡ raw_of part + 2 ^ (5 * length part) * left → (0 < length part → 0 < left)
     → IsShortest (part ++ glyph left ∷ []) n
@@ -672,7 +675,7 @@ IsShortest-last part n left all low near e some =
       unsigned_zero = λ one. total_of-not_one n (sym raw ∙ one);
     }
 
--- one of the numbers is too large
+-- if number `k` is too large, encoding `numbers` may return the error `VlqOverflow`
 pub SpellingAnswers-refused : (numbers : List ℤ) (k : ℕ) (e : Error) → k < length numbers
     → UnlessMemory e ((e ≡ VlqOverflow) × IsTooLarge (get_or numbers k (pos 0))) → UnlessMemory e (SpellingAnswers numbers (Err e))
 SpellingAnswers-refused numbers k e lt refused =
@@ -681,7 +684,7 @@ SpellingAnswers-refused numbers k e lt refused =
     let P : Error → Type 0 = λ x. SpellingAnswers numbers (Err x) in
     subst P (sym w.0) (k, n, lt, get_or_default numbers k n (pos 0) lt, w.1)) refused
 
--- a number of one digit
+-- if the first digit of `text` has no continuation bit, this digit alone is the first number of `text`
 pub BeginsWith-first : (text : List ℕ) (v : ℕ) → 0 < length text → digit_value (get_or text 0 0) ≡ Some v → v < 32
     → BeginsWith text (number_of v) (drop 1 text)
 BeginsWith-first text v h e last =
@@ -690,7 +693,7 @@ BeginsWith-first text v h e last =
     let begins : BeginsWith text (number_of (raw_of (take 1 text))) (drop 1 text) = BeginsWith-last text 0 v h IsUnfinished-nil e last refl in
     rw raw begins
 
--- a number of two digits
+-- if the first digit of `text` has the continuation bit and the second has not, the first number is these two digits
 pub BeginsWith-second : (text : List ℕ) (v w : ℕ) → 1 < length text → digit_value (get_or text 0 0) ≡ Some v → 32 ≤ v
     → digit_value (get_or text 1 0) ≡ Some w → w < 32 → BeginsWith text (number_of (v % 32 + 32 * w)) (drop 2 text)
 BeginsWith-second text v w h e goes f last =

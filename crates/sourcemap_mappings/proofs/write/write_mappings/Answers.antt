@@ -18,7 +18,7 @@ loop-token-init c = record {
   ascii = IsAscii-nil;
 }
 
--- the invariant, for a text and a buffer; `carried` replaces what it is about by equal values
+-- the loop invariant, for a text and a buffer; `carried` replaces some arguments of `Gathered` by equal values
 record Gathered (names : ℕ) (done : List RawToken) (previous : Option RawToken) (against : RawToken) (text buffer : List ℕ) (at : ℕ) : Type 0 where
   writing : Writing names done previous against (text ++ take at buffer)
   within : at ≤ 1024
