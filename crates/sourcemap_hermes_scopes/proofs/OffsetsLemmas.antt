@@ -7,7 +7,7 @@ use Rattle.sourcemap_hermes_scopes.specs.declared.offsets.HermesScopeOffset.{Her
 use Rattle.sourcemap_hermes_scopes.specs.Offsets.{segment_offset, line_offsets, offsets_of_lines, SegmentsRead, ScopeLinesRead}
 use Rattle.sourcemap_hermes_scopes.specs.OffsetsSteps.{IsLastOffset, AddsOffsets}
 
--- Some item of a list.
+-- Some item of `x ∷ xs` has a property: `x` itself, or an item of `xs`.
 
 pub Any-here : {A : Type 0} (P : A → Type 0) (x : A) (xs : List A) → P x → Any P (x ∷ xs)
 Any-here P x xs p = (0, x, (omega arith), refl, p)
@@ -75,7 +75,7 @@ PartsSoFar-none before all old last is = record {
   is_last = is;
 }
 
--- one more part is decoded
+-- `PartsSoFar` stays true: after `part` is decoded (`AddsOffsets`), only `parts` are left
 pub PartsSoFar-more : (before : List Segment) (all : List (List ℕ)) (part : List ℕ) (parts : List (List ℕ)) (old middle new : List HermesScopeOffset) (last next : HermesScopeOffset)
     → (so_far : PartsSoFar before all (part ∷ parts) old middle last) → AddsOffsets before so_far.here (part ∷ []) middle new next
     → PartsSoFar before all parts old new next
@@ -94,7 +94,7 @@ PartsSoFar-more before all part parts old middle new last next so_far adds =
       is_last = adds.is_last;
     }
 
--- all parts are decoded
+-- if no part of the line is left to decode, `AddsOffsets` holds for all parts of the line
 pub AddsOffsets-all : (before : List Segment) (all : List (List ℕ)) (old new : List HermesScopeOffset) (last : HermesScopeOffset)
     → PartsSoFar before all [] old new last → AddsOffsets before [] all old new last
 AddsOffsets-all before all old new last so_far = record {
@@ -106,7 +106,8 @@ AddsOffsets-all before all old new last so_far = record {
 
 -- Lines.
 
--- what holds when, of the lines `all`, those before the suffix `left` are decoded
+-- what holds while lines are decoded. `all` are all lines, and `left` are the lines that are not decoded yet. `before`
+-- are the segments of the decoded lines, and `offsets` are the offsets of these segments
 pub record LinesSoFar (all left : List (List ℕ)) (offsets : List HermesScopeOffset) (last : HermesScopeOffset) : Type 0 where
   pub before : List Segment
   pub decoded_lines : List (List Segment)
@@ -128,7 +129,7 @@ turned before here last is =
     ap (λ (o : HermesScopeOffset). record o { column = 0 }) is
     ∙ ap (λ all. segment_offset [] all) (sym (append-nil (before ++ here)))
 
--- one more line is decoded
+-- `LinesSoFar` stays true: after `line` is decoded (`AddsOffsets`), only the lines `left` remain
 pub LinesSoFar-more : (all : List (List ℕ)) (line : List ℕ) (left : List (List ℕ)) (old new : List HermesScopeOffset) (last next : HermesScopeOffset)
     → (so_far : LinesSoFar all (line ∷ left) old last) → AddsOffsets so_far.before [] (parts_of line) old new next
     → LinesSoFar all left new next
@@ -149,7 +150,7 @@ LinesSoFar-more all line left old new last next so_far adds =
       is_last = turned before ss next adds.is_last;
     }
 
--- all lines are decoded
+-- if no line is left to decode, all lines decode to `decoded_lines`, and `offsets` are the offsets of `decoded_lines`
 pub StandsFor-all : (all : List (List ℕ)) (offsets : List HermesScopeOffset) (last : HermesScopeOffset) → LinesSoFar all [] offsets last
     → (decoded_lines : List (List Segment)) × ScopeLinesRead all decoded_lines × (offsets ≡ offsets_of_lines [] decoded_lines)
 StandsFor-all all offsets last so_far = (

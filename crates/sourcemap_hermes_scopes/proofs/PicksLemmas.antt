@@ -35,7 +35,7 @@ pub moved-length : {X : Type 0} (items : List (Option X)) (ids : List ℕ) → l
 moved-length items [] = refl
 moved-length items (id ∷ ids) = ap suc (moved-length (slice_set items id None) ids)
 
--- A function applied to each item, before or after the items are moved out.
+-- A function can be applied to each item before or after the items are moved out, with the same result.
 
 item_at-map : {X Y : Type 0} (f : X → Y) (xs : List (Option X)) (id : ℕ) → item_at (map (option_map f) xs) id ≡ option_map f (item_at xs id)
 item_at-map f [] id = refl

@@ -21,7 +21,8 @@ map-last : {A B : Type 0} (f : A → B) (xs : List A) (x : A) → map f (xs ++ x
 map-last f [] x = refl
 map-last f (y ∷ xs) x = ap (λ rest. f y ∷ rest) (map-last f xs x)
 
--- one more item is taken
+-- if `R` relates, item by item, the first `i` items of `map f xs` to `ys`, and the next item to `y`, then `R` relates
+-- the first `i + 1` items to `ys` with `y` appended
 pub AllZip-more : {A B C : Type 0} (R : B → C → Type 0) (f : A → B) (xs : List A) (i : ℕ) (d : A) (ys zs : List C) (y : C) → i < length xs
     → AllZip R (map f (take i xs)) ys → R (f (get_or xs i d)) y → zs ≡ ys ++ y ∷ [] → AllZip R (map f (take (i + 1) xs)) zs
 AllZip-more R f xs i d ys zs y within all one is =
@@ -30,7 +31,7 @@ AllZip-more R f xs i d ys zs y within all one is =
 
 -- Scopes as they are stored.
 
--- the test of equality on scopes as they are stored
+-- whether two stored scopes have the same names and the same mappings
 unfoldable pub stored_same : FacebookScopeMapping → FacebookScopeMapping → Bool
 stored_same x y =
     pointwise (λ a b. same_text (string_bytes a) (string_bytes b)) x.names.items y.names.items

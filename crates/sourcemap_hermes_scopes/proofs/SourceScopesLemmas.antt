@@ -1,4 +1,5 @@
--- Scopes of sources: function maps are determined, entries and function maps are selected together, equality is decided.
+-- Scopes of sources. Entries determine the function maps. Entries and function maps selected by the same ids still
+-- belong together. The equality tests decide equality.
 use Rattle.std.proofs.Common.{◌≡◌, ◌≤◌, ℕ, zero, suc, List, [], ◌∷◌, length, map, nat_eq, slice_set, Option, Some, None, Vec, sym, ap, ap₂, ◌∙◌, subst, refl}
 use Rattle.std.specs.Bool.{Decides}
 use Rattle.std.specs.Cmp.Lexicographic.{pointwise_decides}
@@ -61,7 +62,7 @@ all_moved : (entries : List ScopeEntry) (maps : List (Option (List HermesScopeOf
 all_moved entries maps [] all = tt
 all_moved entries maps (id ∷ ids) all = (map_at entries maps id all, all_moved (slice_set entries id None) (slice_set maps id None) ids (left_over entries maps id all))
 
--- what is stored after the items were taken
+-- what holds for `kept` and `kept_maps`, the entries and the function maps moved out by the same `ids`
 module _ (entries kept : List (Option (Vec FacebookScopeMapping Global))) (maps kept_maps : List (Option (List HermesScopeOffset))) (ids : List ℕ)
     (is_kept : kept ≡ moved_items entries ids) (are_kept : kept_maps ≡ moved_items maps ids) where
   seen : map entry_in kept ≡ moved_items (map entry_in entries) ids

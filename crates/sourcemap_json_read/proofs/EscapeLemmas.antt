@@ -27,7 +27,7 @@ escape_bytes x c xs is =
       goes_on = refl;
     }
 
--- the byte after a backslash that makes an escape is within the text
+-- if the byte at `at + 1` can end a two-byte escape, `at + 1` is within the text
 pub escape_within : (text : List ℕ) (at c : ℕ) → short_escape (get_or text (at + 1) 32) ≡ Some c → at + 1 < length text
 unfolding short_escape
 escape_within text at c is = lt_of_not-le (λ past. refuses (get_or text (at + 1) 32) 32 c refl is (get_or_past text (at + 1) 32 past))
@@ -101,7 +101,7 @@ pair_bytes a b c d high e f g h low xs first second is_high is_low =
       goes_on = unit_goes_on a b c d high after first ∙ unit_goes_on e f g h low xs second;
     }
 
--- ---- at an index of a text
+-- ---- `\u` escapes at an index of a text
 
 pub unit_within : (text : List ℕ) (at unit : ℕ) → SpellsUnit text at unit → at + 5 < length text
 unit_within text at unit spells =

@@ -1,4 +1,4 @@
--- The first byte from an index on.
+-- The byte at an index of a text, or a space at the end of the text.
 use Rattle.std.proofs.Common.{◌≡◌, ◌≢◌, ◌<◌, ◌+◌, ℕ, List, drop, get_or, length, add-zero, lt_of_not-le, sym, ap, ◌∙◌, arith}
 use Rattle.std.proofs.lemmas.List.{get_or-drop, get_or_default, drop_all}
 use Rattle.json.specs.Word.{head}
@@ -11,7 +11,7 @@ head_inside text at solid = lt_of_not-le (λ past. solid (ap head (drop_all at t
 pub head_is : (text : List ℕ) (at : ℕ) → at < length text → get_or text at 0 ≡ head (drop at text)
 head_is text at inside = get_or_default text at 0 32 inside ∙ ap (λ i. get_or text i 32) (sym (add-zero at)) ∙ sym (get_or-drop at text 0 32)
 
--- an ASCII byte keeps what follows UTF-8
+-- if the text after an ASCII byte other than a space is UTF-8, so is the text from this byte on
 pub head_passed : (text : List ℕ) (at : ℕ) → head (drop at text) ≢ 32 → head (drop at text) < 128 → IsUtf8UpTo text at (at + 1)
 head_passed text at solid small =
     let inside = head_inside text at solid in

@@ -1,4 +1,4 @@
--- What the grammar gives, by the first byte of the text.
+-- The lexemes and the tokens of a text, by the first byte of the text.
 use Rattle.std.proofs.Common.{◌≡◌, ◌≢◌, ◌+◌, ◌<◌, ℕ, Bool, true, false, cond, ◌==◌, List, [], ◌∷◌, ◌++◌, Some, ⊎_elim, ◌⊎◌, inl, inr, drop, refl, sym, ap, ◌∙◌, arith}
 use Rattle.std.proofs.lemmas.List.{drop-drop}
 use Rattle.std.proofs.lemmas.Bool.Decides.{nat_tests}

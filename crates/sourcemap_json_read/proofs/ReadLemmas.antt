@@ -47,7 +47,8 @@ byte_read old new text at inside plain_byte put =
 
 -- ---- escapes
 
--- a step that appends whole characters; if the whole is UTF-8, so are the parts before and after them
+-- if the bytes from `at` to `next` decode to `added`, and these bytes and `added` are whole characters, then appending
+-- `added` is a step of decoding
 pub added_read : (old new added text : List ℕ) (at next : ℕ) → IsUtf8 added → 0 < length added → IsDecodedBetween (drop at text) added (drop next text) → IsUtf8UpTo text at next → new ≡ old ++ added
     → IsReadUpTo old text at new next
 added_read old new added text at next added_is some decodes passed put =
@@ -69,23 +70,23 @@ escape_read old new text at c inside spells put =
 
 -- ---- the buffer
 
--- the first bytes of a block that was stored
+-- storing a block at `to` keeps the first `to` bytes of the buffer; the next `n` bytes are the first `n` of the block
 pub first_stored : (a b xs : List ℕ) (to n most : ℕ) → to ≤ length a → n ≤ most → Placed a b to (take most xs) (to + most) → take (to + n) b ≡ take to a ++ take n xs
 first_stored a b xs to n most within few placed =
     sym (take-take (to + n) (to + most) b (omega arith)) ∙ ap (λ k. take (k + n) (take (to + most) b)) (sym (length-take-le to a within))
     ∙ cut_back (take to a) xs (take (to + most) b) n most few placed.bytes
 
--- a block from the slice of the text that starts at an index is a block of the text
+-- if a stored block is the first `n` bytes of the slice `text[at..]`, the block is `n` bytes of `text` from `at` on
 pub rest_stored : (a b text : List ℕ) (at to n : ℕ) → Placed a b to (take n (take (length text - at) (drop at text))) (to + n) → Placed a b to (take n (drop at text)) (to + n)
 rest_stored a b text at to n placed = subst (λ xs. Placed a b to (take n xs) (to + n)) (take_rest text at) placed
 
--- the first bytes of a buffer whose start was overwritten
+-- if `filled` overwrites the start of a buffer of `len` bytes, the buffer begins with the first `n` bytes of `filled`
 pub front_kept : (n len : ℕ) (filled old : List ℕ) → n ≤ length filled → n ≤ len → take n (take len (filled ++ drop (length filled) old)) ≡ take n filled
 front_kept n len filled old within few = take-take n len (filled ++ drop (length filled) old) few ∙ take-append-le n filled (drop (length filled) old) within
 
 -- ---- the end of a string
 
--- a quote after what was decoded from the start of the string ends the string
+-- if the bytes of a string from `start` to `stop` decode to `decoded`, a quote at `stop` ends the string
 pub string_ends : (text first front decoded : List ℕ) (start at stop : ℕ) → IsReadUpTo [] text start first at → front ≡ first → IsReadUpTo front text at decoded stop → get_or text stop 32 ≡ 34
     → (content plain (drop start text) ≡ Some decoded) × (lex in_string (drop start text) ≡ lex between (drop (stop + 1) text)) × (IsUtf8 decoded → IsUtf8UpTo text start (stop + 1))
 string_ends text first front decoded start at stop before same last quoted =

@@ -55,7 +55,7 @@ IsDecodedBetween-run zero xs few = IsDecodedBetween-nothing xs
 IsDecodedBetween-run (suc n) [] few = absurd (omega arith)
 IsDecodedBetween-run (suc n) (x ∷ xs) few = first_byte (is_plain x) x n xs refl few (IsDecodedBetween-run n xs)
 
--- ---- at an index of a text
+-- ---- runs and quotes at an index of a text
 
 plain_if_bare : (x : ℕ) → is_bare x ≡ true → is_plain x ≡ true
 plain_if_bare x bare = grind (arith, nat_tests)
@@ -65,7 +65,6 @@ no_longer false p m n both rest = omega arith
 no_longer true true m n both rest = omega (arith, rest)
 no_longer true false m n both rest = absurd (false≢true (both refl))
 
--- a run of plain ASCII bytes is no longer than the run of plain bytes there
 bare_within : (xs : List ℕ) → prefix_len is_bare xs ≤ prefix_len is_plain xs
 bare_within [] = omega arith
 bare_within (x ∷ xs) = no_longer (is_bare x) (is_plain x) (prefix_len is_bare xs) (prefix_len is_plain xs) (plain_if_bare x) (bare_within xs)

@@ -23,7 +23,7 @@ utf8_cons x xs small rest = IsUtf8-append (x ∷ []) xs (utf8_one x small) rest
 
 -- ---- where a text may be cut
 
--- around whole characters
+-- if a UTF-8 text contains `added`, which is UTF-8 and not empty, the parts before and after `added` are UTF-8
 pub cut_around : (front added rest : List ℕ) → IsUtf8 added → 0 < length added → IsUtf8 (front ++ (added ++ rest)) → IsUtf8 front × IsUtf8 rest
 cut_around front [] rest added_is some utf8 = absurd (omega (arith, some))
 cut_around front (x ∷ xs) rest added_is some utf8 =
@@ -41,7 +41,7 @@ cut_around front (x ∷ xs) rest added_is some utf8 =
       subst IsUtf8 (drop_at (x ∷ xs) rest m refl) (IsUtf8-drop ((x ∷ xs) ++ rest) m after second),
     )
 
--- ---- up to an index
+-- ---- UTF-8 up to an index
 
 pub utf8_on : (text : List ℕ) (i j k : ℕ) → IsUtf8UpTo text i j → IsUtf8UpTo text j k → IsUtf8UpTo text i k
 utf8_on text i j k first second = λ rest. first (second rest)

@@ -1,4 +1,4 @@
--- What tokens begin with, one step of the reader at a time.
+-- Lists of tokens that begin with a value, with items or with members: a lemma for each step of the reader.
 use Rattle.std.proofs.Common.{◌≡◌, ℕ, ◌-◌, ◌<◌, ◌≤◌, List, [], ◌∷◌, ◌++◌, length, Some, None, option_map, option_and_then, Vec, BTreeMap, String, Global, refl, sym, ap, ◌∙◌}
 use Rattle.json.specs.Token.{Token}
 use Rattle.json.specs.Json as json

@@ -12,7 +12,7 @@ use Rattle.json.proofs.Printed.Strings.{escape_to_stop, escape_at}
 use Rattle.sourcemap_json_read.specs.Runs.{is_plain, is_stop}
 use Rattle.sourcemap_json_write.specs.declared.quoting.TheConstants.{LETTERS}
 
--- the table has the letter of each control byte, and 0 for those that have none
+-- for each control byte, `LETTERS` has the letter of its short escape, or 0 if the byte has no short escape
 table_is : LETTERS ≡ map escape_letter (range_with_len 0 32)
 table_is = refl
 
@@ -37,7 +37,6 @@ stop_at text at end is inside =
     let stops = prefix_len_stops is_plain (drop at text) 0 (omega (arith, is, length-drop at text)) in
     not-false _ (sym (ap is_plain here) ∙ stops)
 
--- a part after another
 pub then : (a b c xs ys : List ℕ) → b ≡ a ++ xs → c ≡ b ++ ys → c ≡ a ++ (xs ++ ys)
 then a b c xs ys first second = second ∙ ap (λ l. l ++ ys) first ∙ append_assoc a xs ys
 

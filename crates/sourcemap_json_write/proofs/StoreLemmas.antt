@@ -4,8 +4,8 @@ use Rattle.json.specs.Filled.{Placed}
 use Rattle.json.proofs.Printed.Places.{Placed-then}
 use Rattle.sourcemap_json_read.proofs.ReadLemmas.{first_stored}
 
--- if a prefix of a text is stored, and then a block of the text that starts in the prefix or at its end, the
--- text up to the end of the block is stored
+-- store the first `front` bytes of `text` at index `to` of a buffer. Then store `n` bytes of `text`, from index `at ≤
+-- front` on, at index `to + at`. Now the first `at + n` bytes of `text` are stored at index `to`
 pub stored_on : {a b c : List ℕ} (text : List ℕ) (to front at n : ℕ) → to ≤ length a → at ≤ front → front ≤ length text
     → Placed a b to (take front text) (to + front) → Placed b c (to + at) (take n (drop at text)) (to + at + n) → Placed a c to (take (at + n) text) (to + (at + n))
 stored_on {a} {b} {c} text to front at n within few inside first next =

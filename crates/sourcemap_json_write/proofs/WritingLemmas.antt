@@ -66,8 +66,8 @@ plain_negative (float y) z is below fits = absurd (cc)
 
 -- ---- values
 
--- the members `rest` have UTF-8 texts, and the text of each number in them is a JSON number; read after the members
--- `before`, they give `all`
+-- the text of the members `rest` is UTF-8, and each number in `rest` is written as a JSON number. Reading `rest` back
+-- after the members `before` gives `all`
 abbrev pub IsPlainRest : Members → Members → Members → Type 0
 IsPlainRest before rest all = MembersHaveNumbers (members_outline rest) × (of_members (members_outline rest) before ≡ Some all) × ((later : Bool) → IsUtf8 (members_text later rest))
 

@@ -1,4 +1,5 @@
--- The parts of a record, or its error, by what its fields are read as.
+-- If `RecordParts` has the fields of a record (`ArePartsIn`), the map parts or the error read from `RecordParts` are a
+-- result for the record (`PartsAnswer`).
 use Rattle.std.proofs.Common.{◌≡◌, List, [], ◌∷◌, ◌++◌, reverse, length, map, option_map, Result, Ok, Err, refl, sym, ap, subst, ◌∙◌, inl, inr, vec_len, string_bytes, IfOk, ◌≤◌}
 use Rattle.std.proofs.lemmas.List.{length-map, append-nil}
 use Rattle.serde_json.specs.View.{view}
@@ -71,13 +72,12 @@ module _ (r : Fields) (parts : RecordParts) (are : ArePartsIn r parts) where
   pub refused-few_items : ¬ HaveFewItems parts.lists → PartsAnswer r (Err IncompatibleSourceMap)
   refused-few_items full = inl ((λ few_items. full (have_few_items_back few_items)), refl)
 
-  -- if no list is too long, an error of the mappings is that of the record
+  -- if no list is too long, an error of the mappings is also the error of the record
   pub refused-tokens : HaveFewItems parts.lists → (e : Error) → UnlessMemory e (TextsAnswer (Err e)) → UnlessMemory e (PartsAnswer r (Err e))
   refused-tokens few_items e h = UnlessMemory-weaker e (λ due. inr (have_few_items few_items, tokens_due (Err e) due)) h
 
-  -- if no list is too long and the texts of the mappings decode to `tokens`, the parts of the record are those that
-  -- `parts_read` makes of the metadata, the lists and `tokens`. So a result with these parts, or `OutOfMemory`, is an
-  -- answer for the record
+  -- let no list be too long, and let the texts of the mappings decode to `tokens`. If `result` is `OutOfMemory`, or the
+  -- parts that `parts_read` makes of the metadata, the lists and `tokens`, then `result` is an answer for the record
   pub read : HaveFewItems parts.lists → (tokens : List RawToken) → TextsAnswer (Ok tokens) → (result : Result Parts Error)
       → Gives parts_view result (Ok (parts_read parts.metadata parts.lists tokens)) → IsAnswer parts_view (PartsAnswer r) result
   read few_items tokens h (Ok p) gave =

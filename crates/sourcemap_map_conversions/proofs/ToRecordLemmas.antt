@@ -1,4 +1,4 @@
--- The texts of tokens in a record, and its contents.
+-- For writing a record: a missing text counts as empty, and `text_view` does not change whether contents exist.
 use Rattle.std.proofs.Common.{◌≡◌, ℕ, List, [], ◌∷◌, map, Option, Some, None, is_some, refl, String}
 use Rattle.std.specs.declared.alloc.Global.{Global}
 use Rattle.std.specs.Option.{option_map_or}

@@ -3,7 +3,6 @@ use Rattle.std.proofs.Common.{OnOk, Result, Ok, Err, ◌≡◌, ℕ, ◌+◌, su
 use Rattle.std.specs.Io.KnownBytes.{Appends, append_known}
 use Rattle.sourcemap_map_encode.specs.Buffered.{Grows}
 
--- appending nothing
 pub Appends-none : (known : Option (List ℕ)) → Appends known known []
 Appends-none None = tt
 Appends-none (Some xs) = sym (append-nil xs)
@@ -24,12 +23,12 @@ Grows-none held gathered = Appends-none (append_known held gathered)
 pub Grows-join : (h i j : Option (List ℕ)) (a b c s t : List ℕ) → Grows h a i b s → Grows i b j c t → Grows h a j c (s ++ t)
 Grows-join h i j a b c s t x y = Appends-join (append_known h a) (append_known i b) (append_known j c) s t x y
 
--- appending to the buffer
+-- if `text` is appended to the buffer `a` and the writer does not change, both together grow by `text`
 pub Grows-push : (held : Option (List ℕ)) (a text : List ℕ) → Grows held a held (a ++ text) text
 Grows-push None a text = tt
 Grows-push (Some xs) a text = sym (append_assoc xs a text)
 
--- writing directly while the buffer is empty
+-- if the writer grows by `text` and the buffer stays empty, both together grow by `text`
 pub Grows-written : (h i : Option (List ℕ)) (text : List ℕ) → Appends h i text → Grows h [] i [] text
 Grows-written None i text x = tt
 Grows-written (Some xs) None text x = absurd x
@@ -46,11 +45,11 @@ pub OnOk-then : {T E : Type 0} (result : Result T E) (P Q : Type 0) → (P → Q
 OnOk-then (Ok x) P Q f p = f p
 OnOk-then (Err e) P Q f p = tt
 
--- the end of a text is buffered, then the buffer is flushed
+-- if a write adds `text` and a flush then adds nothing, both steps together add `text`
 pub Grows-flushed : (h i j : Option (List ℕ)) (a b c text : List ℕ) → Grows h a i b text → Grows i b j c [] → Grows h a j c text
 Grows-flushed h i j a b c text x y = subst (λ (t : List ℕ). Grows h a j c t) (append-nil text) (Grows-join h i j a b c text [] x y)
 
--- appending to the buffer, by an equation for the new buffer
+-- as `Grows-push`, for a new buffer `b` that equals `a ++ text`
 pub Grows-into : (held : Option (List ℕ)) (a b text : List ℕ) → b ≡ a ++ text → Grows held a held b text
 Grows-into held a b text is = subst (λ (r : List ℕ). Grows held a held r text) (sym is) (Grows-push held a text)
 
@@ -58,7 +57,7 @@ pub OnOk-any : {T E : Type 0} (result : Result T E) (P : Type 0) → P → OnOk 
 OnOk-any (Ok x) P p = p
 OnOk-any (Err e) P p = tt
 
--- three consecutive texts, associated as in a list of parts
+-- as `Grows-join`, for three texts, which are joined as `parts_text` joins three entries
 pub Grows-three : (h i j k : Option (List ℕ)) (a b c d s t u : List ℕ) → Grows h a i b s → Grows i b j c t → Grows j c k d u → Grows h a k d (s ++ (t ++ (u ++ [])))
 Grows-three h i j k a b c d s t u x y z =
     subst (λ (r : List ℕ). Grows h a k d (s ++ (t ++ r))) (sym (append-nil u))

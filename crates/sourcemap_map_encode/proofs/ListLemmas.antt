@@ -9,7 +9,8 @@ use Rattle.serde_json.specs.Written.{comma_if, compact_text, items_text}
 use Rattle.sourcemap_map_encode.specs.Buffered.{Grows, GrowsBy}
 use Rattle.sourcemap_map_encode.proofs.BufferedLemmas.{Grows-join}
 
--- the text so far (from `[`) and that of the remaining items (up to `]`) are the text of the whole list
+-- `done` (the text from `[` on) followed by the text of the items `left` (up to `]`) is the text of the whole list
+-- `all`. If `later` is true, a comma precedes the first item of `left`
 abbrev pub IsListed : List Data → List Data → Bool → List ℕ → Type 0
 IsListed all left later done = done ++ items_text later (items_of left) ≡ compact_text (array (items_of all))
 

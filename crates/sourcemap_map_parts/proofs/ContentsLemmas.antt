@@ -32,7 +32,7 @@ filled (x ∷ xs) zero k i fits here = absurd (omega arith)
 filled (x ∷ xs) (suc n) k zero fits here = refl
 filled (x ∷ xs) (suc n) k (suc i) fits here = filled xs n k i (omega arith) (omega arith)
 
--- an item below the length is the old one, or `None` past the end of the old list
+-- for `i` below `n`, item `i` of `fitted n contents` is item `i` of `contents`, or `None` past the end of `contents`
 pub slice_get-fitted : (contents : List (Option (List ℕ))) (n i : ℕ) → i < n → slice_get (fitted n contents) i ≡ Some (option_and_then (λ x. x) (slice_get contents i))
 slice_get-fitted contents n i here = filled contents n n i (omega arith) here
 

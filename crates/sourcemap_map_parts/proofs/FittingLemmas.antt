@@ -21,7 +21,7 @@ pub one_more : {X : Type 0} (k : ℕ) (old now next : List (Option X)) → now �
     → next ≡ old ++ replicate (k + 1) None
 one_more k old now next e f = rw (f, e, append_assoc) (ap (λ rest. old ++ rest) (replicate-append-replicate k 1 None))
 
--- mapped items
+-- a function can be applied to each item before or after the list is cut or filled, with the same result
 
 map-replicate : {X Y : Type 0} (g : X → Y) (n : ℕ) → map (option_map g) (replicate n None) ≡ replicate n None
 map-replicate g zero = refl

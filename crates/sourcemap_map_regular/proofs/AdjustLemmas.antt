@@ -1,4 +1,4 @@
--- The meaning of an adjusted map, by the origins of its tokens.
+-- The meaning of an adjusted map: moving a position (`IsMovedAlone`) changes neither the origin nor the meaning.
 use Rattle.std.proofs.Common.{◌≡◌, refl, sym, ap, ◌∙◌, ℕ, ◌≤◌, List, length, Option, None, Some, option_map, Ok}
 use Rattle.sourcemap_tokens.specs.declared.tokens.RawToken.{RawToken}
 use Rattle.sourcemap_tokens.specs.Tokens.{AreInOrder, closest_token, destination, position_cmp}

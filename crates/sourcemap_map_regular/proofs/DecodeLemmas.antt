@@ -14,7 +14,7 @@ use Rattle.sourcemap_map_regular.specs.Map.{MapValue, IsWellFormed}
 use Rattle.sourcemap_map_regular.specs.MapStored.{map_in}
 use Rattle.sourcemap_map_regular.specs.Decode.{RecordDecodes, map_of, is_regular, RegularDecodes}
 
--- the result of decoding is determined
+-- the record `r` determines the result of decoding `r`
 pub RecordDecodes-same : (r : Fields) (a b : Result MapValue Error) → RecordDecodes r a → RecordDecodes r b → a ≡ b
 RecordDecodes-same r (Ok m) (Ok n) h k =
     let same = TokensAnswer-same r (Ok m.tokens) (Ok n.tokens) h.1 k.1 in
@@ -39,7 +39,7 @@ decoded-well parts m is within =
     let names : vec_len parts.names ≡ length (parts_view parts).names = rw length-map parts.names.ok.0 in
     subst IsWellFormed (sym is) (subst (λ n. AllWithin (length parts.sources.texts) n parts.tokens) names within)
 
--- The result of decoding as a regular map is determined.
+-- A record determines the result of decoding the record as a regular map.
 
 regular_once : (t : Tree) (regular : Bool) (a b : Result MapValue Error)
     → MatchBool regular (RecordDecodes (flat t) a) (a ≡ Err IncompatibleSourceMap)

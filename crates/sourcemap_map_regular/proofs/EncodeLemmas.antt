@@ -96,7 +96,7 @@ read_contents contents i =
 few_read : (contents : List (Option (List ℕ))) → length (list_or_empty (if list_any is_some contents then Some contents else None)) ≤ length contents
 few_read contents = elim (list_any is_some contents) as (λ b. length (list_or_empty (if b then Some contents else None)) ≤ length contents) [ true ↦ omega arith | false ↦ omega arith ]
 
--- replacing an id that names nothing by 4294967295 does not change the name
+-- replacing an `id` without a name by 4294967295 still gives no name, since there are at most 4294967295 names
 sound_name : (names : List (List ℕ)) (id : ℕ) → length names ≤ 4294967295 → slice_get names (if nat_lt id (length names) then id else 4294967295) ≡ slice_get names id
 sound_name names id few =
     elim (cases_Bool (nat_lt id (length names))) [
@@ -128,7 +128,8 @@ means_the_same back m few kept p =
     each None = refl
     each (Some t) = ap Some (one t)
 
--- the record of a map decodes to a map that restores it, if its mappings read as the reduced tokens
+-- let `m` have at most 4294967295 names and at most 4294967295 sources, and strictly sorted ignored ids. If `mappings`
+-- and `ranges` decode to the reduced tokens of `m`, decoding the record with these two texts restores `m`
 pub reads_back : (m : MapValue) (mappings : List ℕ) (ranges : Option (List ℕ))
     → length m.names ≤ 4294967295 → length m.sources ≤ 4294967295 → IsStrictlySortedBy nat_cmp m.ignored
     → MappingsAnswer mappings (list_or_empty ranges) (record { sources = length m.sources; names = length m.names }) (Ok (reduced (length m.names) m.tokens))
@@ -154,7 +155,8 @@ reads_back m mappings ranges few_names few_sources up answer =
     } in
     (back, (below_max, tokens, refl), (means_the_same back m few_names kept, kept))
 
--- The record of the parts of a map is the record of the map.
+-- A record written from the parts of a map encodes the map, if the map has at most 4294967295 names and at most
+-- 4294967295 sources, and its ignored ids are strictly sorted.
 
 pub answered : (m : MapValue) → length m.names ≤ 4294967295 → length m.sources ≤ 4294967295 → IsStrictlySortedBy nat_cmp m.ignored
     → (t : Tree) → PartsAnswer (parts_in m) (Ok t) → RecordAnswer m (Ok t)
@@ -170,7 +172,7 @@ pub answered-if : (m : MapValue) → length m.names ≤ 4294967295 → length m.
 answered-if m few_names few_sources up (Ok r) h = answered m few_names few_sources up (tree r) h
 answered-if m few_names few_sources up (Err e) h = h
 
--- if the map is well-formed, a record that the call returns decodes to a map that restores it
+-- if encoding a well-formed map `m` returns a record, decoding this record restores `m`
 pub back-if : (m : MapValue) (result : Result RawSourceMap Error) → IsAnswer tree (RecordAnswer m) result
     → IfOk result (λ r. IsWellFormed m → ReadsBack (RecordDecodes (flat (tree r))) (Restores m))
 back-if m (Ok r) h = h.2

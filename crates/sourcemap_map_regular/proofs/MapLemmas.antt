@@ -1,5 +1,4 @@
--- Tokens by index, the meaning of a position by its closest token, and maps that are well-formed
--- after a change.
+-- The tokens from an index on, the meaning that the closest token gives to a position, and well-formed maps.
 use Rattle.std.proofs.Common.{◌≡◌, ℕ, ◌+◌, ◌-◌, List, [], ◌∷◌, length, drop, Option, Some, None, option_map, Result, Ok, Err, IfOk, slice_get, slice_set, String, Vec, vec_len, refl, sym, ap, subst, arith, length-drop}
 use Rattle.std.proofs.lemmas.List.{length-map, length-set}
 use Rattle.std.specs.declared.alloc.Global.{Global}
@@ -49,7 +48,7 @@ tokens_from-none m i e = rw (drop-past m.tokens i (nothing m i (slice_get m.toke
 pub length-tokens_from : (m : MapValue) (i : ℕ) → length (tokens_from m i) ≡ length m.tokens - i
 length-tokens_from m i = rw (length-map, length-enumerate_from i (drop i m.tokens)) (length-drop i m.tokens)
 
--- Meaning by the closest token.
+-- The meaning that the closest token gives to a position.
 
 unfoldable pub of_item : MapValue → ℕ × ℕ → Option RawToken → Option Meaning
 of_item m p t = option_map (λ t. meaning_of m t (distance t p)) t
@@ -66,7 +65,7 @@ meaning-item m p = rw (← item-closest destination position_cmp m.tokens p) (th
 
 -- Well-formed maps.
 
--- a result is well-formed if the map that is due is
+-- if a call gives `m` (`Gives`) and `m` is well-formed, a map in `result` is well-formed
 pub given-well : (result : Result MapValue Error) (m : MapValue) → Gives (λ m. m) result (Ok m) → IsWellFormed m → IfOk result IsWellFormed
 given-well (Ok n) m gave well = let same : m ≡ n = cc in subst IsWellFormed same well
 given-well (Err e) m gave well = tt

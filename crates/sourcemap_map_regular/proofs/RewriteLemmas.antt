@@ -1,4 +1,4 @@
--- The parts of a rewritten map equal those of `rewritten`. If contents are to be loaded, the contents may differ.
+-- The parts of a rewritten map equal the parts of `rewritten`, but loading may change the contents.
 use Rattle.std.proofs.Common.{◌≡◌, refl, sym, ap, subst, ◌∙◌, ℕ, ◌≤◌, List, [], ◌∷◌, length, map, Bool, true, false, cond, MatchBool, Ok, Some, None, Option, arith, slice_get}
 use Rattle.std.proofs.lemmas.List.{length-map}
 use Rattle.sourcemap_tokens.specs.declared.tokens.RawToken.{RawToken}
@@ -89,7 +89,7 @@ module _ (m : MapValue) (options : RewriteOptions) where
         (p.contents.items ≡ cond options.with_source_contents (map (contents_for m) used) []))
         (sources_used m (removal_of options)) due.contents_are
 
-    -- the map of these parts is `rewritten`. If contents are to be loaded, the contents may differ
+    -- if `new` has the contents of `p` and otherwise equals `rewritten`, `new` is a possible result of `rewrite`
     pub is-rewritten : (new : MapValue) → new.contents ≡ p.contents.items → SameButContents new (rewritten (removal_of options) m)
         → Rewrites options m (Ok new)
     is-rewritten new same_contents others =

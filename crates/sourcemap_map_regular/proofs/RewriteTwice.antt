@@ -27,8 +27,8 @@ cut-nothing : (text : Option (List ℕ)) → option_map (without_prefix []) text
 cut-nothing None = refl
 cut-nothing (Some text) = refl
 
--- If only items that pass a test have results, each of them may have the first result instead of its own.
--- The first result stays the same.
+-- Let `own x` be `None` unless `x` passes `test`. Replace the result of each item that passes `test` by the first
+-- result of `own` in the list. Then the first result in the list is the same as before.
 module _ {X : Type 0} (test : X → Bool) (own : X → Option (List ℕ)) (none : (x : X) → test x ≡ false → own x ≡ None) where
   nothing : (xs : List X) → first_some {Y = List ℕ} (λ x. cond (test x) None None) xs ≡ None
   nothing [] = refl
@@ -90,8 +90,8 @@ module _ (m : MapValue) (few_sources : length m.sources ≤ 4294967295) (few_nam
       by_case None e = refl
       by_case (Some source) e = rw e refl
 
-  -- for a text that is its source, a token of the rewritten map has the contents that the old map has for
-  -- this text; for any other text, it has none
+  -- in the rewritten map, a token whose source is `text` has the contents that `m` has for `text`. Any other token has
+  -- no contents for `text`
   contents_now : (text : List ℕ) (t : RawToken) → IsKept m t → contents_if (rewritten no_removal m) text (renumbered no_removal m t) ≡ cond (is_from text t) (contents_for m text) None
   contents_now text t kept =
       ap (option_and_then (λ source. cond (bytes_eq source text) (contents_of (rewritten no_removal m) (renumbered no_removal m t).src_id) None)) (same_source t kept)

@@ -6,7 +6,7 @@ use Rattle.std.proofs.lemmas.Fmt.{IsAscii-decimal}
 use Rattle.std.proofs.lemmas.List.{drop-set, take_rest}
 use Rattle.std.proofs.lemmas.Str.{IsAscii-append, IsUtf8-from_ascii}
 
--- setting the byte right before a suffix of a buffer puts it in front of that suffix
+-- setting the byte at `start - 1` puts `byte` in front of the suffix that begins at `start`
 pub byte_before : (buffer ends : List ℕ) (start byte : ℕ) → 0 < start → start ≤ length buffer → drop start buffer ≡ ends
     → drop (start - 1) (set buffer (start - 1) byte) ≡ byte ∷ ends
 byte_before buffer ends start byte some within is =

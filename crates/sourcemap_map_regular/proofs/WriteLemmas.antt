@@ -1,5 +1,5 @@
--- A map has at most one record. Its text is shallow and has no fraction and no junk header, so it decodes if the record
--- does.
+-- A map has at most one record. This record has at most two levels and no fraction, and its text has no junk header. If
+-- the record is fine (`IsFine`) and decoding the record restores the map, decoding the text restores the map.
 use Rattle.std.proofs.Common.{◌≡◌, inl, ℕ, ◌+◌, length, ◌≤◌, List, [], ◌∷◌, map, Option, Some, None, option_map, Bool, true, false, ◌||◌, Ok, refl, sym, ap, ◌∙◌, subst, arith}
 use Rattle.std.specs.Ordering.{nat_cmp, match_ordering}
 use Rattle.std.specs.Cmp.Lexicographic.{slice_cmp}
@@ -84,7 +84,7 @@ module _ (n : ℕ) where
   low_put_all [] ms p q = q
   low_put_all (e ∷ es) ms p q = low_put_all es (put_if e.0 e.1 ms) p.1 (low_put_if e.0 e.1 ms p.0 q)
 
-  -- an object of such members has one level more
+  -- an object has at most one level more than its members
   pub low_object : (es : List (List ℕ × Option Data)) → EntriesAreLow n es → IsLow (n + 1) (object (put_all es no_members))
   low_object es all = let p = low_put_all es no_members all low_none in ((let a = p.0 in omega arith), p.1)
 
@@ -97,7 +97,7 @@ module _ (n : ℕ) where
         neither (has_float (write x)) (items_have_float (items_of (map write xs))) p.1 q.1,
       )
 
-  -- a list of such items has one level more
+  -- a list has at most one level more than its items
   pub low_list : {X : Type 0} (write : X → Data) → ((x : X) → IsLow n (write x)) → (xs : List X) → IsLow (n + 1) (written_list write xs)
   low_list write each xs = let p = low_items write each xs in ((let a = p.0 in omega arith), p.1)
 
@@ -124,7 +124,7 @@ module _ (n : ℕ) where
   pub low_number : (k : ℕ) → IsLow n (written_number k)
   low_number k = (omega arith, refl)
 
--- the members of the record of a map are texts, numbers, and lists of texts, numbers or nulls
+-- each member of the record of a map has at most one level, and no floating-point number
 pub entries_low : (m : MapValue) (mappings : List ℕ) (ranges : Option (List ℕ)) → EntriesAreLow 1 (entries (record_with m mappings ranges))
 entries_low m mappings ranges = (
   low_number 1 3,
@@ -189,7 +189,7 @@ record-low m t (mappings, ranges, of_mappings, of_ranges, is) = subst (λ t. IsL
 pub record-whole : (m : MapValue) (t : Tree) → IsRecordOf m t → has_float (written t) ≡ false
 record-whole m t (mappings, ranges, of_mappings, of_ranges, is) = ap (λ t. has_float (written t)) is ∙ no_fraction m mappings ranges
 
--- so the text is the compact JSON text
+-- a text that encodes `m` is compact, since the record of `m` has no fraction
 pub encoded-compact : (m : MapValue) (text : List ℕ) → IsEncoded (RecordAnswer m) text → IsCompactTextOf m text
 encoded-compact m text h = (h.0, h.1.0, h.2.compact (record-whole m h.0 h.1.0))
 
@@ -197,7 +197,7 @@ encoded-compact m text h = (h.0, h.1.0, h.2.compact (record-whole m h.0 h.1.0))
 pub no_header : (text : List ℕ) (ms : Members) → text ≡ compact_text (object ms) → after_header text ≡ Some text
 no_header text ms is = ap after_header is ∙ ap Some (sym is)
 
--- if the record of a map decodes to a map that restores it, so does the text of the record
+-- if the record is fine (`IsFine`) and decoding the record restores `m`, decoding the text of the record restores `m`
 text_back : (m : MapValue) (mappings : List ℕ) (ranges : Option (List ℕ)) (text : List ℕ)
     → IsFine (plain (record_with m mappings ranges)) → ReadsBack (RecordDecodes (record_with m mappings ranges)) (Restores m)
     → IsText (plain (record_with m mappings ranges)) text → ReadsBack (BytesHaveResult RegularDecodes text) (Restores m)
@@ -207,7 +207,7 @@ text_back m mappings ranges text fine back is =
     let holds : HoldJson text (written t) = (text, bare, is.reads_back (shallow m mappings ranges)) in
     (back.0, inl (written t, holds, value_of_record RegularDecodes (written t) t (record-back t fine.0 fine.1) (Ok back.0) back.1), back.2)
 
--- the text of a well-formed map decodes to a map that restores it
+-- decoding the text of a well-formed map `m` restores `m`
 pub encoded-back : (m : MapValue) (text : List ℕ) → IsEncoded (RecordAnswer m) text → IsWellFormed m
     → ReadsBack (BytesHaveResult RegularDecodes text) (Restores m)
 encoded-back m text h well = by h.0 h.1.0 h.1.1 (h.1.2 well) h.2
@@ -219,7 +219,7 @@ encoded-back m text h well = by h.0 h.1.0 h.1.1 (h.1.2 well) h.2
         (subst (λ (t : Tree). ReadsBack (RecordDecodes (flat t)) (Restores m)) r.4 back)
         (subst (λ (t : Tree). IsText t text) r.4 is)
 
--- if a text does so, so does each URL that holds it
+-- if decoding `text` restores `m`, decoding a data URL that holds `text` restores `m`
 pub url-back : (m : MapValue) (url text : List ℕ) → Holds url text → ReadsBack (BytesHaveResult RegularDecodes text) (Restores m)
     → ReadsBack (UrlHasResult RegularDecodes url) (Restores m)
 url-back m url text holds back = (back.0, inl (text, holds, back.1), back.2)

@@ -1,4 +1,4 @@
--- The first old number of a kept text is an index of it, and no two texts share one.
+-- The first old number of a text in use is an index of this text, and no two texts have the same first old number.
 use Rattle.std.proofs.Common.{◌≡◌, refl, sym, ap, subst, ◌∙◌, ℕ, suc, List, [], ◌∷◌, ◌++◌, append_assoc, map, fold, get_or, Bool, true, false, cond, Some, None, Option, arith, inl, inr, slice_get, is_some, option_map, unwrap_or, nat_eq}
 use Rattle.std.specs.List.{AllByRecursion, IsDistinct, find}
 use Rattle.std.specs.Option.{option_or, option_map_or}
@@ -30,8 +30,8 @@ named texts text id = by_case (slice_get texts id)
     by_case None e = cc
     by_case (Some other) e = ap Some (sym ((bytes_eq-Decides text other).0 e))
 
--- let `kept` contain the text at each index in `ids`, if there is one. A text that `kept` lacks is at none of these
--- indices
+-- let `kept` contain each text that `texts` has at an index in `ids`. If `kept` lacks `text`, no number in `ids` is an
+-- index of `text`
 none_names : (texts kept : List (List ℕ)) (text : List ℕ) → id_of text kept ≡ None → (ids : List ℕ)
     → AllByRecursion (λ id. IsListedIfAny kept (slice_get texts id)) ids → find (names_text texts text) ids ≡ None
 none_names texts kept text new [] all = refl
@@ -56,7 +56,7 @@ none_before texts ids text new =
     none_names texts (texts_in_use texts ids) text new ids
     (All-unmapped (IsListedIfAny (texts_in_use texts ids)) (slice_get texts) ids (used-kept (map (slice_get texts) ids)))
 
--- if no earlier number names the text of `id`, its first number is `id`
+-- if `id` is an index of `text`, and `before` contains no index of `text`, then `id` is the first number of `text`
 pub first_here : (texts : List (List ℕ)) (before later : List ℕ) (id : ℕ) (text : List ℕ)
     → id_of text (texts_in_use texts before) ≡ None → slice_get texts id ≡ Some text → first_of texts (before ++ id ∷ later) text ≡ id
 first_here texts before later id text new at =
@@ -66,7 +66,7 @@ first_here texts before later id text new at =
     let found : find test (id ∷ later) ≡ Some id = rw here refl in
     ap (λ o. unwrap_or o 4294967295) (find-append test before (id ∷ later) ∙ ap (λ o. option_or o (find test (id ∷ later))) none ∙ found)
 
--- Each kept text is named.
+-- For each text in use, the list of old numbers contains an index of the text.
 
 abbrev IsFound : List (List ℕ) → List ℕ → List ℕ → Type 0
 IsFound texts ids text = (id : ℕ) × (find (names_text texts text) ids ≡ Some id)
@@ -106,7 +106,7 @@ passes test (x ∷ ids) id e = by_case (test x) refl (passes test ids id) e
     by_case true here later e = let same : x ≡ id = cc in subst (λ y. test y ≡ true) same here
     by_case false here later e = later e
 
--- the first number of a kept text names it
+-- if `text` is in use, `first_of texts ids text` is an index of `text` in `texts`
 pub first_names : (texts : List (List ℕ)) (ids : List ℕ) (k : ℕ) (text : List ℕ)
     → slice_get (texts_in_use texts ids) k ≡ Some text → slice_get texts (first_of texts ids text) ≡ Some text
 first_names texts ids k text at =
@@ -135,7 +135,7 @@ distinct_by_index (x ∷ xs) apart =
 pub firsts-distinct : (texts : List (List ℕ)) (ids : List ℕ) → IsDistinct nat_eq (firsts_of texts ids)
 firsts-distinct texts ids = distinct_by_index (firsts_of texts ids) apart
   where
-    -- the first number at an index names the kept text at this index
+    -- if `firsts_of` has `x` at index `k`, then `x` is an index of the text that `texts_in_use` has at `k`
     text_at : (k x : ℕ) → slice_get (firsts_of texts ids) k ≡ Some x → (text : List ℕ) × (slice_get (texts_in_use texts ids) k ≡ Some text) × (slice_get texts x ≡ Some text)
     text_at k x e = by_case (slice_get (texts_in_use texts ids) k) refl
       where
@@ -155,9 +155,9 @@ firsts-distinct texts ids = distinct_by_index (firsts_of texts ids) apart
         let (other, at_other, named_other) = text_at j x f in
         one_index one other i j (sym named_one ∙ named_other) (distinct-texts_in_use texts ids one i at_one) (distinct-texts_in_use texts ids other j at_other)
 
--- Among the numbers that were seen, each text has the same first number as among those of the tokens.
+-- For each source in use, the seen numbers and the source ids of the tokens have the same first number.
 
--- a number that passes a test, as a singleton text
+-- the text whose only item is `id`, if `id` passes `test`; otherwise `None`
 abbrev passing : (ℕ → Bool) → ℕ → Option (List ℕ)
 passing test id = cond (test id) (Some (id ∷ [])) None
 

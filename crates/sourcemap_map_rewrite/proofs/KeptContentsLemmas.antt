@@ -123,7 +123,7 @@ module _ (numbers order : List ℕ) (old now kept now' kept' : List (Option (Lis
         by_case None e = empty-left e (rw e at put) (rw e at cleared)
         by_case (Some text) e = full-left text e (rw e at put) (rw e at cleared)
 
--- the item that was read at an index is `Some` exactly if there are contents at it
+-- `item_at xs i` is `Some` exactly if the item `o` that was read at index `i` of `xs` is `Some`
 pub item_at-existing : (xs : List (Option (List ℕ))) (i : ℕ) (o : Option (List ℕ)) → i < length xs → o ≡ get_or xs i o
     → is_some (item_at xs i) ≡ is_some o
 item_at-existing xs i o within read =

@@ -1,4 +1,4 @@
--- Texts are moved to their new numbers, one after another; and the first old number of each.
+-- The loop that moves texts to their new numbers, and the loop that finds the first old number of each text.
 use Rattle.std.proofs.Common.{◌≡◌, ◌≢◌, refl, sym, ap, subst, ◌∙◌, ℕ, ◌+◌, ◌<◌, List, [], ◌∷◌, ◌++◌, length, map, take, drop, get_or, Some, None, Option, arith, inl, inr, ◌⊎◌, slice_get, slice_set}
 use Rattle.std.proofs.lemmas.Bool.{cases_eq}
 use Rattle.std.proofs.lemmas.List.{take_more, drop_more, take-append-drop, length-map, map_push}
@@ -60,7 +60,7 @@ module _ (texts : List (List ℕ)) (n : NewNumbers) (is : AreNumbered texts n) (
           let within : k < length before = slice_get_within before k seen.text (slice_get-id_of seen.text before k e) in
           absurd (omega arith)
 
-  -- if `number` is not the next number, the text of `id` was moved
+  -- if `number` is not the length of `before`, `before` already contains the text of `id`
   old_text : number ≢ length before → (k : ℕ) × (id_of seen.text before ≡ Some k)
   old_text other = by_case (id_of seen.text before) refl
     where
@@ -108,7 +108,7 @@ module _ (texts : List (List ℕ)) (n : NewNumbers) (is : AreNumbered texts n) (
           by_case (inr apart) (inl h) = inl (ap (λ xs. slice_get xs x) e ∙ slice_get-set_other now id x [] apart ∙ h)
           by_case (inr apart) (inr (k, h)) = inr (k, still_moved text k h)
 
-    -- no text is moved
+    -- `number` is not the length of `moved`, so the step at index `i` moves no text
     module _ (other : number ≢ length moved) where
       old : (k : ℕ) × (id_of seen.text before ≡ Some k)
       unfolding before
@@ -125,14 +125,14 @@ module _ (texts : List (List ℕ)) (n : NewNumbers) (is : AreNumbered texts n) (
       unfolding before after
       left_or_moved-same = subst (AreLeftOrMoved texts now) (sym same) left_or_moved
 
-  -- The first old numbers.
+  -- The loop that finds the first old number of each text in use.
 
   module _ (ids : List ℕ) (so_far : ids ≡ map (first_of texts n.order.items) (texts_in_use texts (take i n.order.items))) where
     many : length ids ≡ length before
     unfolding before
     many = ap length so_far ∙ length-map (texts_in_use texts (take i n.order.items)) (first_of texts n.order.items)
 
-    -- the current old number is the first one of a new text
+    -- if `number` is the length of `ids`, the text of `id` is new, and `id` is the first old number of this text
     pub first-more : number ≡ length ids → (ids' : List ℕ) → ids' ≡ ids ++ id ∷ [] → ids' ≡ map (first_of texts n.order.items) (texts_in_use texts (take (i + 1) n.order.items))
     unfolding before after
     first-more next ids' e =

@@ -32,7 +32,7 @@ present-push [] o = refl
 present-push (None ∷ os) o = present-push os o
 present-push (Some t ∷ os) o = ap (λ ts. t ∷ ts) (present-push os o)
 
--- one more optional text, or one more number
+-- an appended `Some text` adds `text` to the deduplicated texts if `text` is new; an appended `None` adds nothing
 pub kept_once-push : (os : List (Option (List ℕ))) (o : Option (List ℕ)) → kept_once (present (os ++ o ∷ [])) ≡ with_text_if (kept_once (present os)) o
 kept_once-push os o = ap kept_once (present-push os o) ∙ by_case o
   where
@@ -66,7 +66,7 @@ pub id_of-with_text_if : (texts : List (List ℕ)) (o : Option (List ℕ)) (othe
 id_of-with_text_if texts None other n e = e
 id_of-with_text_if texts (Some t) other n e = id_of-with_text texts t other n e
 
--- and when more old numbers are used
+-- a text in use keeps its number when more old numbers are used
 pub id_of-texts_in_use : (texts : List (List ℕ)) (ids more : List ℕ) (text : List ℕ) (n : ℕ) → id_of text (texts_in_use texts ids) ≡ Some n → id_of text (texts_in_use texts (ids ++ more)) ≡ Some n
 id_of-texts_in_use texts ids [] text n e = rw (append-nil ids) e
 id_of-texts_in_use texts ids (id ∷ more) text n e =
@@ -126,7 +126,7 @@ all_kept (Some t ∷ os) texts =
 pub used-kept : (os : List (Option (List ℕ))) → AllByRecursion (IsListedIfAny (kept_once (present os))) os
 used-kept os = all_kept os []
 
--- No more texts are kept than there are.
+-- The list of kept texts is not longer than the list of all texts.
 
 -- the number of texts that are not kept
 abbrev missing : List (List ℕ) → List (List ℕ) → ℕ
@@ -189,7 +189,7 @@ AreFew-with_text_if kept texts i few = by_case (slice_get texts i) refl
     by_case None e = few
     by_case (Some t) e = by_text t e (id_of t kept) refl
 
--- the number of a new text is below the number of all texts
+-- if `AreFew kept texts` holds and `kept` lacks a text of `texts`, `kept` is shorter than `texts`
 below_max-for_new : (kept texts : List (List ℕ)) (i : ℕ) (text : List ℕ) → AreFew kept texts → slice_get texts i ≡ Some text → id_of text kept ≡ None → length kept < length texts
 below_max-for_new kept texts i text few at new =
     let less = one_less kept texts text i at new in
@@ -216,7 +216,8 @@ pub number_in-with_text_if : (kept : List (List ℕ)) (added o : Option (List �
 number_in-with_text_if kept added None h = refl
 number_in-with_text_if kept added (Some t) h = rw (h.1, id_of-with_text_if kept added t h.0 h.1) refl
 
--- and the number is its index
+-- let `kept` have at most 4294967295 texts. The number of a kept text is an index of this text in `kept`. The number
+-- for `None` is past the end of `kept`
 pub slice_get-number_in : (kept : List (List ℕ)) (o : Option (List ℕ)) → length kept ≤ 4294967295 → IsListedIfAny kept o → slice_get kept (number_in kept o) ≡ o
 slice_get-number_in kept None few h = slice_get_past kept 4294967295 few
 slice_get-number_in kept (Some t) few h = rw h.1 (slice_get-id_of t kept h.0 h.1)
@@ -272,7 +273,7 @@ module _ (texts : List (List ℕ)) (n : Numbering) (id : ℕ) (text : List ℕ) 
           let same_number : seen.number ≡ existing = let e = seen.numbered in cc in
           (k, at, subst (λ t. id_of t (seen_texts texts n.seen) ≡ Some existing) same_text (seen.interned ∙ ap Some same_number))
 
-  -- an old number that was seen before
+  -- if `id` has a new number already, a use of `id` changes no numbers
   pub more-existing : (existing : ℕ) → slice_get n.seen.numbers.items id ≡ Some existing → existing ≢ 4294967295 → NumbersMore texts id n.seen n.seen
   more-existing existing numbered apart =
       let seen = existing-seen existing numbered apart in
@@ -289,7 +290,7 @@ module _ (texts : List (List ℕ)) (n : Numbering) (id : ℕ) (text : List ℕ) 
       let less = below_max-for_new (seen_texts texts n.seen) texts id text (AreFew-texts_in_use texts n.seen.order.items) named (ap (id_of text) (sym is.index) ∙ new) in
       omega (arith, ap length is.index)
 
-  -- an old number that was not seen before
+  -- in the step from `n` to `next`, `id` gets the new number `number`
   module _ (number : ℕ) (next : Numbering) (meets : Assigns text id number n next) where
     within : id < length n.seen.numbers.items
     within = let here = slice_get_within texts id text named in omega (arith, is.numbered.many)
@@ -355,7 +356,7 @@ module _ (texts : List (List ℕ)) (n : Numbering) (id : ℕ) (text : List ℕ) 
     pub number-new : number_in (seen_texts texts next.seen) (slice_get texts id) ≡ number
     number-new = rw (named, interned) refl
 
--- a number that is no index
+-- if `id` is no index of `texts`, a use of `id` changes no numbers
 pub more-past : (texts : List (List ℕ)) (n : NewNumbers) (id : ℕ) → length texts ≤ id → NumbersMore texts id n n
 more-past texts n id past =
     let none = slice_get_past texts id past in

@@ -36,7 +36,7 @@ all_have_new_numbers S s is = All-weaker (IsSeen S s) (HasNewNumber s.numbers.it
     has : (id : ℕ) → IsSeen S s id → HasNewNumber s.numbers.items (length (seen_texts S s)) id
     has id seen = (seen.number, seen.numbered, slice_get_within (seen_texts S s) seen.number seen.text (slice_get-id_of seen.text (seen_texts S s) seen.number seen.interned))
 
--- and that is below the number of moved texts
+-- let `texts` be the seen texts, and `count` the length of `texts`. Each seen old number has a new number below `count`
 pub numbered_below : (S : List (List ℕ)) (s : NewNumbers) (texts : Vec (String Global) Global) (count : ℕ) → AreNumbered S s → texts_of texts ≡ seen_texts S s → count ≡ vec_len texts
     → (count ≡ length (seen_texts S s)) × AllByRecursion (HasNewNumber s.numbers.items count) s.order.items
 numbered_below S s texts count is kept many =
@@ -88,7 +88,7 @@ tests_agree kept distinct text other k n at interned = by_case (cases_eq n k)
         eq-eqb n k e ∙ sym ((bytes_eq-Decides other text).1 alike)
     by_case (inr apart) = different apart (n == k) (bytes_eq other text) refl refl
 
--- the contents of an old number, if it names this text
+-- the contents of the old number `id`, if the source at `id` is `text`; otherwise `None`
 abbrev of_id : List (List ℕ) → List (Option (List ℕ)) → List ℕ → ℕ → Option (List ℕ)
 of_id S contents text id = option_and_then (λ source. cond (bytes_eq source text) (item_at contents id) None) (slice_get S id)
 

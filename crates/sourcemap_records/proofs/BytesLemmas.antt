@@ -15,7 +15,7 @@ use Rattle.sourcemap_records.specs.Jsontypes.{Tree, record_of}
 use Rattle.sourcemap_headers.proofs.DataUrlLemmas.{one_answer}
 use Rattle.sourcemap_records.specs.Bytes.{IsJson, HoldJson, IsHeaderError, HoldNoJson, HoldRecord, HoldNoRecord, ValueHasResult, BytesHaveResult, UrlHasResult, IsSameError, AreSame, UnlessReadFails, IsAnswerRead, Reading}
 
--- Bytes have at most one JSON value or one error, and not both.
+-- Bytes have at most one JSON value and at most one error, but never a value and an error.
 
 json_once : (bytes : List ℕ) (d e : Data) → HoldJson bytes d → HoldJson bytes e → d ≡ e
 json_once bytes d e p q = let same : p.0 ≡ q.0 = cc in let again : read p.0 ≡ Some e = rw same q.2.1 in cc
@@ -54,12 +54,12 @@ unless_read_any (Io _) P (inr h) = inr h
 unless_read_any OutOfMemory P h = tt
 unless_read_any _ P h = absurd h
 
--- some bytes for a reader: those that it specifies, if it does
+-- the unread bytes of a reader if they are known, and no bytes otherwise
 bytes_of_reader : (known : Option (List ℕ)) → (bytes : List ℕ) × IfSome known (λ remaining. bytes ≡ remaining)
 bytes_of_reader None = ([], tt)
 bytes_of_reader (Some remaining) = (remaining, refl)
 
--- From the value that was read to its record.
+-- The record of bytes is the record of their JSON value. Without a JSON value, bytes have no record.
 
 some_of_due : (found : Option Tree) (t : Tree) → due found ≡ Ok t → found ≡ Some t
 some_of_due None t is = cc
@@ -139,7 +139,7 @@ module _ {Y : Type 0} where
       → (answer : Result Y Error) → Decodes t answer → ValueHasResult Decodes d answer
   value_of_record Decodes d t is answer h = of_record Decodes (record_of d) t is answer h
 
-  -- From results of inner calls to results of outer calls.
+  -- A result for a record is also a result for the value, the bytes or the reader from which the record was read.
 
   module _ {X : Type 0} (view : X → Y) where
     answer_weaker : (P Q : Result Y Error → Type 0) → ((answer : Result Y Error) → P answer → Q answer)
@@ -151,19 +151,20 @@ module _ {Y : Type 0} where
     answer_read Answers (Ok x) h = h
     answer_read Answers (Err e) h = unless_read e _ h
 
-    -- if there is at most one result, the call returned it, or memory ran out
+    -- if `Answers` allows `r` and `due`, and allows at most one result (up to `Same`), then `r` is `due`, or memory ran
+    -- out
     pub answer_only : (Answers : Result Y Error → Type 0) (Same : Result Y Error → Result Y Error → Type 0)
         → ((a b : Result Y Error) → Answers a → Answers b → Same a b)
         → (r : Result X Error) → IsAnswer view Answers r → (due : Result Y Error) → Answers due → IsAnswer view (Same due) r
     answer_only Answers Same once (Ok x) given due is = once due (Ok (view x)) is given
     answer_only Answers Same once (Err e) given due is = UnlessMemory-weaker e (once due (Err e) is) given
 
-    -- a result for the bytes that were read is a result for the reader's bytes
+    -- if `r` is a result for the `bytes` that the reader returned, then `r` is a result for the reader
     pub answer_of_reader : (Answers : List ℕ → Result Y Error → Type 0) (known : Option (List ℕ)) (bytes : List ℕ) (r : Result X Error)
         → IfSome known (λ remaining. bytes ≡ remaining) → IsAnswer view (Answers bytes) r → Reading known (λ bytes. IsAnswerRead view (Answers bytes) r)
     answer_of_reader Answers known bytes r same h = (bytes, same, answer_read (Answers bytes) r h)
 
-    -- a failed read may be returned whatever the result for the bytes is
+    -- if `e` says that a read failed or that memory ran out, a call may return `e`, whatever `Answers` allows
     pub error_of_reader : (Answers : List ℕ → Result Y Error → Type 0) (known : Option (List ℕ)) (e : Error)
         → UnlessReadFails e ⊥ → Reading known (λ bytes. UnlessReadFails e (Answers bytes (Err e)))
     error_of_reader Answers known e h =
@@ -181,7 +182,7 @@ module _ {Y : Type 0} where
       answer_of_record d t is r h =
           answer_weaker (Decodes t) (ValueHasResult Decodes d) (value_of_record Decodes d t (some_of_due (record_of d) t is)) r h
 
-      -- the same for bytes
+      -- a result for the record of bytes is a result for the bytes
       pub answer_of_bytes : (bytes : List ℕ) (t : Tree) → HoldRecord bytes t
           → (r : Result X Error) → IsAnswer view (Decodes t) r → IsAnswer view (BytesHaveResult Decodes bytes) r
       answer_of_bytes bytes t holds r h =

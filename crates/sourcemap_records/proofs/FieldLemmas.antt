@@ -42,7 +42,7 @@ removed_at true key other e es rest is apart later =
 removed_at false key other e es rest is apart later =
     ap (λ r. match_ordering (slice_cmp nat_cmp other (string_bytes e.0)) r (Some (view e.1)) r) later
 
--- the other keys keep their values
+-- removing `key` does not change the value of any other key
 pub remove_other : (key other : List ℕ) (es : List Entry) → bytes_eq other key ≡ false
     → get_member other (members_view (remove_entry (is_at (λ k. slice_cmp nat_cmp key (string_bytes k))) es)) ≡ get_member other (members_view es)
 remove_other key other [] apart = refl
@@ -52,7 +52,7 @@ both_false : (a b : Bool) → (a || b) ≡ false → (a ≡ false) × (b ≡ fal
 both_false true b h = absurd (true≢false h)
 both_false false b h = (refl, h)
 
--- keeping all but two keys, as `KeepsBut` of a list
+-- if all keys but `k` and `l` keep their values, `KeepsBut` holds for the list of `k` and `l`
 pub kept_but_two : (k l : List ℕ) (a b : Members)
     → ((other : List ℕ) → bytes_eq other k ≡ false → bytes_eq other l ≡ false → get_member other b ≡ get_member other a)
     → KeepsBut (k ∷ l ∷ []) a b

@@ -79,7 +79,8 @@ one_more done s d rest is = rw is (of_rest (sections_read rest))
 pub none_read : (done : List Section) (d : Data) (rest : Items) → section_of d ≡ None → with (sections_read (item d rest)) (λ more. Some (before done more)) ≡ None
 none_read done d rest is = rw is refl
 
--- an object as a record: its sections, and the fields of what is left after their removal
+-- the record of the object `m`: the sections come from `v`, the value at `sections`. The fields come from `left`, the
+-- members after `sections` was removed
 pub map_split : (value : Value) (m : Map) (left : Members) (v : Option Data) → value ≡ Object m → v ≡ get_member (codes "sections") (members_view m.entries)
     → KeepsOthers (codes "sections") (members_view m.entries) left
     → record_of (view value) ≡ with (found sections_of v) (λ sections. with (fields_in left) (λ fields. Some (tree_with fields sections)))
@@ -89,7 +90,8 @@ map_split value m left v is taken kept =
     ∙ ap (λ s. with s (λ sections. with (fields_in ms) (λ fields. Some (tree_with fields sections)))) (sections_in-at ms ∙ ap (found sections_of) (sym taken))
     ∙ ap (λ f. with (found sections_of v) (λ sections. with f (λ fields. Some (tree_with fields sections)))) (sym (fields_kept ms left kept))
 
--- an object as a section: its map, and the head in what is left after its removal
+-- the section of the object `m`: the map comes from `v`, the value at `map`. The head comes from `left`, the members
+-- after `map` was removed
 pub section_split : (value : Value) (m : Map) (left : Members) (v : Option Data) → value ≡ Object m → v ≡ get_member (codes "map") (members_view m.entries)
     → KeepsOthers (codes "map") (members_view m.entries) left
     → section_of (view value) ≡ with (found record_of v) (λ t. with (section_head_in left) (λ head. Some (section_at head t)))

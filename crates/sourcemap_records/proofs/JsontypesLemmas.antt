@@ -1,4 +1,5 @@
--- A record level by level.
+-- The tree and the JSON value of a record, from its fields and its sections. A record is in range if its fields and its
+-- sections are.
 use Rattle.std.proofs.Common.{◌≡◌, List, [], ◌∷◌, Option, None, Some, Vec, Global, map, option_map, codes, IfSome, subst, refl, sym, ap, ◌∙◌}
 use Rattle.std.specs.List.{AllByRecursion}
 use Rattle.serde_json.specs.Data.{object, array, item}

@@ -70,7 +70,7 @@ pub extras_kept : (names : List (List ℕ)) (a b : Members) → KeepsBut names a
 extras_kept names a b kept h0 h1 h2 h3 =
     rw (kept (codes "ignoreList") h0, kept (codes "x_facebook_offsets") h1, kept (codes "x_metro_module_paths") h2, kept (codes "x_facebook_sources") h3) refl
 
--- ---- the fields, from what is left after each group
+-- ---- the fields do not change if each group is read after the keys of the earlier groups were removed
 
 pub from_file_keys : (ms m1 : Members) (id : Option (List ℕ)) → debug_id_in ms ≡ Some id → TakesIds ms m1
     → fields_in ms ≡ with (file_keys_in m1) (λ h. with (content_keys_in ms) (λ c. with (extra_keys_in ms) (λ x. Some (fields_from h c x id))))

@@ -62,13 +62,13 @@ each : {X : Type 0} (P Q : X → Type 0) → ((x : X) → P x → Q x) → (xs :
 each P Q h [] all = tt
 each P Q h (x ∷ xs) all = (h x all.0, each P Q h xs all.1)
 
--- a key that is left out if it has no value
+-- `o` is written at a key that is left out for `None`. If the value in `o` reads back, the key reads back as `o`
 back : {X : Type 0} (read : Data → Option X) (write : X → Data) (o : Option X) → IfSome o (λ x. or_null read (write x) ≡ Some (Some x))
     → found read (option_or (option_map write o) None) ≡ Some o
 back read write None h = refl
 back read write (Some x) h = h
 
--- a key that is written as null if it has no value
+-- `o` is written, with null for `None`. If the value in `o` reads back, the written JSON reads back as `o`
 back_null : {X : Type 0} (read : Data → Option X) (write : X → Data) (o : Option X) → IfSome o (λ x. or_null read (write x) ≡ Some (Some x))
     → or_null read (written_or_null write o) ≡ Some o
 back_null read write None h = refl

@@ -3,7 +3,8 @@ use Rattle.sourcemap_headers.specs.HeaderReader.{remaining_in}
 use Rattle.sourcemap_headers.specs.declared.header_reader.HeaderState.TheVariants.{InHeader}
 use Rattle.sourcemap_headers.proofs.header_reader.skip_junk.Given as goal
 
--- the rest of the chunk gives the same output as all of it
+-- later reads give the same result for the rest of the chunk, in state `InHeader after_return`, as for the whole chunk,
+-- in state `InHeader follows_return`
 abbrev pub invariant-loop-byte : goal.invariant-loop-byte
 invariant-loop-byte l =
     (l.at ≡ l.byte-index)

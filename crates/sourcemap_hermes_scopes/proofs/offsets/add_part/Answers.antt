@@ -1,4 +1,4 @@
--- A part appends the offset of its segment, if it has one.
+-- A part that is not empty appends the offset of its segment. An empty part appends nothing.
 use Rattle.std.proofs.Common.{◌<◌, length, arith}
 use Rattle.sourcemap_mappings.specs.Segment.{Segment}
 use Rattle.sourcemap_hermes_scopes.proofs.OffsetsLemmas.{AddsOffsets-segment, AddsOffsets-none}

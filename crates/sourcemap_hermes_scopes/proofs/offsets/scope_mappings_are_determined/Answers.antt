@@ -1,4 +1,4 @@
--- What a text encodes is determined: a list of offsets, or none.
+-- A text encodes at most one list of offsets, and no list if a part of a line is invalid.
 use Rattle.sourcemap_hermes_scopes.proofs.OffsetsAnswers.{StandsFor-same}
 use Rattle.sourcemap_hermes_scopes.proofs.offsets.scope_mappings_are_determined.Goals as goal
 

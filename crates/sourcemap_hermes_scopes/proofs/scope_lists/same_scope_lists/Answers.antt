@@ -1,4 +1,4 @@
--- The test of stored entries gives the same result as the test of their values.
+-- The equality test on stored entries gives the same result as `same_entry` on the values of these entries.
 use Rattle.std.proofs.Common.{◌∙◌}
 use Rattle.sourcemap_hermes_scopes.proofs.ScopeListsLemmas.{entries_alike, stored_same}
 use Rattle.sourcemap_hermes_scopes.proofs.scope_lists.same_scope_lists.Goals as goal

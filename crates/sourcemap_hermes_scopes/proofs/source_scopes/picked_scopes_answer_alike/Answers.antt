@@ -1,4 +1,4 @@
--- Function maps selected by id are those of the entries selected by id.
+-- If each entry encodes the function map of its source, so does each selected entry.
 use Rattle.sourcemap_hermes_scopes.proofs.SourceScopesLemmas.{picked_of_entries}
 use Rattle.sourcemap_hermes_scopes.proofs.source_scopes.picked_scopes_answer_alike.Goals as goal
 

@@ -10,7 +10,7 @@ abbrev or_zero : Option ℕ → ℕ
 or_zero None = 0
 or_zero (Some x) = x
 
--- the table has the byte of each escape, and 0 for other bytes
+-- for each byte, `SHORT` has what a backslash and this byte decode to, or 0 if they are not a two-byte escape
 table_is : SHORT ≡ map (λ b. or_zero (short_escape b)) (range_with_len 0 256)
 unfolding short_escape
 table_is = refl

@@ -16,7 +16,7 @@ decreases-read_items l = 2 * l.depth + 1
 abbrev pub decreases-read_members : goal.decreases-read_members
 decreases-read_members l = 2 * l.depth + 1
 
--- the tokens at the start begin with the items found, followed by whatever items the remaining tokens begin with
+-- if the remaining tokens begin with the items `ds`, the tokens before the loop begin with the items found, then `ds`
 abbrev pub invariant-read_items-items : goal.invariant-read_items-items
 invariant-read_items-items l =
     (most : ℕ) × (length l.cursor.tokens ≤ most)

@@ -2,7 +2,7 @@ use Rattle.std.proofs.Common.{◌≡◌, ◌-◌, ◌≤◌, [], ◌∷◌, ◌+
 use Rattle.json.specs.Print.{escape}
 use Rattle.sourcemap_json_write.proofs.quoting.put_escaped.Given as goal
 
--- what is written and what is left are the whole
+-- the output so far, followed by the escaped rest of the text and a quote, is the whole output
 abbrev pub invariant-loop-from : goal.invariant-loop-from
 invariant-loop-from l =
     (l.at ≤ length l.text) × (l.out.items ++ (escape (drop l.at l.text) ++ 34 ∷ []) ≡ l.fn.out.items ++ (escape l.text ++ 34 ∷ []))

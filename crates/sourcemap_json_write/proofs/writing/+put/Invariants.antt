@@ -7,8 +7,8 @@ use Rattle.sourcemap_json_write.specs.Writing.{ArePlainItems}
 use Rattle.sourcemap_json_write.proofs.WritingLemmas.{IsPlainRest}
 use Rattle.sourcemap_json_write.proofs.writing.+put.Given as goal
 
--- what is written and the text of the items that are left are the whole, and all items are plain if those
--- that are left are
+-- the output so far, followed by the text of the remaining items, is the whole output. If the remaining items are
+-- plain, then all items are plain
 abbrev pub invariant-put_items-loop-item : goal.invariant-put_items-loop-item
 invariant-put_items-loop-item l =
     (l.out.items ++ items_text l.later (items_view (drop l.item-index l.item-items)) ≡ l.fn.out.items ++ 91 ∷ items_text false (items_view l.item-items))

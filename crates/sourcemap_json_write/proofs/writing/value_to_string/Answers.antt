@@ -1,4 +1,4 @@
--- prover: what the search finds, so that a wrong body is refused fast
+-- prover: wrong bodies refused fast
 use Rattle.std.proofs.Common.{rules}
 use Rattle.sourcemap_json_write.proofs.writing.value_to_string.Goals as goal
 

@@ -1,7 +1,7 @@
 use Rattle.std.proofs.Common.{◌≡◌, ◌-◌, ◌≤◌, ◌++◌, replicate, None, vec_len}
 use Rattle.sourcemap_map_parts.proofs.fitting.fit.Given as goal
 
--- one `None` was added for each item past the old length
+-- the list is the initial list with only `None` items appended
 abbrev pub invariant-loop-items : goal.invariant-loop-items
 invariant-loop-items g l =
     (l.len ≤ vec_len l.items)

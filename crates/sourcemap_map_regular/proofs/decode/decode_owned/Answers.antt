@@ -1,4 +1,4 @@
--- The result for the bytes is that for their record.
+-- Bytes decode to the result for the record that they hold, or to the error for bytes without a record.
 use Rattle.std.proofs.lemmas.Result.{err_from_is_err_and}
 use Rattle.sourcemap_records.specs.Jsontypes.{tree}
 use Rattle.sourcemap_map_regular.specs.Decode.{RegularDecodes}

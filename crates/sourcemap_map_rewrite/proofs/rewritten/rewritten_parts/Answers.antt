@@ -11,7 +11,7 @@ use Rattle.sourcemap_map_rewrite.proofs.FirstIdsLemmas.{firsts-used}
 use Rattle.sourcemap_map_rewrite.proofs.RewrittenLemmas.{numbered_below, contents-resulting, same_Ok, few-rewritten}
 use Rattle.sourcemap_map_rewrite.proofs.rewritten.rewritten_parts.Goals as goal
 
--- each old number that was seen has a new one, which is below the number of kept texts
+-- each old number that was seen has a new number, and this new number is an index of the kept texts
 pub resulting_contents-requires : goal.resulting_contents-requires
 resulting_contents-requires g c =
     let S : List (List ℕ) = texts_of (unwrap_or c.args.with_root c.args.sources) in

@@ -1,4 +1,4 @@
--- The text after the header is not JSON, or memory ran out.
+-- If `value_from_slice` returns an error, the text after the header is not JSON, or memory ran out.
 use Rattle.std.proofs.Common.{rules}
 use Rattle.sourcemap_records.proofs.bytes.read_json.Goals as goal
 

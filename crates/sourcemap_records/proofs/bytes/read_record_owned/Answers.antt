@@ -1,4 +1,4 @@
--- The record of the value that was read is that of the bytes.
+-- The record of the bytes is the record of their JSON value.
 use Rattle.std.proofs.lemmas.Result.{err_from_is_err_and}
 use Rattle.serde_json.specs.View.{view}
 use Rattle.sourcemap_records.specs.Jsontypes.{tree}

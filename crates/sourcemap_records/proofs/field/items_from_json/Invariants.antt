@@ -4,7 +4,7 @@ use Rattle.serde_json.specs.View.{items_view}
 use Rattle.sourcemap_records.specs.Field.{with, items_read}
 use Rattle.sourcemap_records.proofs.field.items_from_json.Given as goal
 
--- what was read, followed by what is left
+-- the fields of all items are the fields so far, followed by the fields of the remaining items
 abbrev pub invariant-loop-item : goal.invariant-loop-item
 invariant-loop-item g l =
     items_read g.T.Field.reading (items_view l.fn.items.items)

@@ -23,7 +23,8 @@ decreases-read_section l = 2 * depth (view l.value) + 1
 abbrev pub decreases-read_section_map : goal.decreases-read_section_map
 decreases-read_section_map l = 2 * depth_in (option_map view l.value) + 1
 
--- the sections that were read, followed by what is left, which is no deeper
+-- the sections of all items are the sections so far, followed by the sections of the remaining items. The remaining
+-- items are at most as deep as all items
 abbrev pub invariant-read_section_list-loop-item : goal.invariant-read_section_list-loop-item
 invariant-read_section_list-loop-item l = record {
   read : sections_read (items_view l.fn.items.items) ≡ with (sections_read (items_view (into_iter_items l.item-iterator))) (λ more. Some (before (map section l.sections.items) more));

@@ -5,7 +5,8 @@ use Rattle.serde_json.specs.View.{view}
 use Rattle.sourcemap_records.specs.Jsontypes.{IsSectionInRange, written_one, section}
 use Rattle.sourcemap_records.proofs.to_json.+to_json.Given as goal
 
--- what was written, followed by what is left; all are in range where what is left is
+-- the JSON values so far, followed by the values of the remaining sections, are the values of all sections. If the
+-- remaining sections are in range, then all sections are in range
 abbrev pub invariant-write_section_list-loop-section : goal.invariant-write_section_list-loop-section
 invariant-write_section_list-loop-section l =
     (map view l.items.items ++ map written_one (map section (into_iter_items l.section-iterator))

@@ -1,4 +1,4 @@
--- The test of equality of the scopes of sources is true exactly if they are equal.
+-- The equality test of `SourceScopes` returns true if and only if both values are equal.
 use Rattle.sourcemap_hermes_scopes.proofs.SourceScopesLemmas.{source_scopes_decide}
 use Rattle.sourcemap_hermes_scopes.proofs.source_scopes.SourceScopesPartialEq.eq.Goals as goal
 

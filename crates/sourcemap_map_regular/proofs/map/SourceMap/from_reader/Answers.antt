@@ -1,4 +1,4 @@
--- The result for the reader is that for the bytes that were read from it.
+-- The result for the reader is the result for the bytes read from the reader, or the error of a failed read.
 use Rattle.std.proofs.lemmas.Result.{err_from_is_err_and}
 use Rattle.sourcemap_records.specs.Bytes.{BytesHaveResult}
 use Rattle.sourcemap_map_regular.specs.Decode.{RegularDecodes}

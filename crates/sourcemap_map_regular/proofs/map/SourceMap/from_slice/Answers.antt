@@ -1,4 +1,4 @@
--- The result for the bytes is determined, unless memory runs out. Only the kind of an `Io` error is determined.
+-- Unless memory runs out, the bytes determine the result. For an `Io` error, the bytes determine only the kind.
 use Rattle.sourcemap_map_regular.specs.Decode.{RegularDecodes}
 use Rattle.sourcemap_records.proofs.BytesLemmas.{bytes_only}
 use Rattle.sourcemap_map_regular.proofs.DecodeLemmas.{regular_decodes_once}

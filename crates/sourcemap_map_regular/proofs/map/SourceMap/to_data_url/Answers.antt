@@ -1,4 +1,4 @@
--- The URL holds the text, which decodes if the map is well-formed.
+-- A well-formed map's text decodes to a map with the same meaning. The URL holds this text, so the URL decodes too.
 use Rattle.std.proofs.Common.{string_bytes}
 use Rattle.sourcemap_map_regular.proofs.WriteLemmas.{encoded-back, url-back}
 use Rattle.sourcemap_map_regular.proofs.map.SourceMap.to_data_url.Goals as goal

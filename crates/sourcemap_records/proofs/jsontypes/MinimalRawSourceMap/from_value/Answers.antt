@@ -1,4 +1,4 @@
--- Each flag is that of its key.
+-- Each flag says whether its key has a value other than null.
 use Rattle.std.proofs.Common.{rules}
 use Rattle.sourcemap_records.proofs.jsontypes.MinimalRawSourceMap.from_value.Goals as goal
 

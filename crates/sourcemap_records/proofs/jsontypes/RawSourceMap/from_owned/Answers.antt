@@ -1,4 +1,4 @@
--- The record is that of the value.
+-- `from_owned` returns the record of the value.
 use Rattle.std.proofs.Common.{rules}
 use Rattle.sourcemap_records.proofs.jsontypes.RawSourceMap.from_owned.Goals as goal
 

@@ -1,4 +1,4 @@
--- The copy is written as the record is.
+-- The JSON value of the copy is the JSON value of the record.
 use Rattle.std.proofs.Common.{rules}
 use Rattle.sourcemap_records.proofs.jsontypes.RawSourceMap.to_value.Goals as goal
 
