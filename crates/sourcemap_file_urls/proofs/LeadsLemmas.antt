@@ -1,4 +1,4 @@
--- A relative path leads to its target: what each of its parts does.
+-- The relative path leads from the folder of the base to the target, if no part of the target is `.` or `..`.
 use Rattle.std.proofs.Common.{◌≡◌, ◌∙◌, ℕ, suc, ◌-◌, ◌<◌, ◌==◌, Bool, true, false, cond, not, ◌&&◌, List, [], ◌∷◌, ◌++◌, length, take, filter, map, codes, refl, ap, sym, subst, arith, inl, inr}
 use Rattle.std.specs.List.{slice_split, onto_first, join_with_byte, list_all}
 use Rattle.std.specs.Str.{bytes_eq}
@@ -52,7 +52,7 @@ AreParts-later : (xs ys : List (List ℕ)) → AreParts (xs ++ ys) → AreParts 
 AreParts-later [] ys are = are
 AreParts-later (x ∷ xs) ys are = AreParts-later xs ys are.2
 
--- ---- the parts of joined parts
+-- ---- a path that is joined from parts has these parts
 
 split-whole : (part : List ℕ) → IsWhole part → slice_split is_separator part ≡ part ∷ []
 split-whole [] whole = refl
@@ -79,7 +79,7 @@ parts-steps (a ∷ above) text = ap (λ later. codes ".." ∷ later) (parts-step
 
 -- ---- where parts lead
 
--- dropping the last part of two joined lists drops that of the second, unless the second is empty
+-- if `ys` is not empty, `xs ++ ys` without the last item is `xs`, then `ys` without the last item
 but_last-append : (xs ys : List (List ℕ)) → 0 < length ys → take (length (xs ++ ys) - 1) (xs ++ ys) ≡ xs ++ take (length ys - 1) ys
 but_last-append [] ys l = refl
 but_last-append (x ∷ xs) ys l =
@@ -148,7 +148,7 @@ IsApart-after_common (x ∷ xs) (y ∷ ys) =
           subst (λ b. IsApart (x ∷ xs) (y ∷ ys) (cond b (after_common xs ys) (x ∷ xs, y ∷ ys))) (sym e) (record { common = []; left = refl; right = refl })
     ]
 
--- ---- the whole
+-- ---- the relative path leads to the target
 
 leads : (at : List (List ℕ)) (ps : List (List ℕ)) (above below : List (List ℕ)) (common : List (List ℕ)) → at ≡ common ++ above → ps ≡ common ++ below → AreParts ps
     → list_all is_plain ps ≡ true → followed at (parts (or_dot (steps_up above ++ join_with_byte 47 below))) ≡ ps

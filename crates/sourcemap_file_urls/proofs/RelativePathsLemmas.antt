@@ -13,7 +13,8 @@ use Rattle.sourcemap_file_urls.specs.RelativePaths.{is_separator, is_nonempty, p
 
 -- ---- a path is split at its first separator
 
--- the first part, unless it is empty, and those of the rest
+-- the parts of `path` are the text before the first separator, unless this text is empty, and then the parts of the
+-- text after the separator
 pub parts-cut : (path : List ℕ) → parts path ≡ filter is_nonempty (before_first is_separator path ∷ []) ++ parts (after_first is_separator path)
 parts-cut path =
     elim (cases_lt (position_or_len is_separator path) (length path)) [

@@ -38,7 +38,7 @@ pub none_before : (bytes : Option (List ℕ)) → bytes ≡ option_map (λ later
 none_before None = refl
 none_before (Some bytes) = refl
 
--- a chunk that is all junk
+-- if all bytes of `chunk` are junk, a read of `chunk` outputs nothing, and the reader is then within the header
 pub outputs_junk : (state : HeaderState) (after_return : Bool) (old new : Option (List ℕ)) (chunk : List ℕ) → Consumes old new chunk
     → ((later : List ℕ) → remaining_in state (chunk ++ later) ≡ remaining_in (InHeader after_return) later)
     → (xs : List ℕ) → old ≡ Some xs
@@ -47,8 +47,9 @@ outputs_junk state after_return old new chunk consumes junk xs known =
     let k = consumed old new chunk consumes xs known in
     (k.0, k.1, ap (remaining_in state) k.2 ∙ junk k.0 ∙ none_before _)
 
--- a chunk in which the header ends, or the first chunk if there is no header: the bytes that remained before the read,
--- if known, are the chunk without its junk (`output`), then the bytes that the inner reader still has
+-- the inner reader had the bytes `xs` and returned `chunk`. The junk ends in `chunk`, or `chunk` is the first chunk and
+-- there is no header. Then the reader returns `output`, which is `chunk` without the junk, and after `output` the bytes
+-- that the inner reader still has (`ys`)
 pub outputs_end : (state : HeaderState) (old new : Option (List ℕ)) (chunk output : List ℕ) (junk_len : ℕ) → Consumes old new chunk
     → ((later : List ℕ) → remaining_in state (chunk ++ later) ≡ Some (drop junk_len chunk ++ later)) → drop junk_len chunk ≡ output
     → (xs : List ℕ) → old ≡ Some xs

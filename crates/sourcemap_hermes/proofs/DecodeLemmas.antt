@@ -16,7 +16,7 @@ use Rattle.sourcemap_hermes.specs.Map.{HermesValue, hermes_value}
 use Rattle.sourcemap_hermes.specs.Decode.{HermesDecodes, DecodesWith, EntriesDecode, RecordDecodesAsHermes}
 use Rattle.sourcemap_hermes.specs.declared.map.SourceMapHermes.{SourceMapHermes}
 
--- The result of decoding is determined.
+-- A record decodes to at most one result.
 
 pub EntriesDecode-same : (r : Fields) (entries : List ScopeEntry) (a b : Result HermesValue Error) → EntriesDecode r entries a → EntriesDecode r entries b → a ≡ b
 EntriesDecode-same r entries (Ok a) (Ok b) h k =
@@ -45,7 +45,7 @@ pub only_once : (t : Tree) (a b : Result HermesValue Error) → RecordDecodesAsH
 only_once (plain r) a b h k = HermesDecodes-same r a b h k
 only_once (indexed r sections) a b h k = h ∙ sym k
 
--- Records that differ in scopes only have the same regular map.
+-- Records that differ only in scopes decode to the same regular map.
 
 limits_alike : (r : Fields) (scopes : Option (List ScopeEntry)) → HasFewItems (record r { x_facebook_sources = scopes }) → HasFewItems r
 limits_alike r scopes h = record { sources = h.sources; names = h.names; contents = h.contents }

@@ -1,4 +1,4 @@
--- The test of equality of Hermes maps is true exactly if they are equal.
+-- `same_hermes` is true for two Hermes maps exactly if the maps are equal.
 use Rattle.std.proofs.Common.{◌≡◌, ap}
 use Rattle.std.specs.Bool.{Decides}
 use Rattle.sourcemap_tokens.proofs.DecidesLemmas.{decides_both}

@@ -73,8 +73,8 @@ module _ (removal : Removal) (h : HermesValue) (few : length h.map.sources ≤ 4
   }
 
   module _ (well : IsWellFormed h) (distinct : HasDistinctSources h) where
-    -- what holds of each token of the map: its source, if any, is among the used sources, and its name, if any, among
-    -- the used names. The token is within the counts
+    -- a property of each token of the map: its source and its name, if any, are used (`IsKept`). If the token has no
+    -- source, its source id is 4294967295, and its name id names nothing (`IsWithin`)
     abbrev IsOwn : RawToken → Type 0
     IsOwn t = IsKept h.map t × IsWithin (length h.map.sources) (length h.map.names) t
 
@@ -179,7 +179,7 @@ module _ (removal : Removal) (h : HermesValue) (few : length h.map.sources ≤ 4
         by_case None at = tt
         by_case (Some found) at = All-at IsOwn h.map.tokens found.0 found.1 at all_own
 
-    -- what a lookup finds in the rewritten map, made of what it finds in the old one
+    -- the index and the token that a lookup finds in the old map; the token gets its new ids (`renumbered`)
     abbrev renumbered_found : Option (ℕ × RawToken) → Option (ℕ × RawToken)
     renumbered_found found = option_map (λ (e : ℕ × RawToken). (e.0, renumbered removal h.map e.1)) found
 

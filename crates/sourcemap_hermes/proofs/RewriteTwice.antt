@@ -18,7 +18,7 @@ use Rattle.sourcemap_hermes_scopes.specs.Picks.{items_at}
 use Rattle.sourcemap_hermes.specs.Map.{HermesValue}
 use Rattle.sourcemap_hermes.specs.Rewrite.{rewritten}
 
--- Items that are each selected by their own index.
+-- Selecting each item of a list by its index, in order, gives the same list.
 
 at_end : {X : Type 0} (pre ys : List (Option X)) (y : Option X) → item_at (pre ++ y ∷ ys) (length pre) ≡ y
 at_end [] ys None = refl

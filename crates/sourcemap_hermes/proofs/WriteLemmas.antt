@@ -16,7 +16,7 @@ use Rattle.sourcemap_hermes.specs.Decode.{HermesDecodes, RecordDecodesAsHermes}
 use Rattle.sourcemap_hermes.specs.Encode.{IsRecordOf, IsCompactTextOf, RecordAnswer, Restores, with_scopes, scoped}
 use Rattle.sourcemap_hermes.specs.Map.{HermesValue, IsWellFormed}
 
--- the keys of a map's record, if its tokens are written as these texts of mappings and ranges
+-- the fields of the record of `h`, with `mappings` as the field `mappings` and `ranges` as the field `rangeMappings`
 abbrev fields_with : HermesValue → List ℕ → Option (List ℕ) → Fields
 fields_with h mappings ranges = with_scopes (record_with h.map mappings ranges) h.scopes.entries
 
@@ -36,7 +36,7 @@ low_written h mappings ranges =
     low_entries 1 3 (entries (record_with h.map mappings ranges)) (entries_low h.map mappings ranges) in
     (version, (file, (sources, (root, (contents, (names, (of_ranges, (of_mappings, (ignored, (offsets, (paths, (low_lists h.scopes.entries, (debug_id, end))))))))))))))
 
--- each record of the map has these keys, for some texts of mappings and ranges
+-- each record of `h` is a plain record: `fields_with h mappings ranges` for some texts `mappings` and `ranges`
 record_plain : (h : HermesValue) (t : Tree) → IsRecordOf h t → (mappings : List ℕ) × (ranges : Option (List ℕ)) × (t ≡ plain (fields_with h mappings ranges))
 record_plain h t (r, (mappings, ranges, of_mappings, of_ranges, plain_is), is) =
     (mappings, ranges, is ∙ ap (λ r. scoped r h.scopes.entries) plain_is)

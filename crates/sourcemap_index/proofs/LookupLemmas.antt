@@ -110,7 +110,8 @@ sorted_before f key cmp xs sorted k d l m =
     let up = sorted k (f d) (omega arith) (omega arith) in
     rw (sym (get_or-map f xs (k + 1) d (f d) (omega arith)), sym (get_or-map f xs k d (f d) (omega arith))) up
 
--- the image of the item that a search finds is the closest of the images, if these are sorted
+-- if `map f xs` is sorted and `found` is the item of `xs` closest to `p`, `f` maps `found` to the item of `map f xs`
+-- closest to `p`
 pub closest_seen : {X Y K : Type 0} (f : X → Y) (key : Y → K) (cmp : K → K → Ordering) (xs : List X) (p : K) (found : Option (ℕ × X))
     → (IsSortedByKey (λ x. key (f x)) cmp xs → found ≡ closest (λ x. key (f x)) cmp xs p)
     → IsSortedByKey key cmp (map f xs) → option_map (λ e. f e.1) found ≡ closest_item key cmp (map f xs) p
@@ -124,7 +125,7 @@ closest_seen {X} f key cmp xs p found is sorted =
     both None = refl
     both (Some e) = refl
 
--- the meaning of the token that a lookup returns is that of the position
+-- if a lookup of `p` in `t` returns `found`, the meaning of the token in `found` is the meaning of `p` in `t`
 pub meaning_found : (t : MapTree) (p : ℕ × ℕ) (found : Option Token) → option_map token_value found ≡ lookup t p → option_map meaning_of_token found ≡ meaning t p
 meaning_found t p found is = both found ∙ ap (option_map says) is
   where
@@ -153,7 +154,7 @@ in_section (s' ∷ ss) zero s t token at is has =
 in_section (s' ∷ ss) (suc k) s t token at is has =
     in_rest s'.head s'.map (sections_from ss) token (in_section ss k s t token at is has)
 
--- a token of a section's map is one of the index
+-- if the map of a section of `v` has the token in `found`, the index map `v` has this token too
 pub found_in_section : (v : IndexValue) (s : MapSection) (t : MapTree) (found : Option Token) → IsAmong v.sections s → s.map ≡ Some t
     → IfSome found (λ token. HasToken t (token_value token)) → IfSome found (λ token. HasToken (index_tree v) (token_value token))
 found_in_section v s t None among is has = tt

@@ -1,4 +1,5 @@
--- Maps that values, bytes and data URLs stand for are well-formed, with their tokens in order.
+-- A map that is decoded from a JSON value, bytes or a data URL is well-formed. The tokens of each regular map and each
+-- Hermes map are sorted.
 use Rattle.std.proofs.Common.{◌≡◌, inl, inr, ℕ, List, Option, Some, None, Result, Ok, Err, MatchOption}
 use Rattle.serde_json.specs.Data.{Data}
 use Rattle.sourcemap_errors.specs.declared.errors.Error.TheVariants.{BadJson}

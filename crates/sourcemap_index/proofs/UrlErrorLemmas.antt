@@ -21,7 +21,7 @@ use Rattle.sourcemap_index.specs.Family.{map_tree}
 use Rattle.sourcemap_index.specs.Decode.{ValueDecodes, BytesDecode, UrlDecodes, IsNoUrl}
 use Rattle.sourcemap_index.specs.declared.family.DecodedMap.{DecodedMap}
 
--- A choice does not hold if neither side does.
+-- A `MatchBool` or a `MatchOption` is false if both of its alternatives are false.
 
 neither : (known : Bool) {P Q : Type 0} → ¬ P → ¬ Q → ¬ MatchBool known P Q
 neither true p q h = p h
@@ -128,7 +128,7 @@ pub error_of_no_url : (url : List ℕ) → UrlDecodes url (Err InvalidDataUrl) �
 error_of_no_url url (inl (bytes, holds, h)) = absurd (no_bytes_error bytes h)
 error_of_no_url url (inr (is, none)) = none
 
--- a text with the error `InvalidDataUrl` is no data URL
+-- if decoding `url` gives the error `InvalidDataUrl`, `url` is no data URL
 pub refused_as_no_url : (url : List ℕ) (r : Result DecodedMap Error) → IsAnswer map_tree (UrlDecodes url) r
     → IfErr r (λ e. e ≡ InvalidDataUrl → IsNoUrl url)
 refused_as_no_url url (Ok m) h = tt

@@ -1,4 +1,5 @@
--- The text that a map is written as is compact. It reads back if the map is well-formed and shallow.
+-- An encoded text is the compact text of the map's JSON value. If the map is well-formed and shallow (`IsShallow`),
+-- decoding the text, or a data URL of the text, restores the map (`Restores`).
 use Rattle.std.proofs.Common.{◌≡◌, refl, sym, ap, ◌∙◌, inl, ℕ, List, Some, Ok}
 use Rattle.serde_json.specs.Written.{compact_text}
 use Rattle.sourcemap_headers.specs.Header.{after_header}

@@ -104,7 +104,8 @@ low_item n d ys here rest =
     ((let a = here.0 in let b = rest.0 in omega arith), neither (has_float d) (items_have_float (written_sections ys)) here.1 rest.1)
 
 mutual
-  -- an index has three levels of its own: itself, the list of its sections, and each of these
+  -- the record `r` has at most `3 * levels t + 5` levels. An index map adds three levels: its object, the list of its
+  -- sections, and the object of a section
   low_tree : (t : MapTree) (r : Tree) → IsRecordOf t r → IsLow (3 * levels t + 5) (written r)
   low_tree (leaf l) r is = low_more 5 (3 * levels (leaf l) + 5) (written r) (omega arith) (low_leaf l r is)
   low_tree (index parts ss) r (xs, is, all) =
@@ -124,7 +125,7 @@ mutual
       let here = low_section (3 * n + 5) head (written r) (omega arith) inner in
       subst (AreLowItems n) (sym (ap written_sections is)) (low_item n (written_section head (written r)) ys here (low_sections rest ys all n (omega (arith, upto))))
 
--- no number in what a map is written as has a fraction
+-- the JSON value `d` of a map contains no floating-point number
 pub whole_value : (t : MapTree) (d : Data) → IsValueOf t d → has_float d ≡ false
 whole_value t d (r, is, same) = ap has_float same ∙ (low_tree t r is).1
 

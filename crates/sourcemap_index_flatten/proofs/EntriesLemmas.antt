@@ -1,4 +1,4 @@
--- Entries of sources, one by one.
+-- The entry of one more source is appended to the entries of the earlier sources.
 use Rattle.std.proofs.Common.{◌≡◌, refl, sym, ap, ◌∙◌, ℕ, suc, ◌+◌, ◌<◌, List, [], ◌∷◌, ◌++◌, length, map, take, get_or, Option, string_bytes, String, arith, zero-add}
 use Rattle.std.specs.Option.{option_copied}
 use Rattle.std.specs.List.{enumerate_from}

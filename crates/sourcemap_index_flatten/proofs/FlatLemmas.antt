@@ -1,4 +1,4 @@
--- The concatenation of maps: its lists as a `Part`, and as a regular map.
+-- The concatenation of maps, made from the lists of a `FlatMap`: as a `Part`, and as a regular map.
 use Rattle.std.proofs.Common.{◌≡◌, refl, sym, ap, subst, ◌∙◌, Bool, true, false, ℕ, suc, ◌+◌, List, [], ◌∷◌, ◌++◌, map, Some, None, Option, option_map, option_and_then, slice_get, string_bytes, arith, ◌&&◌, zero-add, Result, Ok, is_some, cond}
 use Rattle.std.specs.List.{AllByRecursion, enumerate_from}
 use Rattle.std.specs.Option.{option_or}
@@ -79,7 +79,7 @@ names-merged file pieces =
     (λ text. ap {B = TextEntry} (λ (o : Option TextEntry). (text, option_and_then (λ e. e.1) o)) (no-contents text (all_name_entries pieces) (all-have_none pieces))) (texts_entered (all_name_entries pieces))
     ∙ ap (map (λ (name : List ℕ). (name, None))) (texts_of_names pieces)
 
--- Parts.
+-- A `Part` made from the lists of a `FlatMap`, or from the lists of a map.
 
 pub same_Ok : {X E : Type 0} (x y : X) → ◌≡◌ {A = Result X E} (Ok x) (Ok y) → x ≡ y
 same_Ok x y e = cc
@@ -106,7 +106,7 @@ part-of_lists m lists part are tokens ignored sources names = record {
   names = names ∙ ap (map (λ (name : List ℕ). (name, None))) are.names;
 }
 
--- Texts and contents of entries.
+-- The texts of the kept entries, and the contents of the kept entries.
 
 pub texts-kept : (entered : List TextEntry) → map (λ (e : TextEntry). e.0) (entries_kept entered) ≡ texts_entered entered
 texts-kept entered = back (texts_entered entered)
@@ -122,7 +122,7 @@ contents-kept entered = back (texts_entered entered)
     back [] = refl
     back (t ∷ ts) = ap (λ rest. contents_entered entered t ∷ rest) (back ts)
 
--- The map of the pieces.
+-- The map made from the lists of a `FlatMap` is the concatenation of the pieces.
 
 pub map-of_flat : (file : Option (List ℕ)) (pieces : List Piece) (flat : FlatMap) → IsFlat pieces flat
     → (metadata : MetadataValue) (sources : SourcesValue) (names : List (List ℕ)) (contents : List (Option (List ℕ)))

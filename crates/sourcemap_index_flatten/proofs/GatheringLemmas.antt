@@ -1,4 +1,4 @@
--- One more map is added.
+-- One more map is added to a `Gathering`: the new ids, the tokens and the errors.
 use Rattle.std.proofs.Common.{◌≡◌, refl, sym, ap, subst, ◌∙◌, ℕ, ◌+◌, ◌≤◌, List, [], ◌∷◌, ◌++◌, append_assoc, length, map, fold, filter, flat_map, Bool, true, false, ◌||◌, nat_eq, codes, Some, None, Option, Ok, Err, arith, slice_get, option_map, unwrap_or}
 use Rattle.std.specs.List.{AllByRecursion, enumerate_from, list_any}
 use Rattle.std.specs.BTreeSet.{insert_key}
@@ -47,7 +47,7 @@ any-same : {X : Type 0} (p q : X → Bool) → ((x : X) → p x ≡ q x) → (xs
 any-same p q same [] = refl
 any-same p q same (x ∷ xs) = λ i. same x i || any-same p q same xs i
 
--- Entries of maps, and their texts.
+-- New ids for the texts in the entries of a map.
 
 module _ (given : MapValue → List TextEntry) where
   -- the entries of pieces
@@ -97,7 +97,7 @@ module _ (given : MapValue → List TextEntry) where
       subst (λ all. AllByRecursion (HasNumber all) (p ∷ ps)) (append_assoc front (p ∷ []) ps)
       (numbered-front (front ++ p ∷ []) ps p (numbered-last front p), numbered-appended (front ++ p ∷ []) ps)
 
-  -- each text of each piece has an id, and this id does not change when a piece is added
+  -- each text of each piece has an id. This id stays the same when a piece is appended (`number-stays`)
   pub all-numbered : (pieces : List Piece) → AllByRecursion (HasNumber pieces) pieces
   all-numbered pieces = numbered-appended [] pieces
 

@@ -1,5 +1,5 @@
--- Lookups in a list that has the position and the meaning of each token. Where an orderly map with sorted
--- tokens has a meaning, its flat list, sorted stably by position, has the same.
+-- Lookups in a list that has the position and the meaning of each token. Each position with a meaning in an orderly map
+-- with sorted tokens has the same meaning in the flat list, sorted stably by position.
 use Rattle.std.proofs.Common.{◌≡◌, refl, sym, ap, ◌∙◌, ℕ, ◌-◌, ◌==◌, if◌then◌else◌, List, [], ◌∷◌, ◌++◌, map, find, Bool, true, false, ◌&&◌, Option, Some, None, option_map, option_and_then, arith, inl, inr, ◌⊎◌}
 use Rattle.std.proofs.lemmas.Bool.{cases_Bool}
 use Rattle.std.specs.List.{AllByRecursion}
@@ -32,7 +32,7 @@ entry_position entry = entry.0
 abbrev pub by_position : List Entry → List Entry
 by_position entries = sorted_by entry_position position_cmp entries
 
--- the meaning of a position `p` whose closest entry is this one
+-- the meaning of the position `p`, if `entry` is the closest entry to `p`
 abbrev pub meaning_at : ℕ × ℕ → Entry → Meaning
 meaning_at p entry = record entry.1 {
   column = column_after entry.1.column (if entry.1.is_range && (entry.0.0 == p.0) then p.1 - entry.0.1 else 0);
@@ -41,7 +41,7 @@ meaning_at p entry = record entry.1 {
 abbrev pub answer_in : List Entry → ℕ × ℕ → Option Meaning
 answer_in entries p = option_map (meaning_at p) (closest_item entry_position position_cmp entries p)
 
--- A regular map answers as the list of its tokens' meanings.
+-- A position has the same meaning in a regular map as in the list `token_meanings` of the map.
 
 abbrev say : MapValue → RawToken → Entry
 say m t = (destination t, meaning_of m t 0)
@@ -66,7 +66,7 @@ meanings_sorted m ordered =
     sorted_by-change destination position_cmp entry_position position_cmp (say m) (λ s t. refl) m.tokens
     ∙ ap (map (say m)) (in_order-ordered m.tokens ordered)
 
--- Entries moved from a section into the whole.
+-- Entries of a section, moved to their positions in the index map.
 
 pub by_position-absolute_position : (o : ℕ × ℕ) (entries : List Entry) → by_position (map (absolute_entry o) entries) ≡ map (absolute_entry o) (by_position entries)
 by_position-absolute_position o entries = sorted_by-change entry_position position_cmp entry_position position_cmp (absolute_entry o) (λ a b. absolute_lt o a.0 b.0) entries
@@ -104,8 +104,8 @@ closest_section sections p = closest_item (λ (s : SectionLookup). s.0) position
 abbrev answer_of : ℕ × ℕ → Option SectionLookup → Option Meaning
 answer_of p s = option_map says (option_and_then (λ section. section.1 (relative_position section.0 p)) s)
 
--- the position `p` is after the offset `o` and the tokens `own` of a section, and one of the later sections
--- `ss` is the closest to it
+-- `p` is after the offset `o` of a section and after the tokens `own` of this section. The search for `p` in the later
+-- sections `ss` finds a section
 record IsReached (o : ℕ × ℕ) (own : List (ℕ × ℕ)) (ss : MapSections) (p : ℕ × ℕ) : Type 0 where
   offset : IsBefore o p
   all : AllByRecursion (λ q. IsBefore q p) own
@@ -148,7 +148,8 @@ follow_or_reach o own (filled head t rest) p h =
       | inr reached ↦ inr (reach o own (offset_of head) p _ (filled head t rest) (lookups rest) refl refl h.0 h.1 reached)
     ]
 
--- if a single section answers, the position is not before its offset, and the answer is that of its map
+-- if a search in the section `s` alone gives `p` the meaning `m`, `p` is not before the offset of `s`, and the map of
+-- `s` has the meaning `m` for `p` relative to this offset
 alone : (s : SectionLookup) (p : ℕ × ℕ) (m : Meaning) → answer_of p (closest_section (s ∷ []) p) ≡ Some m
     → (is_lt (position_cmp p s.0) ≡ false) × (option_map says (s.1 (relative_position s.0 p)) ≡ Some m)
 alone s p m e =
@@ -160,8 +161,8 @@ alone s p m e =
       ]
     ]
 
--- if all later sections are after the position, only the first counts; if a later one is reached, only the
--- later ones count
+-- if all of the sections `ss` are after `p`, the search for `p` can skip `ss`. If `s` is before `p` and the search in
+-- `ss` finds a section, the search can skip `s` (`closest_if_reached`)
 closest_if_followed : (s : SectionLookup) (ss : MapSections) (p : ℕ × ℕ) → Follow (spans ss) p → closest_section (s ∷ lookups ss) p ≡ closest_section (s ∷ []) p
 closest_if_followed s ss p follow = closest_before (λ (s : SectionLookup). s.0) p (s ∷ []) (lookups ss) (lookups_follow p ss follow)
 
@@ -171,7 +172,7 @@ closest_if_reached s own ss p reached =
     closest_of_later (λ (s : SectionLookup). s.0) p (s ∷ []) (lookups ss) (reached.offset, tt)
     ∙ ap (λ c. option_or c (closest_section (s ∷ []) p)) found.1 ∙ sym found.1
 
--- Where the map answers, the flat list answers the same.
+-- Each position with a meaning in an orderly map with sorted tokens has the same meaning in the sorted flat list.
 
 module _ (head : SectionHead) (t : MapTree) (rest : MapSections) (apart : AreApart (spans (filled head t rest))) (p : ℕ × ℕ) (m : Meaning) where
   abbrev block : List Entry
@@ -235,7 +236,6 @@ hollow_answers head rest apart p m later e =
     ]
 
 mutual
-  -- where an orderly map with sorted tokens has a meaning, its sorted flat list has the same
   pub flat_list_answers : (t : MapTree) → HasTokensInOrder t → IsOrderly t → (p : ℕ × ℕ) (m : Meaning) → meaning t p ≡ Some m → answer_in (by_position (flat_list t)) p ≡ Some m
   flat_list_answers (leaf l) ordered orderly p m e =
       ap (λ es. answer_in es p) (meanings_sorted (held l) ordered) ∙ sym (meaning_in (held l) p) ∙ e

@@ -1,4 +1,5 @@
--- Sections that do not overlap: what is after a position, and the order of their offsets.
+-- Sections that do not overlap are sorted by offset. If the first section is after a position, all offsets and tokens
+-- of the sections are after this position.
 use Rattle.std.proofs.Common.{◌≡◌, refl, sym, ap, subst, ℕ, List, [], ◌∷◌, map, false, Option}
 use Rattle.std.specs.List.{AllByRecursion}
 use Rattle.std.specs.Ordering.{is_lt}

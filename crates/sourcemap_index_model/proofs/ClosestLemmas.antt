@@ -42,7 +42,8 @@ module _ {X : Type 0} (key : X → ℕ × ℕ) (p : ℕ × ℕ) where
   none_after [] all = tt
   none_after (x ∷ xs) all = (not_after p (key x) all.0, none_after xs all.1)
 
-  -- if all of `xs` are before the position, one of them is found only if none of `ys` is
+  -- if all of `xs` are before `p`, the closest item of `xs ++ ys` is the closest item of `ys`, or of `xs` if `ys` has
+  -- none
   pub closest_of_later : (xs ys : List X) → AllByRecursion (λ x. IsBefore (key x) p) xs
       → closest_item key position_cmp (xs ++ ys) p ≡ option_or (closest_item key position_cmp ys p) (closest_item key position_cmp xs p)
   closest_of_later xs ys all =

@@ -1,4 +1,5 @@
--- A map is written as at most one record. The record of a well-formed map reads back.
+-- A map is written as at most one record. The record of a well-formed map decodes to a map that restores the written
+-- map (`Restores`).
 use Rattle.std.proofs.Common.{◌≡◌, ◌≢◌, refl, sym, ap, subst, ◌∙◌, ℕ, ◌≤◌, List, [], ◌∷◌, length, map, false, Option, Some, None, option_map, option_and_then, nat_lt, Ok, inl, arith}
 use Rattle.std.proofs.lemmas.Bool.Decides.{nat_tests}
 use Rattle.serde_json.specs.Data.{null, string}
@@ -24,7 +25,7 @@ use Rattle.sourcemap_index_model.specs.WellFormed.{IsWellFormed, IsWellFormedLea
 use Rattle.sourcemap_index_model.proofs.ApartLemmas.{SectionLookup}
 use Rattle.sourcemap_index_model.proofs.SortLemmas.{sorted-of_keys}
 
--- The record is unique.
+-- A map is written as at most one record.
 
 module _ (IsOf : LeafMap → Tree → Type 0) (once : (l : LeafMap) (a b : Tree) → IsOf l a → IsOf l b → a ≡ b) where
   mutual
@@ -58,7 +59,7 @@ module _ {IsOf IsOf' : LeafMap → Tree → Type 0} (weaker : (l : LeafMap) (r :
     sections_written-weaker (hollow head rest) written (xs, is, all) = (xs, is, sections_written-weaker rest xs all)
     sections_written-weaker (filled head t rest) written (r, xs, is, of, all) = (r, xs, is, written-weaker t r of, sections_written-weaker rest xs all)
 
--- No null is written for a file.
+-- In the record of a map, the key `file` never has the value null.
 
 file_not_null : (file : Option (List ℕ)) → option_map string file ≢ Some null
 file_not_null None e = cc
@@ -75,7 +76,7 @@ module _ {IsOf : LeafMap → Tree → Type 0} (fine : (l : LeafMap) (r : Tree) �
     sections_no_null (hollow head rest) written (xs, is, all) = subst HaveNoNullFile (sym is) (sections_no_null rest xs all)
     sections_no_null (filled head t rest) written (r, xs, is, of, all) = subst HaveNoNullFile (sym is) (written_no_null t r of, sections_no_null rest xs all)
 
--- The meaning of an index map by the meanings of its sections.
+-- The meaning of a position in an index map is the meaning that the closest section gives to the position.
 
 abbrev Answering : Type 0
 Answering = (ℕ × ℕ) × (ℕ × ℕ → Option Meaning)

@@ -1,6 +1,7 @@
--- The flattened map. It is well-formed if the index map is. If the tokens of each map are sorted, its tokens
--- have the meanings of the sections' tokens, sorted by position. If the index map is also orderly, each
--- position that has a meaning there has the same in the flattened map.
+-- The flattened map. If the index map is well-formed, the flattened map is well-formed. If the tokens of each map in
+-- the index map are sorted, the flattened map has the positions and meanings of all these tokens, sorted by position.
+-- If the index map is also orderly, each position with a meaning in the index map has the same meaning in the flattened
+-- map.
 use Rattle.std.proofs.Common.{◌≡◌, refl, sym, ap, subst, ◌∙◌, ℕ, zero, suc, ◌≤◌, List, [], ◌∷◌, ◌++◌, append_assoc, length, map, flat_map, Bool, true, false, ◌||◌, if◌then◌else◌, Option, Some, None, option_map, slice_get, IfSome, nat_lt, Result, Ok, Err, codes, arith}
 use Rattle.std.proofs.lemmas.List.{append-nil, map-append}
 use Rattle.std.proofs.lemmas.Option.{slice_get-map, slice_get_past, slice_get_within}
@@ -38,7 +39,7 @@ AreFlattened (hollow head rest) pieces = ⊥
 AreFlattened (filled head t rest) pieces =
     (m : MapValue) × (more : List Piece) × (pieces ≡ (offset_of head, m) ∷ more) × (flat t ≡ Ok m) × AreFlattened rest more
 
--- there is an id for each source and for each name
+-- there are enough ids for the sources, and enough ids for the names
 abbrev pub AreFew : List Piece → Type 0
 AreFew pieces = (length (sources_in pieces) ≤ 4294967295) × (length (names_in pieces) ≤ 4294967295)
 
@@ -91,7 +92,7 @@ index_flattened parts ss m e =
     let same : m ≡ merged parts.file put.0 = let f = put.2 in cc in
     (put.0, same, subst (AreFlattened ss) (sym made.1) made.2, made.3)
 
--- The meaning of a token in the whole.
+-- Each token has the same meaning in the concatenation as in the map of its piece.
 
 present-all : (texts : List (List ℕ)) → present (map Some texts) ≡ texts
 present-all [] = refl
@@ -160,7 +161,7 @@ module _ (file : Option (List ℕ)) (pieces : List Piece) (few : AreFew pieces) 
       sym (sorted_by-change destination position_cmp entry_position position_cmp say_merged (λ s t. refl) (flat_map tokens_of pieces))
       ∙ ap by_position (pieces_say pieces (all_among pieces))
 
-  -- Bounds.
+  -- The concatenation is well-formed if the map of each piece is well-formed.
 
   number_past : (o : Option (List ℕ)) → IsListedIfAny (sources_in pieces) o → length (sources_in pieces) ≤ number_in (sources_in pieces) o → o ≡ None
   number_past None h past = refl
@@ -197,7 +198,7 @@ module _ (file : Option (List ℕ)) (pieces : List Piece) (few : AreFew pieces) 
       AllWithin-in_order (length (sources_in pieces)) (length (names_in pieces)) (flat_map tokens_of pieces)
       (All-flat_map (IsWithin (length (sources_in pieces)) (length (names_in pieces))) tokens_of pieces (pieces_within pieces (all_among pieces) all))
 
--- The meanings of the flattened map's tokens are the flat list, sorted stably.
+-- The tokens of the flattened map have the positions and meanings in the flat list, sorted stably by position.
 
 abbrev absolute_meaning : Piece → List Entry
 absolute_meaning piece = map (absolute_entry piece.0) (token_meanings piece.1)
@@ -243,7 +244,7 @@ mutual
   pieces_well (filled head t rest) pieces well (m, more, is, flat_is, made) =
       subst (AllByRecursion (λ (piece : Piece). IsWellFormedRegular piece.1)) (sym is) (flat_well t m well.0 flat_is, pieces_well rest more well.1 made)
 
--- Where an orderly map with sorted tokens has a meaning, its flattened map has the same.
+-- Each position with a meaning in an orderly map with sorted tokens has the same meaning in the flattened map.
 
 pub flat_answers : (t : MapTree) (m : MapValue) → HasTokensInOrder t → IsOrderly t → flat t ≡ Ok m → AnswersLike t m
 flat_answers t m ordered orderly e p = by_case (meaning t p) refl

@@ -18,7 +18,7 @@ section_list-from (s ∷ ss) = by_case s.map ∙ ap (λ rest. s ∷ rest) (secti
     by_case (Some t) = refl
 
 module _ (OfMap : LeafMap → Type 0) (OfSections : MapSections → Type 0) where
-  -- the facts hold at each level of the section's map, if it has one
+  -- `OfMap` and `OfSections` hold at each level of the map of `s`, if `s` has a map
   abbrev pub InSection : MapSection → Type 0
   InSection s = IfSome s.map (λ t. AtEachLevel OfMap OfSections t)
 

@@ -14,7 +14,7 @@ use Rattle.sourcemap_map_encode.proofs.BufferedLemmas.{Grows-join}
 abbrev pub IsListed : List Data → List Data → Bool → List ℕ → Type 0
 IsListed all left later done = done ++ items_text later (items_of left) ≡ compact_text (array (items_of all))
 
--- a comma if an item precedes, and an item
+-- once the item `d` is written, after a comma if an item precedes, only the items `left` remain
 pub listed-more : (all left : List Data) (d : Data) (later : Bool) (h i j k : Option (List ℕ)) (a b c e : List ℕ)
     → GrowsBy (IsListed all (d ∷ left) later) h a i b → Grows i b j c (comma_if later) → Grows j c k e (compact_text d)
     → GrowsBy (IsListed all left true) h a k e
@@ -25,7 +25,7 @@ listed-more all left d later h i j k a b c e (done, is, x) y z = (
   Grows-join h j k a c e (done ++ comma_if later) (compact_text d) (Grows-join h i j a b c done (comma_if later) x y) z,
 )
 
--- the end of the list
+-- after the last item, a `]` completes the text of the list `all`
 pub listed-end : (all : List Data) (later : Bool) (h i j : Option (List ℕ)) (a b c : List ℕ)
     → GrowsBy (IsListed all [] later) h a i b → Grows i b j c (93 ∷ []) → Grows h a j c (compact_text (array (items_of all)))
 listed-end all later h i j a b c (done, is, x) y =

@@ -1,4 +1,5 @@
--- The members of a record, sorted by key: their text, and that it reads back.
+-- The members of a map's record are sorted by key. If each value is plain, the text of the members is the JSON text of
+-- the record (`IsText`).
 use Rattle.std.proofs.Common.{◌≡◌, if◌then◌else◌, ◌==◌, ℕ, ◌<◌, ◌^◌, List, [], ◌∷◌, ◌++◌, length, map, Bool, true, false, ◌||◌, ◌&&◌, codes, is_some, Option, Some, None, option_map, refl, sym, ap, subst, ◌∙◌, append_assoc, append-nil, arith}
 use Rattle.std.specs.List.{AllByRecursion, list_any}
 use Rattle.std.specs.Str.{IsUtf8}
@@ -33,7 +34,7 @@ abbrev pub chain : List Entry → Members
 chain [] = no_members
 chain (e ∷ es) = member_if e.0 e.1 (chain es)
 
--- a key comes after that of an entry, and before it
+-- `Past key e`: `key` is greater than the key of `e`. `Before key e`: `key` is less than the key of `e`
 abbrev Past : List ℕ → Entry → Type 0
 Past key e = slice_cmp nat_cmp key e.0 ≡ Greater
 
@@ -54,7 +55,7 @@ skip key l None p ms past = refl
 skip key l (Some d) None ms past = refl
 skip key l (Some d) (Some e) ms past = rw past refl
 
--- an entry is inserted between those of lesser and of greater keys
+-- an entry is inserted after the entries with lesser keys and before the entries with greater keys
 between : (key : List ℕ) (o : Option Data) (left right : List Entry) → AllByRecursion (Past key) left → AllByRecursion (Before key) right
     → put_if key o (chain (left ++ right)) ≡ chain (left ++ (key, o) ∷ right)
 between key o [] right past before = first key o right before
@@ -151,7 +152,8 @@ later_after_tokens : (later : Bool) (m : MapValue) (mappings : List ℕ) (ranges
 later_after_tokens true m mappings ranges = refl
 later_after_tokens false m mappings ranges = refl
 
--- concatenating the parts of a map's text
+-- the texts of the leading, token and source entries and of `version`, concatenated, are the text of all entries.
+-- `later` is true exactly if a leading entry has a value
 pub parts_joined : (later : Bool) (m : MapValue) (mappings : List ℕ) (ranges : Option (List ℕ)) → later ≡ later_after false (leading_entries m)
     → parts_text false (leading_entries m) ++ (parts_text later (token_entries m mappings ranges) ++ (parts_text true (source_entries m) ++ part true version_entry))
     ≡ parts_text false (map_entries m mappings ranges)
@@ -246,7 +248,7 @@ plain_written m mappings ranges fine =
     subst (λ (ms : Members). IsPlainValue (object ms)) (sym (members_are m mappings ranges))
     (plain_object (chain (map_entries m mappings ranges)) (plain_chain [] (map_entries m mappings ranges) refl refl fine))
 
--- the text of the parts is that of the record
+-- if each entry is plain, the texts of the entries between `{` and `}` are the JSON text of the record
 pub text_is : (m : MapValue) (mappings : List ℕ) (ranges : Option (List ℕ)) (text : List ℕ)
     → AllByRecursion IsPlainEntry (map_entries m mappings ranges) → text ≡ 123 ∷ (parts_text false (map_entries m mappings ranges) ++ 125 ∷ [])
     → IsText (plain (record_with m mappings ranges)) text

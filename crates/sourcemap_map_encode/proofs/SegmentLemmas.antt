@@ -28,7 +28,8 @@ gap-plain previous line t = by (follows previous t)
     by true = comma-plain
     by false = ends-plain (t.dst_line - line)
 
--- the separators and the segment of a token
+-- three steps write `between` and the digits of `ns`: `between` is written, the digits are appended to the buffer, and
+-- the buffer may be flushed
 pub token-grown : (h i j : Option (List ℕ)) (a b c d between : List ℕ) (ns : List ℤ)
     → Grows h a i b between → Adds ns b c → Grows i c j d [] → GrowsBy (Adds ns between) h a j d
 token-grown h i j a b c d between ns x adds y = (
@@ -42,7 +43,8 @@ pub record Written (names : ℕ) (done : List RawToken) (previous : Option RawTo
   pub writing : Writing names done previous against text
   pub is_plain : IsPlainText text
 
--- and the segment of one more token
+-- let `t` not repeat `previous`. The mappings of `done`, then the separators and the segment of `t`, are the mappings
+-- of `done ++ t ∷ []`
 pub token-put : (names : ℕ) (done : List RawToken) (previous : Option RawToken) (against : RawToken) (t : RawToken) (h i j : Option (List ℕ)) (a b c : List ℕ)
     → repeats previous t ≡ false → against.dst_line ≤ t.dst_line → IsSmall t
     → GrowsBy (Written names done previous against) h a i b
@@ -72,7 +74,6 @@ pub repeat-put : (names : ℕ) (done : List RawToken) (previous : Option RawToke
 repeat-put names done previous against t h i a b again (text, w, x) =
     (text, record { writing = Writing-repeat names done previous against text t again w.writing; is_plain = w.is_plain }, x)
 
--- equal values may be exchanged
 pub put-carried : (names : ℕ) (done more : List RawToken) (previous : Option RawToken) (against other : RawToken) (h i j : Option (List ℕ)) (a b c : List ℕ)
     → more ≡ done → other ≡ against → j ≡ i → c ≡ b
     → GrowsBy (Written names done previous against) h a i b → GrowsBy (Written names more previous other) h a j c
@@ -82,7 +83,7 @@ put-carried names done more previous against other h i j a b c e f k l w =
     (subst (λ (known : Option (List ℕ)). GrowsBy (Written names done previous against) h a known c) (sym k)
     (subst (λ (r : List ℕ). GrowsBy (Written names done previous against) h a i r) (sym l) w)))
 
--- after all tokens, the text is that of their mappings
+-- if `tokens` are in order and all are written, the text is the `mappings` text of `tokens` (`IsMappingsText`)
 pub all-put : (names : ℕ) (tokens : List RawToken) (previous : Option RawToken) (against : RawToken) (h i : Option (List ℕ)) (a b : List ℕ)
     → names < 2 ^ 32 → AreInOrder tokens → GrowsBy (Written names tokens previous against) h a i b → GrowsBy (IsMappingsText names tokens) h a i b
 all-put names tokens previous against h i a b few order (text, w, x) =
@@ -98,7 +99,7 @@ all-put names tokens previous against h i a b few order (text, w, x) =
       x,
     )
 
--- the bits of a line and its line ends
+-- if `bits` is appended to the buffer and `ends` semicolons follow, the text written is a line of bits
 pub line-grown : (h i : Option (List ℕ)) (a b c bits : List ℕ) (flags : List Bool) (ends : ℕ)
     → IsBitText flags bits → b ≡ a ++ bits → Grows h b i c (replicate ends semicolon) → GrowsBy (IsLineOfBits flags ends) h a i c
 line-grown h i a b c bits flags ends is pushed y = (
@@ -120,7 +121,8 @@ none-ranged flags held gathered e =
     subst (λ (fs : List Bool). GrowsBy (Ranged 0 [] fs) held gathered held gathered) (sym e)
     ([], record { ranging = Ranging-none; is_plain = tt }, Grows-none held gathered)
 
--- step to a later line
+-- let no token of `done` be after `line`. If the bits of `line` and `n - line` line ends are written, the text has the
+-- range bits of all lines before `n`
 pub turn-ranged : (line n : ℕ) (done : List RawToken) (flags : List Bool) (h i j : Option (List ℕ)) (a b c : List ℕ)
     → line < n → UpTo line (without_repeats done) → GrowsBy (Ranged line done flags) h a i b → GrowsBy (IsLineOfBits flags (n - line)) i b j c
     → GrowsBy (Ranged n done []) h a j c
@@ -168,7 +170,7 @@ all-ranged line tokens previous flags h i j a b c walked (text, w, x) (more, is,
       Grows-join h i j a b c text more x y,
     )
 
--- a member whose string needs no escapes
+-- the key, a quote, a string that needs no escapes, and a quote are the text of a member
 pub member-grown : (later : Bool) (key : List ℕ) (IsText : List ℕ → Type 0) → ((t : List ℕ) → IsText t → IsPlainText t)
     → (h i j k l : Option (List ℕ)) (a b c d e : List ℕ)
     → Grows h a i b (key_text later key) → Grows i b j c (34 ∷ []) → GrowsBy IsText j c k d → Grows k d l e (34 ∷ [])

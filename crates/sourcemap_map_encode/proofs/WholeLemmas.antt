@@ -1,4 +1,5 @@
--- The parts of a map's text are the text of its record, which reads back.
+-- The parts of a map's text together are the JSON text of the map's record (`IsEncoded`). If the map is well-formed,
+-- this record reads back.
 use Rattle.std.proofs.Common.{◌≡◌, ◌≢◌, ℕ, ◌≤◌, ◌==◌, List, [], ◌∷◌, ◌++◌, length, Bool, true, false, if◌then◌else◌, Option, Some, None, option_map, IfSome, Ok, refl, sym, ap, subst, ◌∙◌, append_assoc, arith}
 use Rattle.std.specs.List.{AllByRecursion}
 use Rattle.serde_json.specs.Data.{null, string}
@@ -40,7 +41,7 @@ fine_record m mappings ranges sound = (
 regrouped : (h t s v e : List ℕ) → h ++ (t ++ (s ++ (v ++ e))) ≡ (h ++ (t ++ (s ++ v))) ++ e
 regrouped h t s v e = sym (append_assoc h (t ++ (s ++ v)) e ∙ ap (λ r. h ++ r) (append_assoc t (s ++ v) e ∙ ap (λ r. t ++ r) (append_assoc s v e)))
 
--- the whole text
+-- the JSON text of the record of `m`, with `tokens` as the text of the members `mappings`, `names` and `rangeMappings`
 abbrev pub whole_of : MapValue → List ℕ → List ℕ
 whole_of m tokens = (123 ∷ []) ++ (parts_text false (leading_entries m) ++ (tokens ++ (parts_text true (source_entries m) ++ (part true version_entry ++ (125 ∷ [])))))
 

@@ -1,5 +1,5 @@
--- A text is UTF-8 exactly if the parts on both sides of a newline are. The lines up to the first one with a
--- mark decide its reference.
+-- A text is UTF-8 exactly if the text before a newline and the text after the newline are both UTF-8. The lines up to
+-- the first line with a mark decide the reference of the text.
 use Rattle.std.proofs.Common.{◌≡◌, refl, sym, ap, subst, ◌∙◌, ℕ, zero, suc, ◌+◌, ◌-◌, ◌<◌, ◌≤◌, Bool, true, false, ◌&&◌, if◌then◌else◌, List, [], ◌∷◌, ◌++◌, MatchOption, Option, None, Some, is_some, option_map, length, take, drop, get_or, nat_lt, slice_range, arith, append_assoc, IsUtf8}
 use Rattle.std.proofs.lemmas.Bool.{and_parts, eqb-true, and_from, false_from_ne_true}
 use Rattle.std.specs.Cmp.{both_ways}
@@ -100,8 +100,8 @@ line_counts false found later some = refl
 
 -- ---- lines without a mark
 
--- what holds of an index if the bytes before it are lines without a reference. If these bytes are UTF-8,
--- `first_reference` of the text is that of the bytes from the index on. Otherwise it is `None`
+-- what holds of `start` if the bytes before `start` are lines without a mark. If these bytes are UTF-8, `text` and the
+-- bytes from `start` on have the same `first_reference`. Otherwise `first_reference` of `text` is `None`
 pub record IsPassed (text : List ℕ) (start : ℕ) : Type 0 where
   pub within : start ≤ length text
   pub parts : (later : List ℕ) → is_utf8 (take start text ++ later) ≡ (is_utf8 (take start text) && is_utf8 later)
@@ -183,7 +183,7 @@ passed-line text start end passed ends none inside =
           ∙ ap (λ b. if b then first_reference (drop (end + 1) text) else None) (sym same);
     }
 
--- if no line before has a mark, and the line that ends here has none, no line so far has one
+-- if no line before `start` has a mark, and the line from `start` to `end` has no mark, no line up to `end` has a mark
 pub unmarked : (text : List ℕ) (start end : ℕ) → IsPassed text start → EndsAt text start end → is_some (reference_on (slice_range text start end)) ≡ false
     → AreUnmarked text end
 unmarked text start end passed ends none = record { within = ends.within; left = left-after text start end passed ends none }

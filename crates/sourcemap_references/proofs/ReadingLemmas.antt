@@ -36,7 +36,8 @@ first_piece-cons x y ys other =
     let more : take_through 10 (x ∷ y ∷ ys) ≡ x ∷ take_through 10 (y ∷ ys) = rw other refl in
     ap (strip_last 10) (more ∙ ap (λ zs. x ∷ zs) next.1) ∙ strip_last-cons x y next.0 ∙ ap (λ zs. x ∷ strip_last 10 zs) (sym next.1)
 
--- the first line and the others, if there are any
+-- a nonempty `text` without a newline is one line. Otherwise the lines are the first line, then the lines of the text
+-- after the first newline
 lines_through : (text : List ℕ) → 0 < length text
     → (text_lines text ≡ first_piece 10 text ∷ text_lines (drop_through 10 text)) ⊎ ((text_lines text ≡ first_piece 10 text ∷ []) × (drop_through 10 text ≡ []))
 lines_through [] some = absurd (omega arith)
@@ -94,7 +95,8 @@ reads_line (Some text) left old all line fresh is drops some piece =
 
 -- ---- the lines so far
 
--- the bytes left decide the reference of all bytes
+-- `known` has the bytes of the reader at the start, and `left` has the bytes that remain. If `known` is not `None`,
+-- both have the same `first_reference`
 abbrev pub HasLeft : Option (List ℕ) → Option (List ℕ) → Type 0
 HasLeft known left = IfSome known (λ text. (rest : List ℕ) × (left ≡ Some rest) × (first_reference text ≡ first_reference rest))
 

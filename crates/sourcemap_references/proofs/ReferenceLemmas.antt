@@ -1,4 +1,4 @@
--- The rest after a mark, and the line that decides the reference of a text.
+-- In a UTF-8 text a mark ends at a char boundary, and the first line with a mark decides the reference of the text.
 use Rattle.std.proofs.Common.{◌≡◌, refl, sym, ap, ◌∙◌, ℕ, true, false, if◌then◌else◌, List, Option, None, Some, is_some, Result, Ok, Err, length, take, drop, get_or, codes, option_map, arith, inl, inr, IsUtf8, nat_eq, min, ◌-◌, slice_range}
 use Rattle.std.proofs.lemmas.Bool.{cases_Bool, false_from_ne_true}
 use Rattle.std.proofs.lemmas.List.{get_or-take, length-take}
@@ -55,14 +55,15 @@ pub not_utf8_due : (bytes : List ℕ) (due all : Option (Option Reference)) → 
     → UnlessMemory e ((all ≡ None) × IsInvalidData e)
 not_utf8_due bytes due all is not_utf8 e invalid = UnlessMemory-from e (is ∙ if_text-none bytes due not_utf8, invalid)
 
--- bytes that are not UTF-8, before any line with a mark
+-- if no line up to `end` has a mark, and the text up to `end` is not UTF-8, `first_reference` of `text` is `None`
 pub not_utf8_before : (text : List ℕ) (end : ℕ) → AreUnmarked text end → ¬ IsUtf8 (take end text) → first_reference text ≡ None
 not_utf8_before text end lines not_utf8 = lines.left ∙ if_text-none (take end text) _ not_utf8
 
 pub range_from_start : (text : List ℕ) (end : ℕ) → slice_range text 0 end ≡ take end text
 range_from_start text end = let all : end - 0 ≡ end = omega arith in ap (λ n. take n text) all
 
--- the result for the first line with a mark
+-- if `line` is the first line with a mark, and the text up to `line.end` is UTF-8, the reference on `line` is the
+-- result for all of `text`
 pub decided : (text front part : List ℕ) (line : Line) (result : Result (Option SourceMapRef) Error) → IsFirstMarked text line → front ≡ take line.end text
     → IsUtf8 front → part ≡ drop line.start front → Gives (option_map reference) result (Ok (reference_on part)) → Locates result (first_reference text)
 decided text front part line result decides is utf8 rest gives =

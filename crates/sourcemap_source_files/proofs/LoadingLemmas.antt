@@ -49,7 +49,8 @@ Fills-same folder sources items = record {
   no : {item : Option (List ℕ)} → item ≡ None → IsSome item → ⊥
   no none some = cc
 
--- an item that is unchanged so far is set: an existing one stays, and a new one has a file
+-- `Fills` still holds after `item` is set at `id`, if `after` was unchanged at `id`. If `before` has an item at `id`,
+-- `item` must be the same. If `before` has none and `item` is not `None`, source `id` must have a path (`file_of`)
 pub Fills-set : (folder : List ℕ) (sources : List (List ℕ)) (before after : List (Option (List ℕ))) (id : ℕ) (item : Option (List ℕ))
     → Fills folder sources before after → id < length after → item_at after id ≡ item_at before id
     → (IsSome (item_at before id) → item ≡ item_at before id)
@@ -142,7 +143,7 @@ abbrev ok_or_none : Result (Option (List ℕ)) Error → Option (List ℕ)
 ok_or_none (Ok folder) = folder
 ok_or_none (Err _) = None
 
--- the folder that was found is the one that is due
+-- if the result of a call must be `due`, and the call found `folder`, then `due` is the text of `folder`
 pub folder_is_due : {X : Type 0} (view : X → List ℕ) (due : Option (List ℕ)) (found : Option X) (folder : X) (text : List ℕ) → Gives (option_map view) (Ok found) (Ok due) → found ≡ Some folder → text ≡ view folder → due ≡ Some text
 folder_is_due view due found folder text e f t = ap ok_or_none e ∙ ap (option_map view) f ∙ ap Some (sym t)
 

@@ -1,4 +1,4 @@
--- A charset in the first of both spellings.
+-- If the text begins with `;charset=utf8`, the result is the rest of the text.
 use Rattle.std.proofs.Common.{rules}
 use Rattle.sourcemap_headers.proofs.data_url.without_charset.Goals as goal
 

@@ -1,4 +1,4 @@
--- The answer for bytes is that of the record that they hold.
+-- Bytes decode to what their record decodes to.
 use Rattle.std.proofs.lemmas.Result.{err_from_is_err_and}
 use Rattle.sourcemap_records.specs.Jsontypes.{tree}
 use Rattle.sourcemap_records.proofs.BytesLemmas.{answer_of_bytes, error_of_bytes}

@@ -1,4 +1,4 @@
--- The answer for a value is that of the record that it stands for.
+-- A JSON value decodes to what its record decodes to.
 use Rattle.std.proofs.lemmas.Result.{err_from_is_err_and}
 use Rattle.serde_json.specs.View.{view}
 use Rattle.sourcemap_records.specs.Jsontypes.{tree}

@@ -20,8 +20,8 @@ decreases-decode_sections l = 4 * sections_among (sections_from (map section l.s
 abbrev pub decreases-decode_section : goal.decreases-decode_section
 decreases-decode_section l = 4 * sections_at (section l.part).map + 1
 
--- the answer for the sections that are left, after those that were decoded, is the answer for all; those
--- that are left hold no more sections than all do
+-- if the remaining sections decode to `a`, all sections decode to `a` with the decoded sections in front (`prepend`).
+-- The count `sections_among` of the remaining sections is at most the count of all sections
 abbrev pub invariant-decode_sections-loop-part : goal.invariant-decode_sections-loop-part
 invariant-decode_sections-loop-part l = record {
   decoded : (a : Result (List MapSection) Error) → SectionsDecode (sections_from (map section (into_iter_items l.part-iterator))) a

@@ -1,4 +1,5 @@
--- A record with scopes of its sources is that of a Hermes map.
+-- The error for a record with `x_facebook_sources` is the error of `decode_hermes`. The error for any other record is
+-- the error of `decode_regular`.
 use Rattle.std.proofs.Common.{◌∙◌, sym}
 use Rattle.std.proofs.lemmas.Result.{err_from_is_err_and}
 use Rattle.sourcemap_records.specs.Jsontypes.{flat, tree}

@@ -1,4 +1,4 @@
--- The record of each section has the section's index.
+-- The list of records has one record for each section, in the order of the sections.
 use Rattle.std.proofs.Common.{◌≡◌, ◌∙◌, sym, subst, [], map}
 use Rattle.std.specs.Vec.Iter.{into_iter_items}
 use Rattle.std.proofs.lemmas.List.{append-nil, nil_from_length}

@@ -1,4 +1,4 @@
--- The record of each section has the section's index.
+-- The list of records has one record for each section, in the order of the sections.
 use Rattle.std.proofs.Common.{◌≡◌, ◌∙◌, sym, ap, subst, arith, ◌+◌, ◌++◌, [], ◌∷◌, map, take}
 use Rattle.std.proofs.lemmas.List.{map-append, take_more, take_all}
 use Rattle.sourcemap_records.specs.Jsontypes.{section}

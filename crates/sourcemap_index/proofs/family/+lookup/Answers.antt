@@ -1,4 +1,5 @@
--- The lookup in an index is the lookup in the map of its closest section.
+-- If the sections at every level are sorted, the lookup of a position in an index map is the lookup in the map of the
+-- section closest to this position.
 use Rattle.std.proofs.Common.{◌≡◌, ◌∙◌, sym, ap, subst, ℕ, arith, None, Some, option_map, IfSome}
 use Rattle.sourcemap_map_regular.specs.Token.{token_value}
 use Rattle.sourcemap_index_model.specs.MapTree.{section_offset}

@@ -7,14 +7,14 @@ use Rattle.sourcemap_map_encode.specs.declared.buffered.TheConstants.{LINE_ENDS}
 use Rattle.sourcemap_map_encode.proofs.BufferedLemmas.{Grows-join, Grows-push, Grows-written, more_copies}
 use Rattle.sourcemap_map_encode.proofs.buffered.put_line_ends.Goals as goal
 
--- more line ends are written
+-- writing `m` line ends and then `n` line ends writes `m + n` line ends
 more_ends : (h i j : Option (List ℕ)) (a b c more : List ℕ) (m n k : ℕ) → m + n ≡ k → more ≡ replicate n semicolon
     → Grows h a i b (replicate m semicolon) → Grows i b j c more → Grows h a j c (replicate k semicolon)
 more_ends h i j a b c more m n k sum is x y =
     subst (λ (t : List ℕ). Grows h a j c t) (ap (λ t. replicate m semicolon ++ t) is ∙ more_copies m n semicolon ∙ ap (λ l. replicate l semicolon) sum)
     (Grows-join h i j a b c (replicate m semicolon) more x y)
 
--- writing directly while the buffer is empty, by an equation for the buffer
+-- if the buffer `b` is empty, `text` may be written directly to the writer
 through_empty : (i j : Option (List ℕ)) (b text : List ℕ) → b ≡ [] → Appends i j text → Grows i b j b text
 through_empty i j b text is x = subst (λ (r : List ℕ). Grows i r j r text) (sym is) (Grows-written i j text x)
 

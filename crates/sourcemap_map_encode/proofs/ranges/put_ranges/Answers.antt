@@ -17,7 +17,6 @@ loop-token-init g c = record {
   ranged = none-ranged c.new-flags.result.items (g.W.Write.contents c.args.writer.now) (string_bytes c.args.buffer.now) c.new-flags.ensures.items;
 }
 
--- equal flags and equal counts of lines may be exchanged
 line_of : (flags others : List Bool) (ends lines : ℕ) (h i : Option (List ℕ)) (a b : List ℕ) → flags ≡ others → ends ≡ lines
     → GrowsBy (IsLineOfBits flags ends) h a i b → GrowsBy (IsLineOfBits others lines) h a i b
 line_of flags others ends lines h i a b e f x =

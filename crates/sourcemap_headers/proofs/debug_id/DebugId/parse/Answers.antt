@@ -1,4 +1,4 @@
--- Texts of 32 or 36 bytes: the parser of UUIDs accepts them or not.
+-- For a text of 32 or 36 bytes, the parser of UUIDs decides the result of `parse`.
 use Rattle.std.proofs.Common.{true≢false, sym, rules}
 use Rattle.sourcemap_headers.proofs.DebugIdLemmas.{not_parsed}
 use Rattle.sourcemap_headers.proofs.debug_id.DebugId.parse.Goals as goal

@@ -1,4 +1,4 @@
--- The map is that of `decode`. Saying so here makes a wrong body fail fast.
+-- `from_reader` returns the result of `decode`. The proof is spelled out so that a wrong body is refused fast.
 use Rattle.sourcemap_index.proofs.family.DecodedMap.from_reader.Goals as goal
 
 pub returns-clause-answer : goal.returns-clause-answer

@@ -1,4 +1,4 @@
--- A value has one answer.
+-- Unless memory runs out, the JSON value determines the result.
 use Rattle.serde_json.specs.View.{view}
 use Rattle.sourcemap_index.proofs.DecodeLemmas.{value_only}
 use Rattle.sourcemap_index.proofs.family.DecodedMap.from_value.Goals as goal

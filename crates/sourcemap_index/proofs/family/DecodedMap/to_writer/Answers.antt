@@ -1,4 +1,4 @@
--- The text is that of `encode`. Saying so here makes a wrong body fail fast.
+-- `to_writer` writes the text that `encode` writes. The proof is spelled out so that a wrong body is refused fast.
 use Rattle.sourcemap_index.proofs.family.DecodedMap.to_writer.Goals as goal
 
 pub returns-clause-encoded : goal.returns-clause-encoded

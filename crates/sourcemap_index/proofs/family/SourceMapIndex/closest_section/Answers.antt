@@ -1,4 +1,4 @@
--- The search over the sections finds the closest one, if they are sorted.
+-- If the sections are sorted by offset, `closest_section` returns the section closest to the position.
 use Rattle.std.proofs.Common.{◌∙◌, sym, ap, subst, ℕ, Some, None, option_map, slice_get, IsSortedByKey}
 use Rattle.std.proofs.lemmas.Option.{slice_get-map}
 use Rattle.sourcemap_tokens.specs.Search.{closest, closest_item}

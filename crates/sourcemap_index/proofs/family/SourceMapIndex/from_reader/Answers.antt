@@ -1,4 +1,4 @@
--- The bytes that were read are the reader's.
+-- A reader decodes to what its bytes decode to, unless a read fails or memory runs out.
 use Rattle.std.proofs.lemmas.Result.{err_from_is_err_and}
 use Rattle.sourcemap_records.specs.Bytes.{BytesHaveResult}
 use Rattle.sourcemap_records.proofs.BytesLemmas.{answer_of_reader, error_of_reader, reader_only}

@@ -1,4 +1,4 @@
--- A section of the list.
+-- The returned section is the section at the index `id` of the list, if there is one.
 use Rattle.std.proofs.Common.{◌∙◌, sym, ap, slice_get, map}
 use Rattle.sourcemap_index.proofs.FamilyLemmas.{index-out, item_seen}
 use Rattle.sourcemap_index.specs.Family.{section_value}

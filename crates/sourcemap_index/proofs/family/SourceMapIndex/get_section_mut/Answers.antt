@@ -1,4 +1,5 @@
--- The section is that of the list, and what is written to it replaces it there.
+-- The borrowed section is section `id` of the index map. When the borrow ends, section `id` has the value of the
+-- borrowed section, and all else is unchanged.
 use Rattle.std.proofs.Common.{refl, ◌∙◌, sym, ap, slice_get}
 use Rattle.sourcemap_index.proofs.FamilyLemmas.{index-out, index_same, item_seen, on_some, section_put}
 use Rattle.sourcemap_index.specs.Family.{section_value}
