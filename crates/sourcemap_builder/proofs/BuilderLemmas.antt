@@ -9,7 +9,7 @@ use Rattle.sourcemap_builder.specs.Builder.{with_changes}
 use Rattle.sourcemap_map_parts.specs.Contents.{fitted}
 use Rattle.sourcemap_map_parts.proofs.ContentsLemmas.{length-fitted}
 
--- if there are no more changes than texts, texts that are appended are not replaced
+-- if `cs` is not longer than `ts`, no change applies to the texts `us` that are appended to `ts`
 pub with_changes-append : (cs : List (Option (List ℕ))) (ts us : List (List ℕ)) → length cs ≤ length ts → with_changes cs (ts ++ us) ≡ with_changes cs ts ++ us
 with_changes-append [] [] [] h = refl
 with_changes-append [] [] (u ∷ us) h = refl
@@ -36,15 +36,16 @@ with_changes-set (c ∷ cs) [] i x h = refl
 with_changes-set (c ∷ cs) (t ∷ ts) zero x h = refl
 with_changes-set (c ∷ cs) (t ∷ ts) (suc i) x h = ap (λ rest. unwrap_or c t ∷ rest) (with_changes-set cs ts i x (omega arith))
 
--- setting a change replaces the text at its index; the list of changes is cut or filled to the length first
+-- setting the change at an index `i` of `ts` to `x` sets the changed text at `i` to `x`. The list of changes is first
+-- cut or filled to the length of `ts`
 pub with_changes-put : (cs : List (Option (List ℕ))) (ts : List (List ℕ)) (i : ℕ) (x : List ℕ) → i < length ts → length (fitted (length ts) cs) ≡ length ts
     → with_changes (slice_set (fitted (length ts) cs) i (Some x)) ts ≡ slice_set (with_changes cs ts) i x
 with_changes-put cs ts i x h full =
     with_changes-set (fitted (length ts) cs) ts i x (omega (arith, full))
     ∙ ap (λ current. slice_set current i x) (with_changes-filled cs ts (length ts) (length ts) (omega arith) (omega arith))
 
--- if there are at most as many changes as texts: the text at an index is the change there, if there is one, otherwise
--- the text that was there
+-- if `cs` is not longer than `ts`: the text of `with_changes cs ts` at `i` is the text of `cs` at `i`, if `cs` has one,
+-- otherwise the text of `ts` at `i`
 pub slice_get-with_changes : (cs : List (Option (List ℕ))) (ts : List (List ℕ)) (i : ℕ) → length cs ≤ length ts
     → slice_get (with_changes cs ts) i ≡ option_or (option_and_then (λ text. text) (slice_get cs i)) (slice_get ts i)
 slice_get-with_changes [] [] zero h = refl
@@ -81,7 +82,7 @@ with_changes-kept [] (t ∷ []) = refl
 with_changes-kept [] (t ∷ u ∷ us) = refl
 with_changes-kept (c ∷ cs) (t ∷ ts) = ap (λ rest. unwrap_or c t ∷ rest) (with_changes-kept cs ts)
 
--- a `Some` at the end of the changes replaces the text at its index
+-- if `i` is the length of `cs` and an index of `ts`: appending `Some x` to `cs` acts like setting `ts` at `i` to `x`
 pub with_changes-last : (cs : List (Option (List ℕ))) (ts : List (List ℕ)) (i : ℕ) (x : List ℕ) → length cs ≡ i → i < length ts
     → with_changes cs (slice_set ts i x) ≡ with_changes (cs ++ Some x ∷ []) ts
 with_changes-last cs [] i x e h = absurd (omega arith)
@@ -114,7 +115,7 @@ pub nothing-changed : (cs : List (Option (List ℕ))) (ts : List (List ℕ)) →
 nothing-changed [] ts e = with_changes-nothing ts
 nothing-changed (c ∷ cs) ts e = absurd (omega arith)
 
--- if there is a text at an index, the current one is its change, or else the text itself
+-- if `ts` has `t` at `i`: the text of `with_changes cs ts` at `i` is the text of `cs` at `i`, or `t` if `cs` has none
 current-at : (cs : List (Option (List ℕ))) (ts : List (List ℕ)) (i : ℕ) (t : List ℕ) → slice_get ts i ≡ Some t
     → slice_get (with_changes cs ts) i ≡ Some (unwrap_or (option_and_then (λ text. text) (slice_get cs i)) t)
 current-at cs [] i t e = cc
@@ -141,8 +142,9 @@ module _ (f : List ℕ → List ℕ) where
       let more = further cs us vs i new t s (omega arith) at here is rest in
       cc
 
-  -- if the new changes turn the first `i` texts into what a function makes of the current ones, one more
-  -- change does so for the first `i + 1`
+  -- the wanted texts are the results of `f` for the texts of `with_changes olds ts`. If the `i` changes `news` make the
+  -- first `i` wanted texts from `ts`, and `new` makes the wanted text at `i`, then `news` and `new` together make the
+  -- first `i + 1` wanted texts
   pub with_changes-further : (news olds : List (Option (List ℕ))) (ts : List (List ℕ)) (i : ℕ) (new : Option (List ℕ)) (t : List ℕ)
       → length news ≡ i → slice_get ts i ≡ Some t
       → unwrap_or new t ≡ f (unwrap_or (option_and_then (λ text. text) (slice_get olds i)) t)
@@ -151,7 +153,7 @@ module _ (f : List ℕ → List ℕ) where
   with_changes-further news olds ts i new t many at is h =
       rw add-one (further news ts (with_changes olds ts) i new t _ many at (current-at olds ts i t at) is h)
 
-  -- if `i` is past the last text, they do so for all texts
+  -- if `ts` has at most `i` texts, the equality for the first `i` texts holds for all texts
   pub with_changes-through : (news olds : List (Option (List ℕ))) (ts : List (List ℕ)) (i : ℕ) → length ts ≤ i
       → with_changes news (take i ts) ≡ take i (map f (with_changes olds ts)) → map f (with_changes olds ts) ≡ with_changes news ts
   with_changes-through news olds ts i past h =

@@ -20,7 +20,7 @@ some_more : (o : Option (List ℕ)) (P Q : List ℕ → Type 0) → ((x : List �
 some_more (Some x) P Q f h = f x h
 some_more None P Q f h = h
 
--- the clauses of loading, restated for the value of the builder
+-- the lemmas turn facts about the loaded list of contents into facts about the builder with this list
 module _ (old : BuilderValue) (texts : List (List ℕ)) (many : ℕ) (before loaded after : List (Option (List ℕ)))
     (are_texts : texts ≡ old.interned) (are_many : many ≡ length old.sources) (was : before ≡ old.contents) (is : after ≡ loaded) where
   fills : (folder : List ℕ) → Fills folder texts (fitted many before) loaded → Loads folder old (record old { contents = after })

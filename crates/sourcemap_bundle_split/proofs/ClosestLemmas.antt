@@ -6,7 +6,7 @@ use Rattle.std.specs.Ordering.{is_lt, is_eq}
 use Rattle.std.specs.declared.cmp.Ordering.{Ordering}
 use Rattle.sourcemap_tokens.specs.Search.{find_last, closest_item}
 
--- Items that are left out.
+-- If a filter keeps the item that a search finds, the search finds the same item in the filtered list.
 
 find-filter : {X : Type 0} (test keep : X → Bool) (xs : List X) → ((x : X) → test x ≡ true → keep x ≡ true)
     → find test (filter keep xs) ≡ find test xs
@@ -51,7 +51,7 @@ find_last-filter {X} test keep (x ∷ xs) y found kept =
         let item : x ≡ y = cc in let lost : keep x ≡ true = rw item kept in cc
     by_cases None false k' later t k rest = let no : None ≡ Some y = (rw (later, t) at found) in cc
 
--- Which item is found.
+-- The item that a search finds is in the list.
 
 find-among : {X : Type 0} (test : X → Bool) (xs : List X) (y : X) → find test xs ≡ Some y → (k : ℕ) × (slice_get xs k ≡ Some y)
 find-among test [] y found = cc
@@ -104,7 +104,7 @@ module _ {X K : Type 0} (key : X → K) (cmp : K → K → Ordering) (p : K) whe
           let here : Some z ≡ Some y = (rw at at found) in find-among (λ x. is_eq (cmp (key x) p)) xs y (at ∙ here)
       by_cases None at = find_last-among (λ x. is_lt (cmp (key x) p)) xs y (rw at at found)
 
--- Items that are changed.
+-- `f` changes each item. If each test has the same outcome as before, a search that found `x` now finds `f x`.
 
 find-map : {X Y : Type 0} (f : X → Y) (test : X → Bool) (test' : Y → Bool) (xs : List X)
     → AllByRecursion (λ x. test' (f x) ≡ test x) xs → find test' (map f xs) ≡ option_map f (find test xs)

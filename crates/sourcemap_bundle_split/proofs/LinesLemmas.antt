@@ -1,5 +1,5 @@
--- The tokens from a line on and before an end: a first search drops those before the line, and a second one
--- keeps those before the end.
+-- Two searches find the tokens in a module's text. The first search drops the tokens before the start of the text. From
+-- the rest, the second search keeps the tokens before the end of the text.
 use Rattle.std.proofs.Common.{◌≡◌, ◌∙◌, refl, sym, ap, subst, ℕ, zero, suc, ◌+◌, ◌-◌, ◌<◌, ◌≤◌, List, [], ◌∷◌, length, get_or, take, drop, map, filter, All, Bool, true, false, cond, not, ◌&&◌, ltb, arith}
 use Rattle.std.specs.List.{AllByRecursion}
 use Rattle.std.specs.List.Sorted.{IsPartitionPoint, IsPartitionedBy}
@@ -46,7 +46,7 @@ rank_less Less = refl
 rank_less Equal = refl
 rank_less Greater = refl
 
--- of tokens in order, those before a position come first
+-- if `tokens` are in order, the tokens before the position `b` come first
 pub parted : (tokens : List RawToken) (b : ℕ × ℕ) → AreInOrder tokens → IsPartitionedBy (stands_before b) tokens
 parted tokens b up i j d l m passes =
     let rises = searchable_from_sorted position_cmp_total destination tokens b up in
@@ -55,7 +55,7 @@ parted tokens b up i j d l m passes =
     rank_less (position_cmp (destination (get_or tokens i d)) b)
     ∙ IsPartitionedBy-ltb (λ t. ordering_index (position_cmp (destination t) b)) tokens 1 rises i j d l m later
 
--- Items that pass two tests in turn.
+-- Filtering by `p`, and then by `q`, keeps the items that pass both tests.
 
 pub filter-both : {X : Type 0} (p q : X → Bool) (xs : List X) → filter q (filter p xs) ≡ filter (λ x. p x && q x) xs
 filter-both p q [] = refl

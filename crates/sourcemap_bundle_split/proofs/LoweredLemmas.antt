@@ -1,4 +1,4 @@
--- Positions whose lines are counted from a later line.
+-- Lines that are not before the first line of a module stay in the same order when they are counted from that line.
 use Rattle.std.proofs.Common.{◌≡◌, refl, ℕ, ◌-◌, ◌≤◌, Bool, true, false, not, nat_lt, nat_eq, arith}
 use Rattle.std.specs.Ordering.{is_lt, nat_cmp}
 use Rattle.std.proofs.lemmas.Bool.Decides.{nat_tests}

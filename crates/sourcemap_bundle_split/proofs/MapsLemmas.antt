@@ -1,4 +1,4 @@
--- The map of a module by its parts.
+-- The map built from the tokens of a module, and from the ids of their sources and names, is `module_map`.
 use Rattle.std.proofs.Common.{◌≡◌, ◌∙◌, refl, ap, ℕ, List, [], length, map, Some, None, string_bytes}
 use Rattle.sourcemap_tokens.specs.Items.{item_at}
 use Rattle.sourcemap_tokens.specs.declared.tokens.RawToken.{RawToken}

@@ -1,4 +1,4 @@
--- Tokens whose sources and names get their numbers one token after another.
+-- Source ids and name ids get numbers token by token. A later token changes no number of an earlier token.
 use Rattle.std.proofs.Common.{◌≡◌, ◌∙◌, refl, sym, ap, subst, ℕ, zero, suc, ◌+◌, ◌<◌, ◌≤◌, List, [], ◌∷◌, ◌++◌, length, get_or, take, map, fold, Option, Some, None, option_map, slice_get, arith, inl, inr, ◌⊎◌}
 use Rattle.std.proofs.lemmas.List.{map-append, take_more}
 use Rattle.std.proofs.lemmas.List.Sums.{fold-append}
@@ -13,7 +13,7 @@ use Rattle.sourcemap_bundle_split.proofs.TableLemmas.{number_past}
 pub used-more : (count : ℕ) (ids : List ℕ) (id : ℕ) → used_ids count (ids ++ id ∷ []) ≡ with_id count (used_ids count ids) id
 used-more count ids id = fold-append (with_id count) [] ids (id ∷ [])
 
--- the ids that the first `i + 1` tokens use
+-- one more token: `with_id` adds the id of the token at `i` to the used ids of the first `i` tokens
 pub used-step : (count : ℕ) (of : RawToken → ℕ) (tokens : List RawToken) (i : ℕ) (d : RawToken) → i < length tokens
     → used_ids count (map of (take (i + 1) tokens)) ≡ with_id count (used_ids count (map of (take i tokens))) (of (get_or tokens i d))
 used-step count of tokens i d inside =
@@ -21,7 +21,7 @@ used-step count of tokens i d inside =
     ∙ ap (used_ids count) (map-append of (take i tokens) (get_or tokens i d ∷ []))
     ∙ used-more count (map of (take i tokens)) (of (get_or tokens i d))
 
--- an id that was used keeps its number, or still has none, when another id follows
+-- if `id` is in `ids`, `number_of` gives the same result for `id` before and after `with_id` adds `new`
 same_number : (count : ℕ) (ids : List ℕ) (k id new : ℕ) → slice_get ids k ≡ Some id
     → number_of (with_id count (used_ids count ids) new) id ≡ number_of (used_ids count ids) id
 same_number count ids k id new at =

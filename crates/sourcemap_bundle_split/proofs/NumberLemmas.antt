@@ -43,7 +43,7 @@ number_of-append (x ∷ ids) k id = by_cases (x == id) (number_of ids id) (k == 
         rw (here, rest, is, same, one) refl
     by_cases false None false here is same rest = rw (here, rest, is, same) refl
 
--- an id that has a number keeps it
+-- `with_id` does not change the number of an id that has a number
 pub number_of-stays : (count : ℕ) (ids : List ℕ) (k id n : ℕ) → number_of ids id ≡ Some n → number_of (with_id count ids k) id ≡ Some n
 number_of-stays count ids k id n found = by_cases (nat_lt k count && is_none (number_of ids k)) refl
   where
@@ -78,7 +78,7 @@ met-fold count (x ∷ more) ids zero id at below =
     (met.0, stays-fold count more (with_id count ids x) id met.0 (subst (λ y. number_of (with_id count ids y) id ≡ Some met.0) (sym first) met.1))
 met-fold count (x ∷ more) ids (suc k) id at below = met-fold count more (with_id count ids x) k id at below
 
--- Each id of `used_ids` is below the count, and none comes twice.
+-- Each id in `used_ids count ids` is below `count` and occurs only once.
 
 list_any-append : (q : ℕ) (ids : List ℕ) (k : ℕ) → list_any (nat_eq q) (ids ++ k ∷ []) ≡ true → (list_any (nat_eq q) ids ≡ true) ⊎ (q ≡ k)
 list_any-append q [] k any = inr (grind (arith, nat_tests, any))
@@ -158,9 +158,9 @@ any-number (x ∷ ids) id n found = by_cases (x == id) (number_of ids id) refl r
     by_cases false (Some m) b is rest =
         let same : nat_eq id x ≡ false = grind (arith, nat_tests, b) in rw same (rest m is)
 
--- `id` is an item of `ids`. The new list has the texts of the used ids, and the number of a used id is its index there.
--- At the number of `id` the new list has the text that `texts` has at `id`. If `texts` has no text at `id`, then `id`
--- has no number, and the new list has no text at `no_id`
+-- `texts` has at most 4294967295 texts, and `id` is in `ids`. The new list has the texts of the used ids. If `texts`
+-- has a text at `id`, the new list has this text at the number of `id`. Otherwise `id` has no number, and the new list
+-- has no text at `no_id`
 pub text_by_number : (texts : List (List ℕ)) (ids : List ℕ) (k id : ℕ) → length texts ≤ 4294967295 → slice_get ids k ≡ Some id
     → slice_get (texts_at texts (used_ids (length texts) ids)) (unwrap_or (number_of (used_ids (length texts) ids) id) no_id) ≡ slice_get texts id
 text_by_number texts ids k id few at = by_index (slice_get_cases texts id).1

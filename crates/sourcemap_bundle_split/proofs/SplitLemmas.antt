@@ -21,7 +21,6 @@ fewer : {X : Type 0} (o : Option X) (xs : List X) → length (cons_option o xs) 
 fewer None xs = omega arith
 fewer (Some x) xs = omega arith
 
--- at most one item for each item of the list
 pub length-filter_map : {X Y : Type 0} (h : X → Option Y) (xs : List X) → length (filter_map h xs) ≤ length xs
 length-filter_map h [] = omega arith
 length-filter_map h (x ∷ xs) = omega (arith, fewer (h x) (filter_map h xs), length-filter_map h xs)

@@ -1,4 +1,4 @@
--- Numbers of ids in a table. The number in the slot of an id counts only if `order` has the id at that index.
+-- Numbers of ids in a table. An entry `n` at `id` is the number of `id` only if `order` has `id` at index `n`.
 use Rattle.std.proofs.Common.{◌≡◌, ◌≢◌, ◌∙◌, refl, sym, ap, subst, ℕ, zero, suc, ◌+◌, ◌<◌, ◌≤◌, ◌==◌, List, [], ◌∷◌, ◌++◌, length, get_or, set, All, Bool, true, false, cond, nat_lt, nat_eq, Option, Some, None, is_none, option_map, unwrap_or, slice_get, arith, ◌⊎◌, inl, inr}
 use Rattle.std.specs.List.{IsDistinct, list_any}
 use Rattle.std.proofs.lemmas.Bool.{eqb-true}
@@ -47,7 +47,8 @@ number_none numbers order id stand apart = by_cases (number_of order id) refl
         let same : get_or numbers id 0 ≡ m = stand m id back in
         absurd (apart (subst (λ n. slice_get order n ≡ Some id) (sym same) back))
 
--- the same of a number that was read from the table `numbers`, and a list `ids` that was read from `order`
+-- `Stand` holds, `numbers` has `n` at index `id`, and `ids` equals `order`. If `ids` does not have `id` at index `n`,
+-- then `id` has no number
 pub number_none_read : (numbers order ids : List ℕ) (id n default : ℕ) → Stand numbers order → id < length numbers
     → n ≡ get_or numbers id default → ids ≡ order → slice_get ids n ≢ Some id → number_of order id ≡ None
 number_none_read numbers order ids id n default stand inside read same apart =

@@ -1,4 +1,4 @@
--- The text of an id.
+-- If a list of strings has the string `s` at an index, the list of their bytes has the bytes of `s` at this index.
 use Rattle.std.proofs.Common.{◌≡◌, ◌∙◌, ap, ℕ, ◌<◌, List, length, get_or, map, option_map, slice_get, Some, string_bytes, String, sym}
 use Rattle.std.specs.declared.alloc.Global.{Global}
 use Rattle.std.proofs.lemmas.Option.{slice_get-get_or, slice_get-map}

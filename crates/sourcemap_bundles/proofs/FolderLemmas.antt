@@ -19,7 +19,7 @@ use Rattle.sourcemap_bundles.specs.Modules.{FilesValue, file_module}
 use Rattle.sourcemap_bundles.specs.Stored.{files_value, numbered_file_value}
 use Rattle.sourcemap_bundles.specs.declared.unbundle.UnbundleRamBundle.{UnbundleRamBundle}
 
--- entries that were copied one by one are the same files
+-- if `n` was copied from `m` entry by entry and byte by byte, both lists contain the same files
 pub same_entries : (m n : List (ℕ × Vec ℕ Global))
     → AllZip (λ p q. (q.0 ≡ p.0) × (AllZip (λ x y. y ≡ x) p.1.items q.1.items × (vec_len q.1 ≡ vec_len p.1))) m n
     → map numbered_file_value n ≡ map numbered_file_value m
@@ -54,7 +54,6 @@ are_numbered-push [] (f ∷ found) name id text h n = absurd h
 are_numbered-push (x ∷ names) [] name id text h n = absurd h
 are_numbered-push (x ∷ names) (f ∷ found) name id text h n = (h.0, are_numbered-push names found name id text h.1 n)
 
--- one file more
 IsReadBy-push : (names : List (List ℕ)) (startup : List ℕ) (folder : FilesValue) (name : List ℕ) (id : ℕ) (text : List ℕ)
     → IsReadBy names startup folder → IsNumbered name id → IsReadBy (names ++ name ∷ []) startup (with_file folder (id, text))
 IsReadBy-push names startup folder name id text (found, numbered, read) n = (
@@ -63,8 +62,7 @@ IsReadBy-push names startup folder name id text (found, numbered, read) n = (
   ap (λ f. with_file f (id, text)) read ∙ sym (fold_push with_file (no_modules startup) found (id, text)),
 )
 
--- if a test selects one of two optional stored texts, the bytes of the selected text are those that the same test
--- selects from the bytes of the two texts
+-- `cond` selects `Some text` or `rest`. The bytes may be taken before or after this selection
 lookup-cond : (b : Bool) (text : Vec ℕ Global) (rest : Option (Vec ℕ Global))
     → option_map (λ v. v.items) (cond b (Some text) rest) ≡ cond b (Some text.items) (option_map (λ v. v.items) rest)
 lookup-cond true text rest = refl
@@ -77,7 +75,8 @@ found_by_number (e ∷ entries) test =
     ap (λ rest. cond (test e.0) (Some e.1.items) rest) (found_by_number entries test)
     ∙ sym (lookup-cond (test e.0) e.1 (lookup test entries))
 
--- one more file: that of the next name of a list
+-- if `folder` was read from the files of the first `i` names, and a file of the next name is added, the result
+-- `folder'` was read from the files of the first `i + 1` names
 pub IsReadBy-more : (names : List (String Global)) (i : ℕ) (item : String Global) (name startup : List ℕ) (id : ℕ) (text : List ℕ)
     (folder folder' : FilesValue) → i < length names → item ≡ get_or names i item → name ≡ string_bytes item
     → folder' ≡ with_file folder (id, text) → IsNumbered name id
@@ -106,7 +105,7 @@ no_file folder id none =
     ap (option_map (λ text. record { id = id; text = text }))
     (found_by_number folder.modules.entries (λ k. is_eq (nat_cmp id k)) ∙ ap (option_map (λ v. v.items)) none)
 
--- the first stored entry from a number on is a file, and no number between the two has one
+-- the first stored entry `e` from number `from` on is a file, and no smaller number from `from` on has a file
 pub first_file : (folder : UnbundleRamBundle) (from : ℕ) (part : List (ℕ × Vec ℕ Global)) (e : ℕ × Vec ℕ Global) (rest : List (ℕ × Vec ℕ Global))
     → part ≡ e ∷ rest → IsRangeOf nat_cmp (Included from) Unbounded folder.modules part
     → (from ≤ e.0) × (file_module (files_value folder) e.0 ≡ Some (record { id = e.0; text = e.1.items }))

@@ -1,10 +1,10 @@
--- The modules of a bundle in turn.
+-- The list of modules that `modules_from` returns: its first item and the rest, when it is empty, and its length.
 use Rattle.std.proofs.Common.{◌≡◌, ℕ, zero, suc, ◌+◌, ◌-◌, ◌<◌, ◌≤◌, List, [], ◌∷◌, length, ◌⊎◌, inl, inr, Option, None, Some, Result, Ok, Err, refl, ap, ◌∙◌, arith}
 use Rattle.std.proofs.lemmas.Bool.{cases_lt}
 use Rattle.sourcemap_errors.specs.declared.errors.Error.{Error}
 use Rattle.sourcemap_bundles.specs.Modules.{BundleValue, FilesValue, ModuleValue, bundle_module, file_module, files, modules_from, with_item}
 
--- the item of the next number, if it has one, and then the items of later numbers
+-- for `id` below `end`, the items from `id` on are the module or error of `id`, if any, then the items from `id + 1` on
 pub modules_next : (bundle : BundleValue) (id end : ℕ) → id < end
     → modules_from bundle (end - id) id ≡ with_item (bundle_module bundle id) (modules_from bundle (end - (id + 1)) (id + 1))
 modules_next bundle id end below = let left : end - id ≡ suc (end - (id + 1)) = omega arith in rw left refl
@@ -38,7 +38,7 @@ modules_file folder id n end found from below is none =
     ∙ modules_next (files folder) n end below
     ∙ ap (λ item. with_item (Ok item) (modules_from (files folder) (end - (n + 1)) (n + 1))) is
 
--- if no number from here on has a file, no modules are left
+-- if no number from `id` on and below `end` has a file, the list of modules is empty
 pub modules_no_file : (folder : FilesValue) (id end : ℕ)
     → ((k : ℕ) → id ≤ k → k < end → file_module folder k ≡ None) → modules_from (files folder) (end - id) id ≡ []
 modules_no_file folder id end none = by (cases_lt id end)

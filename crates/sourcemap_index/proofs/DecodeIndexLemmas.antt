@@ -27,7 +27,7 @@ use Rattle.sourcemap_index.specs.declared.family.DecodedMap.{DecodedMap}
 use Rattle.sourcemap_index.specs.declared.family.SourceMapIndex.{SourceMapIndex}
 use Rattle.sourcemap_index.specs.Decode.{SectionDecodes, PartsDecode, IndexDecodes, index_in, index_with}
 
--- ---- how many sections and lists of sections a record holds, at all levels
+-- ---- the size of a record: the number of its sections plus the number of its section lists, at all levels
 
 abbrev mutual
   pub sections_below : Tree → ℕ
@@ -60,7 +60,7 @@ count-from (s ∷ ss) = let rest = count-from ss in by_case s.map ∙ omega (ari
 
 -- ---- answers
 
--- the answer with these sections before its own; an error stays
+-- the list `done` followed by the list in an `Ok` result. An error is unchanged
 abbrev pub prepend : List MapSection → Result (List MapSection) Error → Result (List MapSection) Error
 prepend done (Ok ss) = Ok (done ++ ss)
 prepend done (Err e) = Err e
@@ -78,7 +78,7 @@ one_more s rest v a = by_case s.map a
     by_case (Some t) (Err e) (inl (m, f, n)) k = inl (m, f, inr k)
     by_case (Some t) a (inr h) k = absurd h
 
--- if the head cannot be decoded, its error is that of the list
+-- if decoding `s` gives the error `e`, then decoding the list of `s` and `rest` gives `e`
 pub one_refused : (s : Section) (rest : Sections) (e : Error) → SectionDecodes s (Err e) → SectionsDecode (section_with s.head s.map rest) (Err e)
 one_refused s rest e = by_case s.map
   where
@@ -160,7 +160,7 @@ index_refused fields ss e h = UnlessMemory-weaker e (index_error fields ss e) h
 never_refused : {X Y : Type 0} (x : X) (y : Y) (e : Error) → ◌≡◌ {A = Result X Error} (Ok x) (Err e) → ◌≡◌ {A = Result Y Error} (Ok y) (Err e)
 never_refused x y e h = cc
 
--- where `x` is due, the only error is out of memory, so it is one where `y` is due too
+-- `Ok x` is no error, so the premise holds only if `e` is `OutOfMemory`. Then the conclusion holds too
 pub still_due : {X Y : Type 0} (x : X) (y : Y) (e : Error) → UnlessMemory e (◌≡◌ {A = Result X Error} (Ok x) (Err e)) → UnlessMemory e (◌≡◌ {A = Result Y Error} (Ok y) (Err e))
 still_due x y e h = UnlessMemory-weaker e (never_refused x y e) h
 
@@ -198,7 +198,7 @@ parts_decoded fields ss decoded sorted (Ok i) few h up made =
 parts_decoded fields ss decoded sorted (Err e) few h up made =
     UnlessMemory-weaker e (λ (h : ◌≡◌ {A = Result IndexValue Error} (Ok (index_with (index_parts fields) sorted)) (Err e)). cc) made
 
--- a record without sections has the same answer after its sections are taken
+-- a record without sections decodes by `LeafDecodes`, whatever value `left` then replaces its field `sections`
 plain_tree : (r : RawSourceMap) → (out-RawSourceMap r).sections ≡ None → tree r ≡ plain (fields_view (out-RawSourceMap r))
 plain_tree r none = tree-out r ∙ ap (λ v. tree_with (fields_view (out-RawSourceMap r)) (option_map (λ v. sections_from (map section v.items)) v)) none
 
@@ -219,7 +219,7 @@ pub well_formed_answer : (t : Tree) (r : Result DecodedMap Error) → IsAnswer m
 well_formed_answer t (Ok m) h = decoded_well t (map_tree m) h
 well_formed_answer t (Err e) h = tt
 
--- ---- records of indexes alone
+-- ---- records that are decoded only as index maps
 
 pub index_well_formed : (t : Tree) (r : Result SourceMapIndex Error) → IsAnswer index_value (IndexDecodes t) r → IfOk r (λ i. IsWellFormed (index_tree (index_value i)))
 index_well_formed (plain fields) (Ok i) h = cc

@@ -31,11 +31,11 @@ of_no_record : (found : Option Tree) (e : Error) (answer : Result MapTree Error)
 of_no_record None e answer so is = let same : e ≡ BadJson Shape = cc in so ∙ ap Err same
 of_no_record (Some t) e answer so is = cc
 
--- the error of reading a value as a record is also that of decoding it as a map
+-- if reading the JSON value `d` as a record gives the error `e`, then decoding `d` as a map gives `e`
 pub error_of_value : (d : Data) (e : Error) → UnlessMemory e (due (record_of d) ≡ Err e) → UnlessMemory e (ValueDecodes d (Err e))
 error_of_value d e h = UnlessMemory-weaker e (of_no_record (record_of d) e (Err e) refl) h
 
--- the result of a call that decodes a value is the only answer, or memory ran out
+-- a JSON value has only one result: if `ValueDecodes` allows `r` and `due`, then `r` is `due`, or memory ran out
 pub value_only : (d : Data) (r : Result DecodedMap Error) → IsAnswer map_tree (ValueDecodes d) r
     → (due : Result MapTree Error) → ValueDecodes d due → Gives map_tree r due
 value_only d r h = Gives-only map_tree (ValueDecodes d) (value_decodes_once d) r h
@@ -45,7 +45,7 @@ pub bytes_only : (bytes : List ℕ) (r : Result DecodedMap Error) → IsAnswer m
     → (due : Result MapTree Error) → BytesDecode bytes due → IsAnswer map_tree (AreSame due) r
 bytes_only = reading.bytes_only map_tree TreeDecodes tree_decodes_once
 
--- the same for the bytes of a reader that specifies them, unless a read fails
+-- the same for a reader whose unread bytes are known. The conclusion also allows that a read failed
 pub reader_only : (known : Option (List ℕ)) (bytes : List ℕ) (r : Result DecodedMap Error)
     → IfSome known (λ xs. bytes ≡ xs) → IsAnswer map_tree (BytesDecode bytes) r
     → IfSome known (λ xs. (due : Result MapTree Error) → BytesDecode xs due → IsAnswerRead map_tree (AreSame due) r)

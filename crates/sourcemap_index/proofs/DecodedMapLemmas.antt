@@ -1,4 +1,4 @@
--- The round trip, from the clauses of the call that writes a map and of the call that reads it.
+-- The round trip: the contracts of writing and reading imply that reading restores a map, unless memory runs out.
 use Rattle.std.proofs.Common.{◌≡◌, Result, Ok, Err, MatchResult, refl, subst}
 use Rattle.sourcemap_errors.specs.declared.errors.Error.{Error}
 use Rattle.sourcemap_errors.specs.declared.errors.Error.TheVariants.{OutOfMemory}
@@ -12,26 +12,25 @@ memory_alone OutOfMemory P never h = refl
 memory_alone _ P never h = absurd (never h)
 
 module _ {X Y : Type 0} (view : X → Y) where
-  -- from `Gives` to `IsAnswer`, where a value is due
   pub same_gives : (r : Result X Error) (back : Y) → Gives view r (Ok back) → IsAnswer view (AreSame (Ok back)) r
   same_gives (Ok x) back gave = cc
   same_gives (Err e) back gave = UnlessMemory-weaker e (λ wrong. cc) gave
 
-  -- if there is an answer that is restored, and the call can return no other, it returns a restored value or
-  -- runs out of memory
+  -- let `Answers` allow a value that satisfies `IsRestored`. If `r` equals each value that `Answers` allows, or is out
+  -- of memory, then `r` satisfies `IsRestored`, or is out of memory
   pub restored : (Answers : Result Y Error → Type 0) (IsRestored : Y → Type 0) (r : Result X Error) → ReadsBack Answers IsRestored
       → ((back : Y) → Answers (Ok back) → IsAnswer view (AreSame (Ok back)) r)
       → MatchResult r (λ x. IsRestored (view x)) (λ e. UnlessMemory e ⊥)
   restored Answers IsRestored (Ok x) back only = subst IsRestored (only back.0 back.1) back.2
   restored Answers IsRestored (Err e) back only = only back.0 back.1
 
--- where the only error is out of memory
+-- `UnlessMemory e ⊥` means that `e` is `OutOfMemory`
 pub but_for_memory : {X : Type 0} (P : X → Type 0) (r : Result X Error) → MatchResult r P (λ e. UnlessMemory e ⊥)
     → MatchResult r P (λ e. e ≡ OutOfMemory)
 but_for_memory P (Ok x) h = h
 but_for_memory P (Err e) h = memory_alone e ⊥ (λ never. never) h
 
--- weaker: other errors are allowed if `Q` holds of them
+-- the conclusion also allows each error for which `Q` holds
 pub but_for : {X : Type 0} (P : X → Type 0) (Q : Error → Type 0) (r : Result X Error) → MatchResult r P (λ e. UnlessMemory e ⊥)
     → MatchResult r P (λ e. UnlessMemory e (Q e))
 but_for P Q (Ok x) h = h

@@ -46,7 +46,7 @@ pairs_in_range (s ∷ ss) (r ∷ rs) pairs = by_case r.map pairs.0.1 (pairs_in_r
     by_case None h rest = (h.0, rest)
     by_case (Some t) h rest = (h.0, h.1, rest)
 
--- what the clauses of `as_raw_sourcemap` say follows from `MapWrites`
+-- the clauses of `as_raw_sourcemap` hold for every result that `MapWrites` allows
 pub record_answer : (t : MapTree) (r : Result RawSourceMap Error) → IsAnswer tree (MapWrites t) r → IsAnswer tree (RecordAnswer t) r
 record_answer t (Ok raw) h = tree_answer t (tree raw) h.0 h.1
 record_answer t (Err e) h = h

@@ -34,7 +34,6 @@ sections_same (s ∷ ss) (t ∷ ts) =
     both_same s.head t.head s.map t.map (sections_from ss) (sections_from ts)
     ∙ ap (λ b. same_section s t && b) (sections_same ss ts)
 
--- the test of two indexes is that of their trees
 pub index_same : (i j : IndexValue) → same_index i j ≡ same_tree (index_tree i) (index_tree j)
 index_same i j = ap (λ b. same_parts i.parts j.parts && b) (sym (sections_same i.sections j.sections))
 

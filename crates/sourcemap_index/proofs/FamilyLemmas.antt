@@ -1,4 +1,4 @@
--- What contracts see of the parts of an index, a section and a map.
+-- The values of `index_value`, `section_value` and `map_tree`, from the parts of their arguments.
 use Rattle.std.proofs.Common.{◌≡◌, refl, ap, sym, ◌∙◌, ℕ, List, map, length, Option, Some, None, option_map, slice_get, Box, Global}
 use Rattle.std.specs.Vec.{with_item}
 use Rattle.std.specs.List.{ItemBy}
@@ -23,7 +23,7 @@ index-out i = fold_out-SourceMapIndex MapTree IndexValue MapSection map_step ind
 pub index-roll : (r : SourceMapIndex-F DecodedMap SourceMapIndex SourceMapSection) → index_value (roll-SourceMapIndex r) ≡ record { parts = parts_view r; sections = map section_value r.sections.items }
 index-roll r = fold-roll-SourceMapIndex MapTree IndexValue MapSection map_step index_step section_step r
 
--- the image of a borrowed item is the item of the mapped list
+-- `f` of the borrowed item `i` of `xs` is item `i` of `map f xs`. If `xs` has no item `i`, both are `None`
 pub item_seen : {R X Y : Type 0} (now : R → X) (f : X → Y) (xs : List X) (i : ℕ) (found : Option R) → ItemBy now xs i i found → option_map (λ r. f (now r)) found ≡ slice_get (map f xs) i
 item_seen now f xs i (Some x) h = sym (slice_get-map f xs i ∙ ap (option_map f) (slice_get_read xs (length xs) i (now x) refl h.3.0 h.1))
 item_seen now f xs i None h = sym (slice_get-map f xs i ∙ ap (option_map f) (slice_get_past xs i h.3))
@@ -32,7 +32,7 @@ pub on_some : {X : Type 0} (found : Option X) (P : Type 0) → P → OnSome foun
 on_some (Some x) P h = h
 on_some None P h = tt
 
--- an index in which one section is replaced
+-- replacing section `id` of `i` by `s` changes `index_value` as `with_section` does
 pub section_put : (i : SourceMapIndex) (id : ℕ) (s : SourceMapSection)
     → index_value (roll-SourceMapIndex (record (out-SourceMapIndex i) { sections = with_item (out-SourceMapIndex i).sections id s })) ≡ with_section (index_value i) id (section_value s)
 section_put i id s =
@@ -48,18 +48,17 @@ boxed_map : (s : SourceMapSection) (m : Option (Box DecodedMap Global))
 boxed_map s None = refl
 boxed_map s (Some b) = refl
 
--- the map of a section
 pub section_map : (s : SourceMapSection) → (section_value s).map ≡ option_map (λ b. map_tree b.value) s.map
 section_map s = ap (λ (v : MapSection). v.map) (fold_out-SourceMapSection MapTree IndexValue MapSection map_step index_step section_step s) ∙ boxed_map s s.map
 
--- the offset of a section, and its URL
+-- `section_value` keeps the offset and the URL of a section
 pub section_offset_and_url : (s : SourceMapSection) → (section_value s).head ≡ record { line = s.offset.0; column = s.offset.1; url = text_view s.url }
 section_offset_and_url s = ap (λ (v : MapSection). v.head) (fold_out-SourceMapSection MapTree IndexValue MapSection map_step index_step section_step s)
 
 pub section_at : (s : SourceMapSection) → section_offset (section_value s) ≡ s.offset
 section_at s = ap section_offset (fold_out-SourceMapSection MapTree IndexValue MapSection map_step index_step section_step s)
 
--- the tree of a regular map, of a Hermes map, and of an index
+-- what `map_tree` returns for a regular map, a Hermes map and an index map
 pub regular_tree : (m : MapValue) → map_tree (Regular m) ≡ leaf (regular m)
 unfolding Rattle.sourcemap_index.specs.declared.family.DecodedMap.TheViews.out-DecodedMap denote.Hole.Carrier.out
 regular_tree m = fold_out-DecodedMap MapTree IndexValue MapSection map_step index_step section_step (Regular m)

@@ -1,4 +1,4 @@
--- A map of one kind, read as such and as a map of any kind.
+-- Decoding as a map of any kind gives a regular or Hermes map exactly if decoding as its own kind gives the same map.
 use Rattle.std.proofs.Common.{◌≡◌, refl, sym, subst, inl, inr, ℕ, List, Bool, true, false, nat_lt, Option, Some, None, is_none, MatchOption, Result, Ok, Err, ◌↔◌}
 use Rattle.std.specs.Bool.{MatchBool}
 use Rattle.serde_json.specs.Data.{Data}
@@ -75,8 +75,8 @@ pub hermes_of_any : (t : Tree) (h : HermesValue) → TreeDecodes t (Ok (leaf (he
 hermes_of_any (plain fields) h k = leaf_hermes fields fields.x_facebook_sources h k
 hermes_of_any (indexed fields sections) h k = absurd (no_index (nat_lt 4294967295 (count sections)) fields sections (hermes h) k)
 
--- A value, bytes or a data URL stand for a map of one kind exactly if, decoded as a map of any kind, they
--- stand for the same map.
+-- By the premises, a record decodes to `x` as a map of any kind exactly if it decodes to `x` by `Decodes`. The same
+-- then holds for JSON values, bytes and data URLs.
 
 module _ {X : Type 0} (kind : X → LeafMap) (Decodes : Tree → Result X Error → Type 0)
     (as_any : (t : Tree) (x : X) → Decodes t (Ok x) → TreeDecodes t (Ok (leaf (kind x))))

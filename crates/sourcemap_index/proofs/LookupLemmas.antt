@@ -1,4 +1,4 @@
--- The lookup in an index is the lookup in its closest section.
+-- The lookup of a position in an index map is the lookup in the map of the section closest to the position.
 use Rattle.std.proofs.Common.{◌≡◌, inl, inr, refl, sym, ap, subst, ◌∙◌, ℕ, ◌+◌, ◌<◌, ◌≤◌, arith, zero, suc, List, [], ◌∷◌, map, Option, Some, None, option_map, IfSome, slice_get, IsSortedByKey}
 use Rattle.std.specs.Prelude.{option_and_then}
 use Rattle.std.specs.List.{AllByRecursion}
@@ -18,7 +18,7 @@ use Rattle.sourcemap_index.specs.Lookup.{AnyHasToken, HasToken, IsAmong}
 
 -- ---- how many indexes a map holds
 
--- the number of indexes in a map, itself included
+-- the number of index maps in a map, at all levels. If the map is an index map, it is counted too
 abbrev mutual
   pub indexes : MapTree → ℕ
   indexes (leaf l) = 0
@@ -43,7 +43,7 @@ indexes_at (s' ∷ ss) (suc k) s t at is =
     let more = indexes_with s'.head s'.map (sections_from ss) in
     omega (arith, less, more)
 
--- the map of a section holds fewer indexes than the index itself
+-- if `t` is the map of a section of `v`, then `t` holds fewer index maps than `v`, because `v` itself is counted
 pub indexes_below : (v : IndexValue) (s : MapSection) (t : MapTree) → IsAmong v.sections s → s.map ≡ Some t → indexes t < indexes (index_tree v)
 indexes_below v s t (k, at) is = let less = indexes_at v.sections k s t at is in omega (arith, less)
 
@@ -64,7 +64,7 @@ lookups-from (s ∷ ss) = by_case s.map ∙ ap (λ rest. entry s ∷ rest) (look
     by_case None = refl
     by_case (Some t) = refl
 
--- what the section that was found answers
+-- the lookup of `p`, relative to the section's offset, in the map of `found`; `None` without a section or a map
 abbrev pub found_answer : Option MapSection → ℕ × ℕ → Option TokenValue
 found_answer found p = option_and_then (λ s. answer_of s.map (relative_position (section_offset s) p)) found
 
@@ -78,7 +78,7 @@ lookup-index v p =
     by_case None = refl
     by_case (Some s) = refl
 
--- ---- what is in order
+-- ---- the lookup in an index map with sorted sections
 
 each_in_order : (ss : List MapSection) → InEachSection (λ l. Unit {0}) AreSectionsInOrder (sections_from ss)
     → AllByRecursion (InSection (λ l. Unit {0}) AreSectionsInOrder) ss
@@ -90,7 +90,8 @@ each_in_order (s ∷ ss) h = let both = by_case s.map h in (both.0, each_in_orde
     by_case None h = (tt, h)
     by_case (Some t) h = h
 
--- the lookup in an index in order is right if the search for the section and the lookup in its map are
+-- let the sections of `v` be sorted at all levels. If `found` is the section closest to `p`, and `answer` is the lookup
+-- in `found`, then `answer` is the lookup of `p` in `v`
 pub index_answers : (v : IndexValue) (p : ℕ × ℕ) (found : Option MapSection) (answer : Option TokenValue)
     → (IsSortedByKey {K = ℕ × ℕ} section_offset position_cmp v.sections → found ≡ closest_item {K = ℕ × ℕ} section_offset position_cmp v.sections p)
     → (IfSome found (λ s. IfSome s.map IsInOrder) → answer ≡ found_answer found p)

@@ -195,7 +195,7 @@ module _ (before : List Piece) (piece : Piece) where
   name-stays old numbered id =
       name_number (before ++ piece ∷ []) old.1 id ∙ number-stays name_entries before piece old numbered.1 id ∙ sym (name_number before old.1 id)
 
-  -- tokens added before do not change
+  -- if each text of `old` has an id in `before`, adding `piece` does not change the moved tokens of `old`
   token-stays : (old : Piece) → HasNumbers before old → (t : RawToken) → token_in (before ++ piece ∷ []) old t ≡ token_in before old t
   token-stays old numbered t = λ i. record t {
     dst_line = (absolute_position old.0 (destination t)).0;
@@ -265,7 +265,7 @@ module _ (before : List Piece) (piece : Piece) where
   same_names : texts_entered (all_name_entries before ++ name_entries piece.1) ≡ names_in (before ++ piece ∷ [])
   same_names = ap texts_entered (sym all_names) ∙ texts_of_names (before ++ piece ∷ [])
 
-  -- errors for too many sources or names
+  -- if `e` reports too many sources or too many names, `with_piece before piece` is an error with the same text
   pub refused-sources : (reason : List ℕ) (e : Error) → reason ≡ codes "too many sources or names"
       → RefusesBy (are_too_many (texts_entered (all_source_entries before ++ source_entries piece.1))) reason e → RefusesPiece before piece e
   refused-sources reason e is refused = UnlessMemory-weaker e (λ h. (reason, due h.0, h.1)) refused
@@ -307,7 +307,7 @@ module _ (before : List Piece) (piece : Piece) where
         let inside : list_any (λ t. passes_the_end (absolute_position piece.0 (destination t))) piece.1.tokens ≡ false = sym (any-same passes (λ t. passes_the_end (absolute_position piece.0 (destination t))) same piece.1.tokens) ∙ within in
         rw (sources-fit, names-fit, inside) refl
 
--- The lists of a map, as a `Part`, are added.
+-- A `Part` with the lists of a map is added.
 
 abbrev enters : List TextEntry → List TextEntry → List ℕ → Table → Type 0
 enters before entries ids t = AreEntered (before ++ entries) entries ids t

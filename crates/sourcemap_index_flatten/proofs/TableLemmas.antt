@@ -80,7 +80,6 @@ length-fold texts (u ∷ us) =
     let rest = length-fold (with_text texts u) us in
     omega arith
 
--- too many texts are still too many with more
 pub too_many-more : (entered more : List TextEntry) → are_too_many (texts_entered entered) ≡ true → are_too_many (texts_entered (entered ++ more)) ≡ true
 too_many-more entered more many =
     let less = length-fold (texts_entered entered) (map (λ e. e.0) more) in
@@ -163,7 +162,7 @@ module _ (before : List TextEntry) (e : TextEntry) where
   distinct : AreDistinct T
   distinct = distinct-kept_once (map (λ e. e.0) before)
 
-  -- the entries stay the same if the new one gives contents to none of their texts
+  -- if `e` gives contents to no text in `T`, each text in `T` has the same contents in `after` as in `before`
   kept-same : ((k : ℕ) (text : List ℕ) → slice_get T k ≡ Some text → gives text e ≡ false) → map (with_contents after) T ≡ map (with_contents before) T
   kept-same apart = ext (map (with_contents (before ++ e ∷ [])) T) (map (with_contents before) T) at
     where
@@ -280,7 +279,8 @@ module _ (before : List TextEntry) (e : TextEntry) where
 pub table-none : (t : Table) → t.ids ≡ [] → entry_values t.entries.items ≡ [] → IsTable [] t
 table-none t index none = record { index = index; kept = none; few = omega arith }
 
--- the table after one more text
+-- if `old` is the table after `before` was entered, and `with_text` and `put_at` make `new` from `old`, then `new` is
+-- the table after `before` and `e` were entered. If the text of `e` is new, `old` must have fewer than 4294967295 texts
 pub entered-more : (before : List TextEntry) (e : TextEntry) (number : ℕ) (old new : Table) → IsTable before old
     → (id_of e.0 old.ids ≡ None → length old.ids < 4294967295)
     → id_of e.0 new.ids ≡ Some number
@@ -306,7 +306,6 @@ entered-more before e number old new is free found index put =
         rw new (let more = length_push (texts_entered before) e.0 in omega (arith, less, more, ap length is.index))
     few (Some n) numbered = rw numbered is.few
 
--- too many with one more text
 pub full-more : (before : List TextEntry) (e : TextEntry) → are_too_many (with_text (texts_entered before) e.0) ≡ true → are_too_many (texts_entered (before ++ e ∷ [])) ≡ true
 full-more before e many = ap are_too_many (texts-push before e) ∙ many
 
@@ -372,7 +371,7 @@ module _ (entries : List Entry) (number : ℕ) (e : Entry) where
   pub put-kept : (put : List Entry) → number < length entries → is_some e.contents ≡ false → put ≡ entries → entry_values put ≡ put_at number (entry_value e) (entry_values entries)
   put-kept put within none is = ap entry_values is ∙ sym (rw (inside within, is_some-copied e, none) refl)
 
--- if there are too many texts after some of the entries, there are too many after all of them
+-- if entering the first `i + 1` of `entries` gives too many texts, entering all of `entries` gives too many texts
 pub too_many-at : (before : List TextEntry) (entries : List Entry) (i : ℕ) (d : Entry) → i < length entries
     → are_too_many (texts_entered ((before ++ entry_values (take i entries)) ++ entry_value (get_or entries i d) ∷ [])) ≡ true
     → are_too_many (texts_entered (before ++ entry_values entries)) ≡ true
@@ -385,7 +384,7 @@ too_many-at before entries i d within many =
     ap (λ xs. are_too_many (texts_entered xs)) (sym whole)
     ∙ too_many-more (before ++ entry_values (take (i + 1) entries)) (entry_values (drop (i + 1) entries)) (ap (λ xs. are_too_many (texts_entered xs)) (sym front) ∙ many)
 
--- the next entry of several
+-- `AreEntered` for the first `i` entries and `IsEntered` for the entry at `i` give `AreEntered` for `i + 1` entries
 pub entered-next : (before : List TextEntry) (entries : List Entry) (i : ℕ) (d : Entry) → i < length entries
     → (numbers numbers' : List ℕ) (number : ℕ) (old new : Table)
     → AreEntered (before ++ entry_values (take i entries)) (entry_values (take i entries)) numbers old

@@ -28,7 +28,7 @@ module _ (text : List ℕ) (i value digit : ℕ) (within : i < length text) (so_
       let made : digit ≡ digit_value (get_or text i 0) = omega arith in
       cc
 
-  -- if this exceeds 4294967295, the whole text is no number
+  -- if the new number exceeds 4294967295, `number_of text` is `None`
   pub past_limit : 4294967295 < value * 10 + digit → None ≡ number_of text
   past_limit past =
       let bound = digits_value-take-le 10 text (i + 1) (lit≤ tt) in
@@ -45,7 +45,7 @@ number_made text value some digits is limit =
     rw (longer, digits, small) (ap Some is)
 
 module _ (mark : ℕ) (bytes : List ℕ) (i : ℕ) (others : (k : ℕ) → k < i → (get_or bytes k 0 == mark) ≡ false) where
-  -- if the byte at `i` is not the mark, the first mark is after it, or there is none
+  -- if no byte up to and including index `i` is the mark, the first mark is after index `i`, or there is no mark
   not_yet : i < length bytes → (get_or bytes i 0 == mark) ≡ false → i < position_or_len (λ b. b == mark) bytes
   not_yet within other = by (nat_le (position_or_len (λ b. b == mark) bytes) i) refl
     where
@@ -62,7 +62,7 @@ module _ (mark : ℕ) (bytes : List ℕ) (i : ℕ) (others : (k : ℕ) → k < i
       by true e = early (leb-true _ _ e)
       by false e = leb-false _ _ e
 
-  -- a loop that stops at a mark, or else at the end, stops at the first mark, or at the end if there is none
+  -- no byte before `i` is the mark. If a mark or the end of `bytes` is at index `i`, then `position_or_len` gives `i`
   ends_at : i ≤ length bytes → (i < length bytes → (get_or bytes i 0 == mark) ≡ true)
       → position_or_len (λ b. b == mark) bytes ≡ i
   ends_at within stops = position_or_len_is (λ b. b == mark) bytes i 0 within others stops
@@ -71,7 +71,7 @@ module _ (mark : ℕ) (bytes : List ℕ) (i : ℕ) (others : (k : ℕ) → k < i
       → drop (i + 1) bytes ≡ after_first (λ b. b == mark) bytes
   after_end within stops = sym (ap (λ n. drop (n + 1) bytes) (ends_at within stops))
 
-  -- a mark with none before it is the first one: what follows it is what follows the first mark
+  -- if the first mark is at index `i`, `after_first` gives the bytes from index `i + 1` on
   pub cut_there : i < length bytes → get_or bytes i 0 ≡ mark
       → take (length bytes - (i + 1)) (drop (i + 1) bytes) ≡ after_first (λ b. b == mark) bytes
   cut_there within is = take_rest bytes (i + 1) ∙ after_end (omega arith) (λ _. eq-eqb _ _ is)
@@ -110,7 +110,6 @@ module _ (mark : ℕ) (bytes : List ℕ) (i : ℕ) (others : (k : ℕ) → k < i
         (so_far ∙ ap (digits_value 10) (sym (take-take i (position_or_len (λ b. b == mark) bytes) bytes (omega (arith, not_yet within other)))))
         (subst (IsInRange 48 57) (sym at) is) (of ∙ ap (λ b. b - 48) (sym at)) past
 
--- dropping `n` items, or all of them if there are fewer
 pub drop_least : (n : ℕ) (bytes : List ℕ) (least : ℕ) → least ≡ min n (length bytes) → drop least bytes ≡ drop n bytes
 drop_least n bytes least is = by (nat_le n (length bytes)) refl
   where
@@ -120,7 +119,6 @@ drop_least n bytes least is = by (nat_le n (length bytes)) refl
         let past = leb-false _ _ e in
         drop_of_length-le bytes (omega (arith, is, past)) ∙ sym (drop_of_length-le bytes (omega (arith, past)))
 
--- one more byte that is not the mark
 pub other_byte : (byte mark : ℕ) → (byte ≡ mark → ⊥) → (byte == mark) ≡ false
 other_byte byte mark apart = ne_eqb byte mark apart
 
@@ -131,8 +129,8 @@ others_more mark bytes i others other k within = elim (eq-or-lt_of_le (let low :
   | inr before ↦ others k before
 ]
 
--- The lines of a text that is not empty: the bytes before its first newline, and then the lines of the bytes
--- after it.
+-- The first line of a text that is not empty ends at the first newline, or else at the end of the text. The other lines
+-- are the lines of the bytes after the first newline.
 
 split_on : (text part : List ℕ) (parts : List (List ℕ)) → slice_split is_newline text ≡ parts → 0 < length parts
     → without_empty_last (part ∷ slice_split is_newline text) ≡ part ∷ lines_of text

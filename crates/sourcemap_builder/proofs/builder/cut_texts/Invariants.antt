@@ -4,7 +4,8 @@ use Rattle.sourcemap_builder.specs.Builder.{with_changes}
 use Rattle.sourcemap_texts.specs.Prefixes.{without_prefix}
 use Rattle.sourcemap_builder.proofs.builder.cut_texts.Given as goal
 
--- there is one item for each of the first `id` texts, and these changes remove the prefixes
+-- `cut` has `id` items. The changes `cut` turn the first `id` of `texts` into the first `id` current texts (`texts`
+-- changed by `current`) with prefixes stripped
 abbrev pub invariant-loop-id : goal.invariant-loop-id
 invariant-loop-id g l =
     (vec_len l.cut ≡ l.id)

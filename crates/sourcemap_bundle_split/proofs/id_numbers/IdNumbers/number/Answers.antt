@@ -14,7 +14,7 @@ returns-then-slot-len-clause-number c =
     number_past (length numbers.items) c.self.inside.order.items c.args.id c.self.invariant.below (omega (arith, c.if-slot-len.true, c.len.ensures, numbers.ok.0)) in
     rw (← c.self.view_is, none) refl
 
--- the list has the id at the number of its slot: the id already has this number
+-- if `order` has the id at index `numbers[slot]`, then the id already has the number `numbers[slot]`
 
 pub returns-then-is_at-clause-ids : goal.returns-then-is_at-clause-ids
 returns-then-is_at-clause-ids c =
