@@ -1,4 +1,4 @@
--- Clauses of decoding and encoding, combined for a map's bytes.
+-- After a decoded map is written, `IsWritten` holds. An error other than `OutOfMemory` satisfies `IsUnwritten`.
 use Rattle.std.proofs.Common.{◌⊎◌, inl, inr, ℕ, List, Option, Result, Ok, Err, IfErr, OnOk}
 use Rattle.std.specs.Io.KnownBytes.{Appends}
 use Rattle.sourcemap.specs.Answer.{UnlessMemory}
@@ -14,12 +14,12 @@ unless_memory : (e : Error) (P Q : Type 0) → (P → Q) → UnlessMemory e P �
 unless_memory OutOfMemory P Q f h = tt
 unless_memory _ P Q f h = f h
 
--- the only errors are those of the writer
+-- encoding has no error of its own, so the error `e` comes from the writer
 writer_failed : (bytes : List ℕ) (t : MapTree) (e : Error) → RecordAnswer t (Err e) ⊎ IsIo e → IsUnwritten bytes e
 writer_failed bytes t e (inl never) = absurd never
 writer_failed bytes t e (inr io) = inr io
 
--- bytes that do not decode
+-- if `bytes` do not decode, the decoding error satisfies `IsUnwritten`
 pub no_map : (bytes : List ℕ) (e : Error) → UnlessMemory e (BytesDecode bytes (Err e)) → UnlessMemory e (IsUnwritten bytes e)
 no_map bytes e h = unless_memory e (BytesDecode bytes (Err e)) (IsUnwritten bytes e) inl h
 

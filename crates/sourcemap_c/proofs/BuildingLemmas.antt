@@ -1,4 +1,4 @@
--- The report of adding tokens.
+-- The error report of a call that adds tokens matches the number of tokens that were added.
 use Rattle.std.proofs.Common.{ℕ, Option, Some, None, Result, Ok, Err, inl, inr, subst}
 use Rattle.sourcemap_builder.specs.Builder.{BuilderValue}
 use Rattle.sourcemap_c_handles.specs.Errors.{Finishes, Reports}

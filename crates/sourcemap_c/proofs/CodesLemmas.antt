@@ -55,7 +55,7 @@ coded (Err failure) code old new Done Due Kept is does = record {
   kept = λ _. does.1;
 }
 
--- Weaker facts.
+-- `UnlessMemory` and `Does` still hold when their conditions become weaker.
 unless_weaker : (failure : Failure) (P Q : Type 0) → (P → Q) → UnlessMemory failure P → UnlessMemory failure Q
 unless_weaker (Library OutOfMemory) P Q f p = tt
 unless_weaker (Library _) P Q f p = f p
@@ -76,7 +76,7 @@ no_failure Absent P none = absurd none
 no_failure WrongKind P none = absurd none
 no_failure PastLimit P none = absurd none
 
--- calls whose only error is out of memory
+-- if out of memory is the only error, `Does` holds with any `Due'`, and with any `Done'` that follows from `Done`
 pub weaker_put : {T : Type 0} (result : Result T Failure) (Done Done' : Type 0) (Due' : Failure → Type 0) (Kept : Type 0)
     → (Done → Done') → Does result Done (OfLibrary NoError) Kept → Does result Done' Due' Kept
 weaker_put result Done Done' Due' Kept done does =

@@ -1,6 +1,6 @@
--- Calls that borrow a value of a handle and write a text of it through an out parameter. Such a call passes
--- the handle to a getter, which returns a reference or none. It passes that result, some numbers and the out
--- parameter to a second function. So the handle ends as the contract of the getter says.
+-- Calls that borrow a value from a handle and write a text of the value to an out parameter. Such a call passes the
+-- handle to a getter, which returns a reference or none. The call then passes this result, some numbers and the out
+-- parameter to a second function. That function takes no handle, so the handle ends as the getter's contract says.
 use Rattle.sourcemap_c.proofs.Steps.{◌≡◌, ℕ, List, [], ◌∷◌, refl, MutBor, proved, id⊢, ftrue, flft, named, fact, tables, ‵, raw, ◌⊛◌, some, later, ◌$◌, ◌∵◌, !, qed, move, keep, drop, use1, use2, split, join, pick, await, suffices, frame, group, enter, addr, stop, no_more, and_then, returns, alloc_all, pass_all, free_all, look_at, get, through, sets, lands_as, u8, MutRef, mut_vals, mut_Tells, uint_vals, uint_Tells, plain, nothing, heard, fsplit, calls_at, lasts, triple_of, Stays, walk_of, stay_dropped, Goes-dropped, says, ends_at, framed, peeks, shows, done, w8}
 use Prim.Native.Nat.{zero, suc, ◌+◌}
 use mathlib.Core.Path.{subst}
@@ -49,8 +49,8 @@ use Rattle.sourcemap_c_handles.specs.declared.handle.Handle.{Handle}
 use Rattle.sourcemap_c_handles.specs.declared.held.Held.{Held}
 use Rattle.sourcemap_c.specs.Kinds.{tree_in, tree_of, view_in}
 
--- A getter: the type that it borrows, what is seen of its result, and what is seen of the handle. By its
--- contract the two are equal.
+-- A getter takes a handle and returns an optional reference to an `Item`. The contract of the getter says that `seen`
+-- of the result equals `held` of the handle.
 pub record Getter : Type 2 where
   pub Item : RattleType
   pub one : One Item.mir
@@ -131,7 +131,7 @@ module _ {l : ℕ} (os : List (Outlives l)) (ps : List (Slot l)) (ks : Kepts ps)
     Answers = triple_of 𝓛 code_ended.signature (closing 𝓛 code_ended c)
 
     module _ (x : Answers.Ghost) {Γ : List (Item 𝓤)} {E : Env 𝓤 H} {C : Calls 𝓤 H} {Λ : Loops 𝓤 H} {f : Callee} {xs : List Operand} {d : Place} {body : Body} {q : Post 𝓤 H} where
-      -- the entry becomes [the lifetime tokens; the last values; the code; the clauses]
+      -- the precondition becomes [the lifetime tokens; the last values; the code; what the contract ensures]
       pub answers : FmC 𝓤 H 𝓛.laws C → Triple 𝓤 (C f) Answers → Opds (Go {0}) 𝓛 (raw (Answers.pre x) ∷ Γ) E xs (Answers.args x)
           → ((w : Val) (code : ℕ) (ws : Lasts code_ended x.0.0 x.0.3) → Typed u32.mir (w ∷ [])
           → Seq (Go {0}) 𝓛 (raw (alive 𝓛 code_ended.signature x.0.0 x.0.1) ∷ ‵ (lasts code_ended x.0.0 x.0.3 ws) ∷ ‵ (u32.own_val code (w ∷ []))
@@ -145,7 +145,7 @@ module _ {l : ℕ} (os : List (Outlives l)) (ps : List (Slot l)) (ks : Kepts ps)
           peeks ! u32 _ (shows 𝓛 u32) code (w ∷ []) (λ is.
           move ! (2 ∷ []) $ pick ! (λ ws. split ! $ move ! (3 ∷ 0 ∷ 2 ∷ 1 ∷ []) $ after w code ws ((uint_Lawful 𝓛 w32).typed code (w ∷ []) is)))))
 
--- ---- the code: the handle is passed to the getter, and the out parameter to the second function
+-- ---- the code: `first` takes the handle; `last` takes the result of `first`, the numbers and the out parameter
 abbrev slice : Lifetime → Ty
 slice ℓ = ty_struct (38 ∷ 91 ∷ 93 ∷ []) (tcons (ty_ref ℓ imm (ty_int w8)) (tcons (ty_int w64) tnil))
 
@@ -301,7 +301,8 @@ module _ (γ : Getter) where
         put_entry r v = ((κs, qs, bounds, (r, a.1), (v ∷ [], others)), tt)
 
         module _ {Γ : List (Item 𝓤)} {E : Env 𝓤 H} {f : Callee} {xs : List Operand} {d : Place} {body : Body} {q : Post 𝓤 H} where
-          -- what `asks` left becomes [the lifetime tokens; the last values; the code; how the handle ends]
+          -- [how the handle ends; what was found; the token of the handle's lifetime; the other parameters; the other
+          -- lifetime tokens] becomes [the lifetime tokens; the last values; the code; how the handle ends]
           puts : (r : (Found κs.0).Denot) (v : Val) → Triple 𝓤 (𝓣.C f) Puts
               → Opds (Go {0}) 𝓛 (raw (Puts.pre (put_entry r v)) ∷ ‵ (EndsAsBefore a.0) ∷ Γ) E xs (Puts.args (put_entry r v))
               → ((w : Val) (code : ℕ) (ws : Fins κs (rest n) (all yes (rest n)) a.1) → Typed u32.mir (w ∷ []) → is_put r code ws
@@ -343,7 +344,7 @@ module _ (γ : Getter) where
             qed 𝓛 (((‵ (flft κs.0 qs.0) ⊛ ‵ (flft κs.1.0 qs.1.0) ⊛ ‵ ftrue) ⊛ ‵ ((MutRef (named 0) κs.0 S).own_val a.0 (mut_vals a.0)) ⊛ ‵ (owns (types_at (rest n) κs) a.1 (others κs qs bounds a))) ∷ ‵ ftrue ∷ []) ∵
             split ! $ split ! $ move ! (2 ∷ []) $ split ! $ keep ! (0 ∷ 2 ∷ 1 ∷ 3 ∷ []) $ walk κs qs bounds a are.1)
 
--- ---- the walks, for zero to three numbers
+-- ---- the walks, for calls with zero to three number parameters
 module _ (γ : Getter) {M : Type 1} (𝓤 : Ura M) (𝓛 : Logic 𝓤) (𝓜 : Model 𝓤 𝓛.H) (𝓡 : Running 𝓤 𝓛.H 𝓜) (named_handle handle found : Ty) (first last k : Callee) where
   pub lends_0 : (W : Numbers 0 → γ.Seen → ℕ → (old new : List ℕ) → Type 0) → Lends γ 0 W 𝓤 𝓛 𝓜 𝓡 named_handle handle found first last k
   lends_0 W unfolded fits gets met = walks γ 0 W 𝓤 𝓛 𝓜 𝓡 named_handle handle found first last k unfolded (λ κs qs bounds a are.

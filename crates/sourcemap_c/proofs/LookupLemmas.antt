@@ -1,4 +1,5 @@
--- The token that a span names is the closest one up to the end of the span.
+-- A span starts at the looked-up position and ends before the next token. If the tokens are in order, all positions in
+-- the span have the same closest token.
 use Rattle.std.proofs.Common.{◌≡◌, sym, ap, ◌∙◌, ℕ, ◌+◌, List, true, Option, Some, None, IfSome, option_map, slice_get}
 use Rattle.std.specs.Prelude.{unwrap_or}
 use Rattle.std.specs.Ordering.{is_lt}

@@ -1,4 +1,4 @@
--- A URL in UTF-8 is decoded as text.
+-- For a URL in UTF-8, the contract of `open_text` implies the contract of `open_url`.
 use Rattle.std.proofs.Common.{◌≡◌, ℕ, List, Option, Result, Err, inr, subst}
 use Rattle.std.specs.Str.{IsUtf8}
 use Rattle.sourcemap_c_handles.specs.declared.errors.Failure.{Failure}

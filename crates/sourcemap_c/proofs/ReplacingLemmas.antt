@@ -1,4 +1,5 @@
--- Rewriting without files, with prefixes that are UTF-8.
+-- If a Hermes map is rewritten without loading files, the result is `rewritten`, or out of memory. If all prefixes are
+-- UTF-8, a contract about the texts of the prefixes implies the contract about their bytes.
 use Rattle.std.proofs.Common.{◌≡◌, ℕ, List, false, Result, Ok, Err, MatchResult, inr, subst}
 use Rattle.std.specs.List.{All}
 use Rattle.std.specs.Str.{IsUtf8}

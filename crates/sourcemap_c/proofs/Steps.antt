@@ -1,4 +1,4 @@
--- What the walks of this crate cite of the logic.
+-- This file re-exports the parts of the program logic that the walks of this crate use.
 pub use Rattle.std.proofs.Common.{◌≡◌, ℕ, List, [], ◌∷◌, refl, w8, MutBor}
 pub use Rattle.std.proofs.raw_atomic.Walks.{proved}
 pub use base.Logic.{id⊢}

@@ -1,4 +1,4 @@
--- The array after a text was written.
+-- After `write_text` copies a text to an array of 256 bytes, the array is the one that `over` returns.
 use Rattle.std.specs.Prelude.{◌≡◌, ℕ, ◌+◌, ◌<◌, List, ◌∷◌, ◌++◌, drop, length, slice_set, take}
 use Rattle.std.proofs.Common.{add-zero, ap, arith, subst, sym, ◌∙◌}
 use Rattle.std.proofs.lemmas.List.{drop-set, drop-set-add}

@@ -8,7 +8,7 @@ use Rattle.sourcemap_cli.specs.declared.command.Command.TheVariants.{Lookup, Tok
 number_once : (a b : List ℕ) (m n : ℕ) → a ≡ b → IsNumber a m → IsNumber b n → m ≡ n
 number_once a b m n same p q = p.2 ∙ ap (digits_value 10) same ∙ sym q.2
 
--- whether the first word is this one; used where two commands have equally many words and names of the same length
+-- whether `word` is the first of `words`. Distinguishes two commands with equally many words and equally long names
 abbrev begins_with : List ℕ → List (List ℕ) → Bool
 begins_with word words = bytes_eq (get_or words 0 []) word
 

@@ -42,7 +42,7 @@ hermes_by_default options h r is answered =
     (subst (λ removal. Gives hermes_value r (Ok (hermes_rewritten removal h))) (nothing_removed options is)
     (hermes_Gives-rewritten hermes_value options h r is.no_files answered))
 
--- adjusting by a map of another kind is an error
+-- adjusting a regular map by a map that is not regular returns `IncompatibleSourceMap`
 pub refused_adjustment : (t u : MapTree) (m : MapValue) (e : Error) → t ≡ leaf (regular m) → (e ≡ IncompatibleSourceMap) × IsNotRegular u
     → UnlessMemory e (adjusted_by t (Some u) ≡ Err e)
 refused_adjustment t u m e is (same, other) = rw (is, same) (by_kind u other)
@@ -52,7 +52,7 @@ refused_adjustment t u m e is (same, other) = rw (is, same) (by_kind u other)
     by_kind (leaf (hermes h)) other = refl
     by_kind (index parts ss) other = refl
 
--- adjusting a regular map by a regular map
+-- for two regular maps, `adjusted_by` is `adjusted`
 pub adjusted_trees : (t u : MapTree) (m n : MapValue) (r : Result MapValue Error) → t ≡ leaf (regular m) → u ≡ leaf (regular n)
     → Gives (λ m. m) r (adjusted m n) → Gives (λ m. m) r (adjusted_by t (Some u))
 adjusted_trees t u m n r is is' h = rw (is, is') h

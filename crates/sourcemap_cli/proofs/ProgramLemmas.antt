@@ -1,4 +1,4 @@
--- From the results of calls to the reply, and from the reply to the output of a run.
+-- If the results of calls are as specified, so is the reply. If the reply is as specified, so is the output of a run.
 use Rattle.std.proofs.Common.{◌≡◌, ◌≢◌, ◌⊎◌, inl, inr, refl, sym, ap, subst, ◌∙◌, ℕ, List, [], ◌++◌, codes, Option, Some, None, Result, Ok, Err, IfSome, IsOkAnd, MatchOption, MatchResult, IfOk, string_bytes, String, Global, Vec}
 use Rattle.std.specs.IoError.{error_kind}
 use Rattle.std.specs.declared.io.Error.{Error as IoError}
@@ -41,7 +41,7 @@ with_memory _ P is h = h
 
 -- From the output of a command to the reply.
 
--- a map's JSON line, or out of memory
+-- if `r` is a JSON line of `t` or the error `OutOfMemory`, then `r` is an answer that `PrintsMap t` allows
 prints_map : (t : MapTree) (r : Result (String Global) Error)
     → MatchResult r (λ text. IsJsonLine t (string_bytes text)) (λ e. e ≡ OutOfMemory)
     → IsAnswer string_bytes (PrintsMap t) r
@@ -111,7 +111,7 @@ pub says_of_two : {X : Type 0} (x : X) (command : Command) (t u : MapTree) (r : 
 says_of_two x (Compose path) t u r takes h = h path
 says_of_two x command t u r takes h = absurd cc
 
--- the sections of an index are those of its tree
+-- the tree of `i` has the sections of `i`, so an answer for shifting these sections is an answer for shifting the tree
 returns_shift : (rows : ℕ) (i : IndexValue) (answer : Result (List ℕ) Error) → ShiftAnswer rows i.parts i.sections answer
     → Returns (Shift rows) (index_tree i) None answer
 returns_shift rows i answer h = subst (λ ss. ShiftAnswer rows i.parts ss answer) (sym (section_list-from i.sections)) h
@@ -160,13 +160,14 @@ pub may_be_read : (known : Option (List ℕ)) (r : Result (Vec ℕ Global) Error
 may_be_read known (Ok bytes) h = tt
 may_be_read known (Err e) h = h
 
--- an error of opening a file is one of a reader
+-- an error of opening a file is among the errors that `UnlessReadFails` allows
 pub may_not_open : (cause : IoError) (e : Error) → FromIo cause e → UnlessReadFails e ⊥
 may_not_open cause OutOfMemory h = tt
 may_not_open cause (Io kept) (same, other) = inr (refl, subst (λ x. error_kind x ≢ NoMemory) (sym same) other)
 may_not_open cause e h = absurd h
 
--- the map in a file, and the errors of reading and decoding it
+-- if `bytes` were read from the file, `FileDecodes` allows the result `r` of decoding `bytes`. If reading failed,
+-- `FileDecodes` allows the read error (`file_of_error`)
 pub file_of_map : (held : Option (Result (List ℕ) Error)) (bytes : List ℕ) (r : Result DecodedMap Error)
     → WithFile held (λ file. Ok bytes ≡ file) → IsAnswer map_tree (BytesDecode bytes) r
     → WithFile held (λ file. IsAnswer map_tree (FileDecodes file) r)
@@ -180,7 +181,8 @@ file_of_error held e read =
     with_file held (λ file. Err e ≡ file) (λ file. UnlessMemory e (FileDecodes file (Err e)))
     (λ file is. subst (λ x. UnlessMemory e (FileDecodes x (Err e))) is (UnlessMemory-from e refl)) read
 
--- the map is adjusted by the one in a file, or the file cannot be read or decoded
+-- if the file decodes to `u`, `compose` adjusts `t` by `u`. If the file cannot be read or decoded, `compose` returns
+-- the error (`composes_with_none`)
 pub composes_with : (path : String Global) (file : Result (List ℕ) Error) (t u : MapTree) (r : Result (String Global) Error)
     → FileDecodes file (Ok u) → IsAnswer string_bytes (Returns (Compose path) t (Some u)) r
     → IsAnswer string_bytes (ReturnsWithFile file (Compose path) t) r
@@ -190,7 +192,7 @@ pub composes_with_none : (path : String Global) (file : Result (List ℕ) Error)
     → UnlessMemory e (FileDecodes file (Err e)) → UnlessMemory e (ReturnsWithFile file (Compose path) t (Err e))
 composes_with_none path file t e is = then_refused (FileDecodes file) (λ other a. Returns (Compose path) t (Some other) a) e is
 
--- the same for a file that is preloaded or read
+-- as `composes_with` and `composes_with_none`, for a file that is preloaded (`held`) or read
 pub composes_with_file : (held : Option (Result (List ℕ) Error)) (path : String Global) (t u : MapTree) (r : Result (String Global) Error)
     → WithFile held (λ file. FileDecodes file (Ok u)) → IsAnswer string_bytes (Returns (Compose path) t (Some u)) r
     → WithFile held (λ file. IsAnswer string_bytes (ReturnsWithFile file (Compose path) t) r)
@@ -205,7 +207,7 @@ composes_with_no_file held path t e is =
     with_file held (λ file. UnlessMemory e (FileDecodes file (Err e))) (λ file. UnlessMemory e (ReturnsWithFile file (Compose path) t (Err e)))
     (λ file is. composes_with_none path file t e is) is
 
--- the output of a command that ignores the file
+-- only `compose` and `trace` use the file. Any other command has the same output with and without a file
 pub returns_without_file : (held : Option (Result (List ℕ) Error)) (command : Command) (t : MapTree) (r : Result (String Global) Error)
     → ((path : String Global) → command ≢ Compose path) → ((path : String Global) → command ≢ Trace path)
     → IsAnswer string_bytes (Returns command t None) r
@@ -214,7 +216,7 @@ returns_without_file held (Compose path) t r other none h = absurd (other path r
 returns_without_file held (Trace path) t r other none h = absurd (none path refl)
 returns_without_file held command t r other none h = any_file held (λ file. IsAnswer string_bytes (ReturnsWithFile file command t) r) (λ file. h)
 
--- the output of `trace` for a map with sorted sections
+-- for a map with sorted sections, `traced` specifies the output of `trace`
 pub returns_trace : (held : Option (Result (List ℕ) Error)) (path : String Global) (t : MapTree) (r : Result (String Global) Error)
     → IsInOrder t → WithFile held (λ file. IsInOrder t → IsAnswer string_bytes (λ a. a ≡ traced t file) r)
     → WithFile held (λ file. IsAnswer string_bytes (ReturnsWithFile file (Trace path) t) r)
@@ -222,7 +224,8 @@ returns_trace held path t r ordered h =
     with_file held (λ file. IsInOrder t → IsAnswer string_bytes (λ a. a ≡ traced t file) r)
     (λ file. IsAnswer string_bytes (ReturnsWithFile file (Trace path) t) r) (λ file says. says ordered) h
 
--- the answers to the positions that were read, or the read error
+-- if `positions` were read from the file, `traced` specifies the result `r` of `trace_text`. If reading failed,
+-- `traced` specifies the read error (`traced_unread`)
 pub traced_read : (held : Option (Result (List ℕ) Error)) (positions : List ℕ) (t : MapTree) (r : Result (String Global) Error)
     → WithFile held (λ file. Ok positions ≡ file)
     → (IsInOrder t → Gives string_bytes r (Ok (trace_of (meaning t) positions)))
@@ -243,7 +246,7 @@ traced_unread held t e read =
     with_file held (λ file. Err e ≡ file) (λ file. IsInOrder t → UnlessMemory e (Err e ≡ traced t file))
     (λ file is. subst (λ x. IsInOrder t → UnlessMemory e (Err e ≡ traced t x)) is (λ ordered. UnlessMemory-from e refl)) read
 
--- the output of a command for decoded bytes
+-- if `bytes` decode to `m`, the output of a command for `bytes` is the output for `m`
 pub returns_on_map : (held : Option (Result (List ℕ) Error)) (command : Command) (bytes : List ℕ) (m : MapTree) (r : Result (String Global) Error)
     → BytesDecode bytes (Ok m) → WithFile held (λ file. IsAnswer string_bytes (ReturnsWithFile file command m) r)
     → WithFile held (λ file. IsAnswer string_bytes (ReturnsOnBytes command bytes file) r)
@@ -251,7 +254,7 @@ returns_on_map held command bytes m r stand h =
     with_file held (λ file. IsAnswer string_bytes (ReturnsWithFile file command m) r) (λ file. IsAnswer string_bytes (ReturnsOnBytes command bytes file) r)
     (λ file says. then_made (BytesDecode bytes) (λ t a. ReturnsWithFile file command t a) m r stand says) h
 
--- bytes that do not decode
+-- if decoding `bytes` returns the error `e`, a command returns `e`, whatever the file is
 pub returns_on_no_map : (held : Option (Result (List ℕ) Error)) (command : Command) (bytes : List ℕ) (e : Error)
     → UnlessMemory e (BytesDecode bytes (Err e)) → WithFile held (λ file. UnlessMemory e (ReturnsOnBytes command bytes file (Err e)))
 returns_on_no_map held command bytes e h =
@@ -289,7 +292,8 @@ reply_to_others held words bytes (Err e) none is = any_file held (λ file. e ≡
 
 -- Words, bytes and a file determine the reply, but for the texts of std's errors.
 
--- two results that print alike: equal values, or errors such that each text of the first is one of the second
+-- two results print alike if they are equal values, or errors `e` and `f` such that each text of `e` is also a text of
+-- `f` (`IsRefusal`)
 abbrev PrintAlike : {X : Type 0} → (a b : Result X Error) → Type 0
 PrintAlike (Ok s) (Ok t) = s ≡ t
 PrintAlike (Err e) (Err f) = (text : List ℕ) → IsRefusal e text → IsRefusal f text
@@ -299,7 +303,8 @@ alike : {X : Type 0} (a b : Result X Error) → a ≡ b → PrintAlike a b
 alike (Ok s) b is = subst (PrintAlike (Ok s)) is refl
 alike (Err e) b is = subst (PrintAlike (Err e)) is (λ text h. h)
 
--- two steps print alike if their first steps do, and their second steps do after the same value
+-- two results of `Then First Next` print alike if the results of `First` print alike, and the results of `Next` for the
+-- same value print alike
 then_alike : {X : Type 0} (First : Result X Error → Type 0) (Next : X → Result (List ℕ) Error → Type 0)
     → ((a b : Result X Error) → First a → First b → PrintAlike a b)
     → ((x : X) (a b : Result (List ℕ) Error) → First (Ok x) → Next x a → Next x b → PrintAlike a b)
@@ -327,7 +332,7 @@ found_alike t p (Ok a) (Ok b) ordered (x, is, of) (y, is', of') =
 found_alike t p (Err e) b ordered h k = absurd h
 found_alike t p (Ok a) (Err f) ordered h k = absurd k
 
--- errors whose texts are specified as the same, or not at all, print alike
+-- two errors with the same `error_text` print alike
 texts_alike : (e f : Error) → error_text e ≡ error_text f → (text : List ℕ) → IsRefusal e text → IsRefusal f text
 texts_alike e f same text refused =
     (refused.0, subst (λ known. IfSome known (λ line. refused.0 ≡ line)) same refused.1, refused.2)
@@ -384,8 +389,8 @@ refusal_alike : (e f : Error) (text : List ℕ) → IsSameError e f → IsRefusa
 refusal_alike (Io e) (Io f) text same h = h
 refusal_alike e f text same h = subst (λ x. IsRefusal x text) same h
 
--- two results of decoding that are the same print alike. Two `Io` errors of the same kind count as the same. So all
--- results of decoding the same bytes, or the same file, print alike
+-- two results that are the same (`AreSame`) print alike. Two `Io` errors of one kind count as the same, and any text is
+-- allowed for an `Io` error
 decoded_alike : (a b : Result MapTree Error) → AreSame a b → PrintAlike a b
 decoded_alike (Ok t) (Ok u) same = same
 decoded_alike (Err e) (Err f) same = λ text refused. refusal_alike e f text same refused
@@ -416,7 +421,7 @@ bytes_in_order bytes t (inl (d, holds, stands)) = of_record (record_of d) stands
     of_record (Some r) is = well_formed_in_order t (decoded_well r t is)
 bytes_in_order bytes t (inr none) = absurd none
 
--- the buffer of a command's path does not matter
+-- commands that are the same (`IsSameCommand`) have the same output, even if the buffers of their paths differ
 same_command : (c d : Command) (bytes : List ℕ) (file a : Result (List ℕ) Error) → IsSameCommand c d
     → ReturnsOnBytes c bytes file a → ReturnsOnBytes d bytes file a
 same_command (Compose path) (Compose other) bytes file a same h = h
@@ -434,7 +439,8 @@ replies_alike words bytes file (answered a) misused p none reply is = absurd (no
 replies_alike words bytes file misused (answered b) none q reply is = absurd (none q.0 q.1)
 replies_alike words bytes file misused misused p q reply is = is
 
--- a right reply is right for every ending of the same words, bytes and file
+-- if a reply is correct for one ending that `Ends` allows for `words`, `bytes` and `file`, the reply is correct for
+-- every such ending
 pub only_reply : (words : List (List ℕ)) (bytes : List ℕ) (file : Result (List ℕ) Error) (r : Result Reply Error)
     → MatchResult r (IsReplyTo words bytes file) (λ e. e ≡ OutOfMemory)
     → IfOk r (λ reply. (due : Ending) → Ends words bytes file due → IsReply due reply)
@@ -450,7 +456,7 @@ some_bytes (Some xs) = (xs, refl)
 pub out_of_memory : (words : List (List ℕ)) (e : Error) → e ≡ OutOfMemory → IsCutShort words e
 out_of_memory words e is = no_memory e _ is
 
--- a command whose input could not be read
+-- if `words` ask for a command, a run may have the read error `e` instead of a reply (`IsCutShort`)
 pub reading_failed : (words : List (List ℕ)) (command : Command) (e : Error) → AskFor words command → UnlessReadFails e ⊥ → IsCutShort words e
 reading_failed words command e asked h = UnlessMemory-from e (command, asked, h)
 
@@ -491,7 +497,7 @@ reported_is_cut_short : (words : List (List ℕ)) (e reported : Error) → (repo
 reported_is_cut_short words e reported (inl same) h = subst (λ x. IsCutShort words x) (sym same) h
 reported_is_cut_short words e reported (inr out) h = out_of_memory words reported out
 
--- unless writing failed, the reply was printed, or an error instead of it
+-- if writing succeeds, the output and the status are as `Runs` specifies, whether `made` is a reply or an error
 pub runs : (words : List (List ℕ)) (input : Option (List ℕ)) (made : Result Reply Error)
     (old new : Option (List ℕ)) (result : Result ℕ Error)
     → Reading input (λ bytes. WithFile None (λ file. MatchResult made (IsReplyTo words bytes file) (IsCutShort words)))

@@ -159,7 +159,8 @@ next_line text some =
           rw cut (split_on after (before_first is_newline text) (slice_split is_newline after) refl (omega (arith, length-slice_split is_newline after)))
     ]
 
--- A position at the head of lines: a number before the first colon, and one before the first newline after it.
+-- The position in the first line of `lines`: the number before the first colon of `lines`, and the number after this
+-- colon, up to the next newline.
 
 not_all_digits : (text : List ℕ) → list_all is_ascii_digit text ≡ false → number_of text ≡ None
 not_all_digits text all = rw (all, and-false) refl
@@ -254,7 +255,7 @@ module _ (lines : List ℕ) where
 
   module _ (row col : ℕ) (row_is : Some row ≡ number_of (before_first is_colon lines))
       (col_is_some : Some col ≡ number_of (before_first is_newline (after_first is_colon lines))) where
-    -- if both numbers are there, the colon is before the first newline
+    -- `row` and `col` are the numbers before and after the first colon, so this colon is before the first newline
     in_order : colon < newline
     in_order = by_order (λ order. order) (λ late. absurd (out late))
       where

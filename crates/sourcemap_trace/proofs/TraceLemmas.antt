@@ -1,4 +1,4 @@
--- Answers line by line, and maps that answer alike.
+-- A list of positions is answered line by line. Maps with the same meaning give the same answers.
 use Rattle.std.proofs.Common.{◌≡◌, ◌≢◌, ◌<◌, ◌++◌, ℕ, List, Result, Ok, Option, Some, None, IfSome, codes, length, refl, ap, subst}
 use Rattle.std.specs.List.{after_first, before_first}
 use Rattle.std.proofs.lemmas.List.{append_assoc}
@@ -12,7 +12,8 @@ use Rattle.sourcemap_trace.specs.Positions.{is_newline, position_of}
 use Rattle.sourcemap_trace.specs.Trace.{answer_at, answer_to, meaning_text, trace_of}
 use Rattle.sourcemap_trace.proofs.PositionsLemmas.{next_line}
 
--- the first line is answered, and then the lines that are left
+-- let `new` be `old` followed by the answer to the first line of `rest`, and let `later` be the other lines. Then `new`
+-- followed by the answers to `later` equals `old` followed by the answers to `rest`
 pub one_more : (says : ℕ × ℕ → Option Meaning) (rest later old new : List ℕ) (position : Option (ℕ × ℕ)) → 0 < length rest
     → position ≡ position_of (before_first is_newline rest) → later ≡ after_first is_newline rest
     → new ≡ old ++ (answer_at says position ++ codes "\n") → new ++ trace_of says later ≡ old ++ trace_of says rest
@@ -27,7 +28,8 @@ alike s t positions same =
     let one : meaning s ≡ meaning t = λ i. λ p. same p i in
     ap (λ says. trace_of says positions) one
 
--- a map that is read back gives the answers of the map that was written, if at most one map can be read
+-- if `Stands` allows at most one result, and allows a map that restores `t`, then a map `back` that `Stands` allows
+-- gives the same answers as `t`
 pub back_alike : (t back : MapTree) (Stands : Result MapTree Error → Type 0) (positions : List ℕ)
     → ((a b : Result MapTree Error) → Stands a → Stands b → a ≡ b) → ReadsBack Stands (Restores t) → Stands (Ok back)
     → trace_of (meaning back) positions ≡ trace_of (meaning t) positions

@@ -1,4 +1,4 @@
--- An error of a data URL, other than `InvalidDataUrl`, is that of its payload.
+-- If decoding a data URL gives an error other than `InvalidDataUrl`, decoding the payload gives the same error.
 use Rattle.std.proofs.Common.{◌≢◌, inl, inr, ap, ℕ, List, Result, Ok, Err}
 use Rattle.sourcemap.specs.Answer.{UnlessMemory}
 use Rattle.sourcemap.specs.DataUrl.{Holds}

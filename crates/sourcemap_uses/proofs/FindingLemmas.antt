@@ -1,4 +1,4 @@
--- From the embedded map or the resolved path of a reference to where the map of its text is.
+-- The URL of the first reference in a text says where the map of the text is: in the URL itself, in a file, or nowhere.
 use Rattle.std.proofs.Common.{◌≡◌, refl, sym, subst, inl, ℕ, List, Option, Some, None, Result, Ok, Err}
 use Rattle.sourcemap.specs.Answer.{UnlessMemory, IsAnswer}
 use Rattle.sourcemap.specs.Embedded.{EmbeddedAnswer}
@@ -26,7 +26,7 @@ same_url : (r : SourceMapRef) → url_in (reference r) ≡ url_of r
 same_url (Ref url) = refl
 same_url (LegacyRef url) = refl
 
--- the map of a text is that of the URL in its reference
+-- if the first reference in the text is `named`, an answer for the URL of `named` is an answer for the text
 pub by_reference : (found : Option (Option Reference)) (named : SourceMapRef) → found ≡ Some (Some (reference named))
     → (path : List ℕ) (r : Result FoundMap Error) → IsAnswer found_value (MapOfUrl (url_of named) path) r
     → IsAnswer found_value (MapByReference found path) r

@@ -13,11 +13,10 @@ use Rattle.sourcemap_uses.proofs.RefusalLemmas.{unless_memory}
 
 -- Added sources.
 
--- if all sources are displayed unchanged, they are so after one more is added
 added_unchanged : (b : BuilderValue) (text : List ℕ) → b.sources ≡ b.interned → (with_source b text).sources ≡ (with_source b text).interned
 added_unchanged b text same = ap (λ texts. cond (is_some (id_of text b.interned)) texts (texts ++ text ∷ [])) same
 
--- adding sources that are displayed unchanged changes only the two lists of sources
+-- if `sources` and `interned` of `b` are equal, adding `texts` extends both in the same way and changes nothing else
 all_added : (b : BuilderValue) (texts : List (List ℕ)) → b.sources ≡ b.interned
     → fold with_source b texts ≡ record b { interned = fold with_text b.interned texts; sources = fold with_text b.interned texts }
 all_added b [] same = ap (λ sources. record b { sources = sources }) same
@@ -78,7 +77,7 @@ no_fewer texts (text ∷ more) =
 too_many_more : (texts more : List (List ℕ)) (e : Error) → AreTooMany texts e → AreTooMany (fold with_text texts more) e
 too_many_more texts more e many = (many.0, omega (arith, many.1, no_fewer texts more))
 
--- with a text that cannot get an id there are too many texts
+-- if `id_for` refuses `text`, then `texts` with `text` added are too many, and `e` is `IncompatibleSourceMap`
 without_id : (o : Option ℕ) (texts : List (List ℕ)) (text : List ℕ) (e : Error) → id_of text texts ≡ o
     → id_for texts text ≡ Err e → AreTooMany (with_text texts text) e
 without_id (Some id) texts text e known refused = absurd (let no : Ok id ≡ Err e = rw known at refused in cc)
@@ -96,7 +95,7 @@ stopped_at b text texts e h = unless_memory e (id_for b.interned text ≡ Err e)
     (too_many_more (with_text b.interned text) texts e (without_id (id_of text b.interned) b.interned text e refl refused)))
     h
 
--- adding the sources of the first map, then those of the second, keeps each source of both once
+-- after the sources `first` and then the sources `second` are added to an empty builder, each source is kept once
 both_kept : (b : BuilderValue) (first second : List (List ℕ)) → empty_builder None ≡ b
     → fold with_text (fold with_source b first).interned second ≡ kept_once (first ++ second)
 both_kept b first second start =

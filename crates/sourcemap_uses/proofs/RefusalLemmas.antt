@@ -11,7 +11,6 @@ pub unless_memory : (e : Error) (P Q : Type 0) → (P → Q) → UnlessMemory e 
 unless_memory OutOfMemory P Q f h = tt
 unless_memory _ P Q f h = f h
 
--- `Ok due` and `Err e` are never equal, so anything follows if they are
 pub never_due : {Y : Type 0} (due : Y) (e : Error) (Q : Type 0) → Ok due ≡ Err e → Q
 never_due due e Q wrong = absurd (cc)
 
@@ -26,7 +25,7 @@ never_refused view due (Err e) Q gave = due_refused due e (Q e) gave
 pub unwritten : (m : MapValue) (e : Error) (P : Type 0) → UnlessMemory e (RecordAnswer m (Err e)) → UnlessMemory e P
 unwritten m e P h = unless_memory e ⊥ P (λ never. absurd never) h
 
--- if no other error is possible, it is out of memory
+-- if every error but `OutOfMemory` is excluded, `e` is `OutOfMemory`
 pub memory_alone : (e : Error) → UnlessMemory e ⊥ → e ≡ OutOfMemory
 memory_alone OutOfMemory h = refl
 memory_alone _ h = absurd h

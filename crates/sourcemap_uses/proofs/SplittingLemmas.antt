@@ -17,7 +17,7 @@ module _ (i : IndexValue) (modules : List (Result ModuleValue Error)) (split : S
   split_over : MapValue → SplitValue
   split_over flat = record { flat = flat; offsets = is_first.offsets; modules = modules }
 
-  -- the split has this flattened map, and its first item is the one due for the first module
+  -- if the bundle splits into `split`, `split.flat` is `flat`, and the first item is `parts_at flat first found`
   pub first_due : Splits i modules (Ok split)
       → (split.flat ≡ flat) × ((others : List (Result ModuleParts Error)) × (dues_in split ≡ parts_at flat first found ∷ others))
   unfolding split_over
@@ -37,7 +37,7 @@ given_map flat line found parts is = by_cases (is_some (meaning flat (line, 0)) 
     by_cases true b = let given : Ok (parts_on flat line found) ≡ Ok parts = (rw b at is) in let same : parts_on flat line found ≡ parts = cc in ap (λ p. p.map) same
     by_cases false b = let no = (rw b at is) in cc
 
--- an error of splitting is the result
+-- if the bundle cannot be split, the result is the error of splitting
 pub split_refused : (i : IndexValue) (modules : List (Result ModuleValue Error)) (p : ℕ × ℕ) (e : Error)
     → UnlessMemory e (Splits i modules (Err e)) → UnlessMemory e (TracesFirst i modules p (Err e))
 split_refused i modules p e h = unless_memory e (Splits i modules (Err e)) (TracesFirst i modules p (Err e)) (λ refused. inr refused) h
@@ -52,13 +52,13 @@ module _ (i : IndexValue) (modules : List (Result ModuleValue Error)) (p : ℕ �
   pub none_traced : dues_in split ≡ [] → TracesFirst i modules p (Ok [])
   none_traced is = first_traced [] is
 
-  -- an error of the first item is the result
+  -- if the first item is an error, the result is this error
   pub item_refused : (due : Result ModuleParts Error) (others : List (Result ModuleParts Error)) (e : Error)
       → dues_in split ≡ due ∷ others → UnlessMemory e (due ≡ Err e) → UnlessMemory e (TracesFirst i modules p (Err e))
   item_refused due others e is h = unless_memory e (due ≡ Err e) (TracesFirst i modules p (Err e))
       (λ same. first_traced (Err e ∷ others) (is ∙ ap (λ d. d ∷ others) same)) h
 
-  -- the text for the first module, unless memory runs out
+  -- if the first item is `parts`, the result may be the text printed for `p` by the map of `parts`, or `OutOfMemory`
   pub text_traced : (due : Result ModuleParts Error) (others : List (Result ModuleParts Error)) (parts : ModuleParts) (r : Result (String Global) Error)
       → dues_in split ≡ due ∷ others → due ≡ Ok parts → IfOk r (λ text. string_bytes text ≡ printed (meaning parts.map p)) → IsOkUnless r OutOfMemory
       → IsAnswer string_bytes (TracesFirst i modules p) r

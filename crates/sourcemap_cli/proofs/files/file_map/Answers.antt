@@ -1,4 +1,4 @@
--- The map in a file, or the error of reading or decoding it.
+-- The result is what `decode_vec` returns for the bytes of the file, or the error of reading the file.
 use Rattle.std.proofs.Common.{option_map}
 use Rattle.std.proofs.lemmas.Result.{err_from_is_err_and}
 use Rattle.sourcemap_cli.specs.Program.{file_read}

@@ -1,4 +1,4 @@
--- The adjusted map, the error of adjusting, or the error for a map of another kind.
+-- The result is the adjusted map, the error of `adjust_mappings`, or `IncompatibleSourceMap` if a map is not regular.
 use Rattle.std.proofs.Common.{Ok, Err}
 use Rattle.std.proofs.lemmas.Result.{err_from_is_err_and}
 use Rattle.sourcemap.specs.AnyMap.{map_tree}

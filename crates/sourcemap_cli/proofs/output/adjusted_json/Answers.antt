@@ -1,4 +1,4 @@
--- The adjusted map, or the error of adjusting.
+-- The result is what `json_line` returns for the adjusted map, or the error of adjusting.
 use Rattle.std.proofs.Common.{Some}
 use Rattle.std.proofs.lemmas.Result.{err_from_is_err_and}
 use Rattle.sourcemap.specs.AnyMap.{map_tree}

@@ -1,4 +1,4 @@
--- The flattened map, the error of flattening, or the error for a map of another kind.
+-- The result is what `json_line` returns for the flattened map, or an error of `into_index` or `flatten`.
 use Rattle.std.proofs.lemmas.Result.{err_from_is_err_and}
 use Rattle.sourcemap.specs.AnyMap.{index_value, map_tree}
 use Rattle.sourcemap_index.proofs.FamilyLemmas.{regular_tree}

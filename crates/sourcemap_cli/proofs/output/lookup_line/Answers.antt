@@ -1,4 +1,4 @@
--- The token that was found, and its text.
+-- If `lookup_token` returns a token, the result is the text of this token and a newline.
 use Rattle.std.proofs.Common.{Some}
 use Rattle.sourcemap.specs.Token.{token_value}
 use Rattle.sourcemap_cli.proofs.output.lookup_line.Goals as goal

@@ -1,4 +1,4 @@
--- The options are the default, so there is one rewritten map.
+-- The default options read no file, so the map alone determines the rewritten map.
 use Rattle.std.proofs.Common.{ap, Ok, Err}
 use Rattle.std.proofs.lemmas.Result.{err_from_is_err_and}
 use Rattle.sourcemap.specs.AnyMap.{map_tree}

@@ -1,4 +1,5 @@
--- The command's output for the decoded map, or the first error. `compose` and `trace` also use the file of the command.
+-- If the bytes decode to a map, the result is the command's output for this map, or a later error. If the bytes do not
+-- decode, the result is the decoding error. Only `compose` and `trace` use the file.
 use Rattle.std.proofs.Common.{option_map}
 use Rattle.std.proofs.lemmas.Result.{err_from_is_err_and}
 use Rattle.sourcemap.specs.AnyMap.{map_tree}

@@ -1,5 +1,5 @@
--- The reply is the reply to the command, or the usage if the words are no command. No other reply is correct, except
--- that an error of std may be reported with any text.
+-- If the words are a command, the reply reports the result of the command. Otherwise the reply is the usage. The reply
+-- has the text and the status of every ending that `Ends` allows.
 use Rattle.std.proofs.Common.{Some, map, string_bytes}
 use Rattle.sourcemap_cli.specs.Program.{file_read}
 use Rattle.sourcemap_cli.proofs.ProgramLemmas.{only_reply, reply_of_command, reply_to_others}

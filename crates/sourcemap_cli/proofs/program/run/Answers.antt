@@ -1,4 +1,4 @@
--- Unless writing failed, the reply was printed, or an error instead of it.
+-- If writing succeeds, the output is the text of the reply. If there is no reply, the output is the text of an error.
 use Rattle.std.proofs.Common.{map, string_bytes}
 use Rattle.sourcemap_cli.proofs.ProgramLemmas.{runs}
 use Rattle.sourcemap_cli.proofs.program.run.Goals as goal

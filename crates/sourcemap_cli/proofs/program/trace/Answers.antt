@@ -1,4 +1,5 @@
--- The answers to the positions that were read, or the read error.
+-- For a map with sorted sections, the output is `trace_of` for the positions in the file. If the file cannot be read,
+-- the result is the error of reading.
 use Rattle.std.proofs.Common.{option_map}
 use Rattle.std.proofs.lemmas.Result.{err_from_is_err_and}
 use Rattle.sourcemap.specs.AnyMap.{map_tree}

@@ -4,7 +4,7 @@ use Rattle.std.specs.List.{list_all}
 use Rattle.std.specs.Str.Parse.{digits_value}
 use Rattle.sourcemap_trace.proofs.positions.number_before.Given as goal
 
--- the bytes so far are digits, none of them is the mark, and `value` is their number
+-- the bytes before `index` are digits, none of them is `mark`, and `value` is their decimal value, at most 4294967295
 abbrev pub invariant-loop-index : goal.invariant-loop-index
 invariant-loop-index l = record {
   bound : l.index ≤ length l.bytes;

@@ -1,4 +1,4 @@
--- The first of the lines that are left is answered.
+-- Each pass of the loop answers the first of the remaining lines.
 use Rattle.std.proofs.Common.{◌∙◌, ◌<◌, length, rules, string_bytes}
 use Rattle.sourcemap.specs.AnyMap.{map_tree}
 use Rattle.sourcemap.specs.Trees.{meaning}

@@ -4,7 +4,7 @@ use Rattle.sourcemap.specs.Trees.{IsInOrder, meaning}
 use Rattle.sourcemap_trace.specs.Trace.{trace_of}
 use Rattle.sourcemap_trace.proofs.trace.trace_text.Given as goal
 
--- if the map is in order, the text so far and the answers to the lines left are the answers to all lines
+-- if the map is in order, `text` followed by the answers to `rest` equals the answers to all `positions`
 abbrev pub invariant-loop-rest : goal.invariant-loop-rest
 invariant-loop-rest l = IsInOrder (map_tree l.map)
     → string_bytes l.text ++ trace_of (meaning (map_tree l.map)) l.rest ≡ trace_of (meaning (map_tree l.map)) l.positions

@@ -1,4 +1,4 @@
--- The law of written maps, for the map of these tokens.
+-- The map of the tokens is well-formed. So the text of the map reads back, by the law `written_maps_read_back`.
 use Rattle.std.proofs.Common.{◌∙◌, ap, map, string_bytes, [], ◌∷◌}
 use Rattle.sourcemap_uses.proofs.BuildingLemmas.{made, reads_back}
 use Rattle.sourcemap_uses.proofs.building.write_tokens.Goals as goal

@@ -1,4 +1,4 @@
--- A data URL whose payload does not decode.
+-- If decoding gives an error other than `InvalidDataUrl` and `OutOfMemory`, the payload decodes to this error.
 use Rattle.sourcemap_uses.proofs.DataUrlsLemmas.{held_unless_memory}
 use Rattle.sourcemap_uses.proofs.data_urls.inline_map.Goals as goal
 

@@ -1,4 +1,4 @@
--- The law of written maps, for this map; the errors of writing.
+-- If the map is well-formed, the written text reads back (`written_maps_read_back`). Only `encode_in_parts` may fail.
 use Rattle.std.proofs.lemmas.Result.{err_from_is_err_and}
 use Rattle.sourcemap_uses.proofs.exporting.export.Goals as goal
 

@@ -1,4 +1,4 @@
--- A reference that resolves to a file, and one that resolves to none.
+-- If `resolve_path` returns a path, the answer is the file with this path. For `None`, the answer is `Nowhere`.
 use Rattle.std.proofs.Common.{refl, inl, Some, None}
 use Rattle.std.specs.Prelude.{string_bytes}
 use Rattle.sourcemap_uses.proofs.finding.file_of.Goals as goal

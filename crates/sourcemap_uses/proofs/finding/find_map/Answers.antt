@@ -1,4 +1,4 @@
--- A text with a reference.
+-- If the text has a reference, the answer of `map_of` for the first reference is the answer for the text.
 use Rattle.sourcemap.specs.Reference.{first_reference}
 use Rattle.sourcemap_uses.proofs.FindingLemmas.{by_reference}
 use Rattle.sourcemap_uses.proofs.finding.find_map.Goals as goal

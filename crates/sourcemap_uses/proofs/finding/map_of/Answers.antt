@@ -1,4 +1,4 @@
--- A reference with an embedded map, and one without.
+-- If the reference embeds a map, the answer is this map. If the URL is no `data:` URL, `file_of` gives the answer.
 use Rattle.std.proofs.Common.{refl, inl, Some}
 use Rattle.sourcemap.specs.AnyMap.{map_tree}
 use Rattle.sourcemap.specs.References.{url_of}

@@ -1,4 +1,4 @@
--- The name that the decoded map returns.
+-- If the bytes decode to a Hermes map, `name_at` determines the result. The only error of `name_at` is `OutOfMemory`.
 use Rattle.std.proofs.Common.{Err, option_map, string_bytes}
 use Rattle.std.proofs.lemmas.Result.{IfOk-weaker}
 use Rattle.sourcemap.specs.Hermes.{hermes_value}

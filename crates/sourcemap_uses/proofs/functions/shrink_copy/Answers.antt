@@ -1,5 +1,5 @@
--- The copy has the value of the map, so rewriting it returns what rewriting the map does. If the map is well-formed and
--- its resolved sources are distinct, the same holds of the copy, so scopes are kept.
+-- The copy has the same value as the map, so rewriting the copy returns the rewritten map. If the regular map is
+-- well-formed and no two sources resolve to the same text, the result keeps the scopes of the map.
 use Rattle.std.proofs.Common.{◌≡◌, Result, Ok, IfOk, subst, sym}
 use Rattle.std.proofs.lemmas.Result.{IfOk-weaker}
 use Rattle.sourcemap.specs.Answer.{Gives, IsAnswer}

@@ -1,4 +1,4 @@
--- The sources before the remaining ones were added.
+-- The loop adds the resolved sources in order. If adding a source fails, only the sources before this source are added.
 use Rattle.std.proofs.Common.{◌∙◌, ap}
 use Rattle.std.proofs.lemmas.Result.{err_from_is_err_and}
 use Rattle.sourcemap.specs.Iterators.{sources_left}

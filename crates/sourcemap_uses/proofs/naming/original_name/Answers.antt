@@ -1,4 +1,4 @@
--- The name that the decoded map guesses.
+-- `original_name` returns what `function_name` returns for the decoded map.
 use Rattle.std.proofs.Common.{◌≡◌, Err, option_map, string_bytes}
 use Rattle.std.proofs.lemmas.Result.{IfOk-weaker}
 use Rattle.sourcemap.specs.Reading.{BytesHaveResult, RegularDecodes}

@@ -1,4 +1,4 @@
--- The law of written maps, for the rewritten map.
+-- By the law `written_maps_read_back`, decoding the returned bytes restores the rewritten map.
 use Rattle.std.proofs.Common.{refl, false, Err}
 use Rattle.std.proofs.lemmas.Result.{err_from_is_err_and}
 use Rattle.sourcemap.specs.Reading.{BytesHaveResult, RegularDecodes}

@@ -1,4 +1,4 @@
--- Rewriting with default options, part by part.
+-- `shrink` returns `rewritten no_removal` of the map. The root, the sources and the names of the result follow.
 use Rattle.std.proofs.Common.{◌≡◌, refl, None, arith}
 use Rattle.sourcemap.specs.Rewrite.{no_removal, rewritten, used_names, used_sources}
 use Rattle.sourcemap_uses.proofs.RewritingLemmas.{default_memory, default_whole, sources_uncut, whole_so}

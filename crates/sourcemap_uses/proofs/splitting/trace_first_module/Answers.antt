@@ -1,6 +1,6 @@
--- The text that the map of the first module gives for the position, or an error. The text is empty if there is no
--- module. The flattened map gives the same text for the same position in the bundle, if two things are in the module:
--- this position, and the generated position of the closest token to it in the flattened map.
+-- `trace_first_module` returns the text that the map of the first module gives for the position, or an error. Without a
+-- module the text is empty. Let `p` be the same position in the bundle. The flattened map gives the same text for `p`
+-- if two positions are in the module: `p`, and the generated position of the token closest to `p` in the flattened map.
 use Rattle.std.proofs.lemmas.Result.{err_from_is_err_and}
 use Rattle.std.proofs.Common.{◌≡◌, ◌∙◌, ◌+◌, ◌-◌, sym, ap, subst, Ok, IfOk, string_bytes, arith}
 use Rattle.sourcemap.specs.Answer.{Gives}

@@ -1,4 +1,4 @@
--- `get_mut` borrows the value, and the seal ends with the value that the borrow ends with.
+-- `get_mut` borrows the value in the seal. When the borrow ends, the seal holds the last value of the borrow.
 use mathlib.Core.Path.{◌≡◌, refl}
 use Prim.Native.Nat.{ℕ}
 use mathlib.Core.List.{List, [], ◌∷◌}

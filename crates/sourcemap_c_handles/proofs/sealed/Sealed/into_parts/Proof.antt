@@ -43,7 +43,7 @@ module _ {M : Type 1} {𝓤 : Ura M} (𝓛 : Logic 𝓤) (at_mem : Memory → SP
   abbrev W : Contract 𝓤
   W = walk_of 𝓛 F.ended stayed (F.clauses 𝓛 at_mem run)
 
-  -- z with this value in the seal
+  -- `z` with `content` in the seal
   abbrev holding : W.Ghost → Option Held → W.Ghost
   holding z content = ((z.0.0, z.0.1, z.0.2, (record { at = z.0.3.0.at; alloc = z.0.3.0.alloc; content = content }, tt), z.0.4), z.1)
 
