@@ -153,7 +153,8 @@ module _ (f : List ℕ → List ℕ) where
   with_changes-further news olds ts i new t many at is h =
       rw add-one (further news ts (with_changes olds ts) i new t _ many at (current-at olds ts i t at) is h)
 
-  -- if `ts` has at most `i` texts, the equality for the first `i` texts holds for all texts
+  -- if `ts` has at most `i` texts, and the changes `news` make the first `i` wanted texts from `ts`, then `news` makes
+  -- all wanted texts from `ts`
   pub with_changes-through : (news olds : List (Option (List ℕ))) (ts : List (List ℕ)) (i : ℕ) → length ts ≤ i
       → with_changes news (take i ts) ≡ take i (map f (with_changes olds ts)) → map f (with_changes olds ts) ≡ with_changes news ts
   with_changes-through news olds ts i past h =

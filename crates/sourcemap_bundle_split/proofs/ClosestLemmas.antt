@@ -6,7 +6,8 @@ use Rattle.std.specs.Ordering.{is_lt, is_eq}
 use Rattle.std.specs.declared.cmp.Ordering.{Ordering}
 use Rattle.sourcemap_tokens.specs.Search.{find_last, closest_item}
 
--- If a filter keeps the item that a search finds, the search finds the same item in the filtered list.
+-- If a filter keeps the item that `find_last` finds, `find_last` finds the same item in the filtered list. If a filter
+-- keeps every item that passes the test, `find` finds the same item in the filtered list.
 
 find-filter : {X : Type 0} (test keep : X → Bool) (xs : List X) → ((x : X) → test x ≡ true → keep x ≡ true)
     → find test (filter keep xs) ≡ find test xs

@@ -1,5 +1,6 @@
 -- The map of a module and the flat map give a position in the module's text the same meaning. This holds if the flat
--- map's closest token is in the module's text too.
+-- map's closest token is in the module's text too, and the flat map has at most 4294967295 sources and at most
+-- 4294967295 names.
 use Rattle.std.proofs.Common.{◌≡◌, ◌∙◌, refl, sym, ap, subst, ℕ, ◌+◌, ◌-◌, ◌<◌, ◌≤◌, ◌==◌, ◌&&◌, List, [], ◌∷◌, length, map, filter, Bool, true, false, cond, not, nat_lt, nat_eq, Option, Some, None, option_map, unwrap_or, slice_get, arith}
 use Rattle.std.specs.List.{AllByRecursion}
 use Rattle.std.proofs.lemmas.Bool.{eqb-true}
@@ -124,7 +125,8 @@ module _ (flat : MapValue) (name : List ℕ) (line : ℕ) (end p : ℕ × ℕ) (
       ∙ ap (λ name. meaning_by (source_of flat t.src_id) name (distance (moved t) (lowered_to line p))) name_same
       ∙ ap (meaning_by (source_of flat t.src_id) (name_of flat t.name_id)) distance_same
 
-  -- the module's map gives the position `lowered_to line p` the meaning that the flat map gives `p`
+  -- let the flat map have at most 4294967295 sources and at most 4294967295 names. If `p` and its closest token are in
+  -- the module's text, `lowered_to line p` has the meaning in the module's map that `p` has in the flat map
   pub module_meaning : meaning new (lowered_to line p) ≡ meaning flat p
   unfolding of_item
   module_meaning =

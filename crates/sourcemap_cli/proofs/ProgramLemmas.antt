@@ -224,8 +224,8 @@ returns_trace held path t r ordered h =
     with_file held (λ file. IsInOrder t → IsAnswer string_bytes (λ a. a ≡ traced t file) r)
     (λ file. IsAnswer string_bytes (ReturnsWithFile file (Trace path) t) r) (λ file says. says ordered) h
 
--- if `positions` were read from the file, `traced` specifies the result `r` of `trace_text`. If reading failed,
--- `traced` specifies the read error (`traced_unread`)
+-- let the sections of the map be sorted. If `positions` were read from the file, `traced` specifies the result `r` of
+-- `trace_text`. If reading failed, `traced` specifies the read error (`traced_unread`)
 pub traced_read : (held : Option (Result (List ℕ) Error)) (positions : List ℕ) (t : MapTree) (r : Result (String Global) Error)
     → WithFile held (λ file. Ok positions ≡ file)
     → (IsInOrder t → Gives string_bytes r (Ok (trace_of (meaning t) positions)))
@@ -497,7 +497,8 @@ reported_is_cut_short : (words : List (List ℕ)) (e reported : Error) → (repo
 reported_is_cut_short words e reported (inl same) h = subst (λ x. IsCutShort words x) (sym same) h
 reported_is_cut_short words e reported (inr out) h = out_of_memory words reported out
 
--- if writing succeeds, the output and the status are as `Runs` specifies, whether `made` is a reply or an error
+-- if `made` is as `reply_to_input` specifies and writing succeeds, the output and the status are as `Runs` specifies.
+-- `made` may be a reply or an error
 pub runs : (words : List (List ℕ)) (input : Option (List ℕ)) (made : Result Reply Error)
     (old new : Option (List ℕ)) (result : Result ℕ Error)
     → Reading input (λ bytes. WithFile None (λ file. MatchResult made (IsReplyTo words bytes file) (IsCutShort words)))

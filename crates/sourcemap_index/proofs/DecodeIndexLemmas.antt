@@ -198,7 +198,8 @@ parts_decoded fields ss decoded sorted (Ok i) few h up made =
 parts_decoded fields ss decoded sorted (Err e) few h up made =
     UnlessMemory-weaker e (λ (h : ◌≡◌ {A = Result IndexValue Error} (Ok (index_with (index_parts fields) sorted)) (Err e)). cc) made
 
--- a record without sections decodes by `LeafDecodes`, whatever value `left` then replaces its field `sections`
+-- if a record has no sections, each result that `LeafDecodes` allows for it is a result that `TreeDecodes` allows. The
+-- field `sections` does not matter to `LeafDecodes`, so any value `left` may replace it
 plain_tree : (r : RawSourceMap) → (out-RawSourceMap r).sections ≡ None → tree r ≡ plain (fields_view (out-RawSourceMap r))
 plain_tree r none = tree-out r ∙ ap (λ v. tree_with (fields_view (out-RawSourceMap r)) (option_map (λ v. sections_from (map section v.items)) v)) none
 

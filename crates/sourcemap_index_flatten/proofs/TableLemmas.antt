@@ -279,8 +279,9 @@ module _ (before : List TextEntry) (e : TextEntry) where
 pub table-none : (t : Table) → t.ids ≡ [] → entry_values t.entries.items ≡ [] → IsTable [] t
 table-none t index none = record { index = index; kept = none; few = omega arith }
 
--- if `old` is the table after `before` was entered, and `with_text` and `put_at` make `new` from `old`, then `new` is
--- the table after `before` and `e` were entered. If the text of `e` is new, `old` must have fewer than 4294967295 texts
+-- let `old` be the table after `before` was entered, and let `number` be the id of the text of `e` in `new`. If
+-- `with_text` and `put_at number` make `new` from `old`, then `new` is the table after `before` and `e` were entered.
+-- If the text of `e` is new, `old` must have fewer than 4294967295 texts
 pub entered-more : (before : List TextEntry) (e : TextEntry) (number : ℕ) (old new : Table) → IsTable before old
     → (id_of e.0 old.ids ≡ None → length old.ids < 4294967295)
     → id_of e.0 new.ids ≡ Some number

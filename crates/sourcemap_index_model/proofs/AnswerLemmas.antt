@@ -148,8 +148,8 @@ follow_or_reach o own (filled head t rest) p h =
       | inr reached ↦ inr (reach o own (offset_of head) p _ (filled head t rest) (lookups rest) refl refl h.0 h.1 reached)
     ]
 
--- if a search in the section `s` alone gives `p` the meaning `m`, `p` is not before the offset of `s`, and the map of
--- `s` has the meaning `m` for `p` relative to this offset
+-- if a search in the section `s` alone gives `p` the meaning `m`, then `p` is not before the offset of `s`, and the map
+-- of `s` has the meaning `m` for `p` relative to this offset
 alone : (s : SectionLookup) (p : ℕ × ℕ) (m : Meaning) → answer_of p (closest_section (s ∷ []) p) ≡ Some m
     → (is_lt (position_cmp p s.0) ≡ false) × (option_map says (s.1 (relative_position s.0 p)) ≡ Some m)
 alone s p m e =
@@ -161,8 +161,8 @@ alone s p m e =
       ]
     ]
 
--- if all of the sections `ss` are after `p`, the search for `p` can skip `ss`. If `s` is before `p` and the search in
--- `ss` finds a section, the search can skip `s` (`closest_if_reached`)
+-- if the sections `ss` do not overlap and all of them are after `p` (`Follow`), the search for `p` can skip `ss`. If
+-- `s` is before `p` and the search in `ss` finds a section, the search can skip `s` (`closest_if_reached`)
 closest_if_followed : (s : SectionLookup) (ss : MapSections) (p : ℕ × ℕ) → Follow (spans ss) p → closest_section (s ∷ lookups ss) p ≡ closest_section (s ∷ []) p
 closest_if_followed s ss p follow = closest_before (λ (s : SectionLookup). s.0) p (s ∷ []) (lookups ss) (lookups_follow p ss follow)
 

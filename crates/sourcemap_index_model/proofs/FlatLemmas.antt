@@ -92,7 +92,7 @@ index_flattened parts ss m e =
     let same : m ≡ merged parts.file put.0 = let f = put.2 in cc in
     (put.0, same, subst (AreFlattened ss) (sym made.1) made.2, made.3)
 
--- Each token has the same meaning in the concatenation as in the map of its piece.
+-- Each token has the same meaning in the concatenation as in the map of its piece, if there are enough ids (`AreFew`).
 
 present-all : (texts : List (List ℕ)) → present (map Some texts) ≡ texts
 present-all [] = refl
@@ -161,7 +161,7 @@ module _ (file : Option (List ℕ)) (pieces : List Piece) (few : AreFew pieces) 
       sym (sorted_by-change destination position_cmp entry_position position_cmp say_merged (λ s t. refl) (flat_map tokens_of pieces))
       ∙ ap by_position (pieces_say pieces (all_among pieces))
 
-  -- The concatenation is well-formed if the map of each piece is well-formed.
+  -- The concatenation is well-formed if the map of each piece is well-formed and there are enough ids (`AreFew`).
 
   number_past : (o : Option (List ℕ)) → IsListedIfAny (sources_in pieces) o → length (sources_in pieces) ≤ number_in (sources_in pieces) o → o ≡ None
   number_past None h past = refl
@@ -198,7 +198,8 @@ module _ (file : Option (List ℕ)) (pieces : List Piece) (few : AreFew pieces) 
       AllWithin-in_order (length (sources_in pieces)) (length (names_in pieces)) (flat_map tokens_of pieces)
       (All-flat_map (IsWithin (length (sources_in pieces)) (length (names_in pieces))) tokens_of pieces (pieces_within pieces (all_among pieces) all))
 
--- The tokens of the flattened map have the positions and meanings in the flat list, sorted stably by position.
+-- If the tokens of each map in the index map are sorted, the tokens of the flattened map have the positions and
+-- meanings in the flat list, sorted stably by position.
 
 abbrev absolute_meaning : Piece → List Entry
 absolute_meaning piece = map (absolute_entry piece.0) (token_meanings piece.1)

@@ -219,8 +219,8 @@ new-among texts i text distinct at = none_has (take i texts) text never
         let same : n ≡ i = cc in
         absurd (omega (arith, same, before.0))
 
--- let no slot be free for the new `text`. An attempt to add `text` to the overflow tree succeeds (`put` is `true`) or
--- fails. The index stays valid in both cases
+-- let there be fewer than 4294967295 texts, and no free slot for the new `text`. An attempt to add `text` to the
+-- overflow tree succeeds (`put` is `true`) or fails. The index stays valid in both cases
 pub index-put : (texts : List (List ℕ)) (mask : ℕ) (slots : List Slot) (others : List ℕ → Option ℕ) (is : IsIndex texts mask slots others) (text : List ℕ) → length texts < 4294967295
     → ArePassed texts slots (start_of mask (hash_of text)) text 32 → others text ≡ None
     → (put : Bool) (texts' : List (List ℕ)) (others' : List ℕ → Option ℕ) → texts' ≡ (if put then texts ++ text ∷ [] else texts)

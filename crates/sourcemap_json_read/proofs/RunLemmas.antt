@@ -144,7 +144,8 @@ copied_more out before text from at n after is =
     ap (λ xs. xs ++ take n (drop at text)) is ∙ append_assoc before (take (at - from) rest) (take n (drop at text))
     ∙ ap (λ xs. before ++ (take (at - from) rest ++ take n xs)) there ∙ ap (λ xs. before ++ xs) (sym (take-add (at - from) n rest)) ∙ ap (λ k. before ++ take k rest) count
 
--- truncating `all` to `n` bytes after `out` leaves `out` and the first `n` bytes of `block`
+-- let `all` be `out`, then the first `most` bytes of `block`, and let `n ≤ most`. Truncating `all` to `n` bytes after
+-- `out` leaves `out` and the first `n` bytes of `block`
 pub cut_back : (out block all : List ℕ) (n most : ℕ) → n ≤ most → all ≡ out ++ take most block → take (length out + n) all ≡ out ++ take n block
 cut_back out block all n most few is =
     ap (take (length out + n)) is ∙ take-append-add out (take most block) n ∙ ap (λ xs. out ++ xs) (take-take n most block few)

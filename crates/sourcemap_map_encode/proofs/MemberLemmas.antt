@@ -1,5 +1,5 @@
--- The members of a map's record are sorted by key. If each value is plain, the text of the members is the JSON text of
--- the record (`IsText`).
+-- The members of a map's record are sorted by key. If each value is plain, the text of the members, between `{` and
+-- `}`, is the JSON text of the record (`IsText`).
 use Rattle.std.proofs.Common.{◌≡◌, if◌then◌else◌, ◌==◌, ℕ, ◌<◌, ◌^◌, List, [], ◌∷◌, ◌++◌, length, map, Bool, true, false, ◌||◌, ◌&&◌, codes, is_some, Option, Some, None, option_map, refl, sym, ap, subst, ◌∙◌, append_assoc, append-nil, arith}
 use Rattle.std.specs.List.{AllByRecursion, list_any}
 use Rattle.std.specs.Str.{IsUtf8}

@@ -43,8 +43,8 @@ pub record Written (names : ℕ) (done : List RawToken) (previous : Option RawTo
   pub writing : Writing names done previous against text
   pub is_plain : IsPlainText text
 
--- let `t` not repeat `previous`. The mappings of `done`, then the separators and the segment of `t`, are the mappings
--- of `done ++ t ∷ []`
+-- let `t` be small (`IsSmall`), not repeat `previous`, and not be above the line of `against`. The mappings of `done`,
+-- then the separators and the segment of `t`, are the mappings of `done ++ t ∷ []`
 pub token-put : (names : ℕ) (done : List RawToken) (previous : Option RawToken) (against : RawToken) (t : RawToken) (h i j : Option (List ℕ)) (a b c : List ℕ)
     → repeats previous t ≡ false → against.dst_line ≤ t.dst_line → IsSmall t
     → GrowsBy (Written names done previous against) h a i b
@@ -83,7 +83,8 @@ put-carried names done more previous against other h i j a b c e f k l w =
     (subst (λ (known : Option (List ℕ)). GrowsBy (Written names done previous against) h a known c) (sym k)
     (subst (λ (r : List ℕ). GrowsBy (Written names done previous against) h a i r) (sym l) w)))
 
--- if `tokens` are in order and all are written, the text is the `mappings` text of `tokens` (`IsMappingsText`)
+-- let `names` be below 2^32 and `tokens` be in order. If all tokens are written, the text is the `mappings` text of
+-- `tokens` (`IsMappingsText`)
 pub all-put : (names : ℕ) (tokens : List RawToken) (previous : Option RawToken) (against : RawToken) (h i : Option (List ℕ)) (a b : List ℕ)
     → names < 2 ^ 32 → AreInOrder tokens → GrowsBy (Written names tokens previous against) h a i b → GrowsBy (IsMappingsText names tokens) h a i b
 all-put names tokens previous against h i a b few order (text, w, x) =
@@ -99,7 +100,8 @@ all-put names tokens previous against h i a b few order (text, w, x) =
       x,
     )
 
--- if `bits` is appended to the buffer and `ends` semicolons follow, the text written is a line of bits
+-- let `bits` be the text of `flags` (`IsBitText`). If `bits` is appended to the buffer and `ends` semicolons follow,
+-- the text written is a line of bits (`IsLineOfBits`)
 pub line-grown : (h i : Option (List ℕ)) (a b c bits : List ℕ) (flags : List Bool) (ends : ℕ)
     → IsBitText flags bits → b ≡ a ++ bits → Grows h b i c (replicate ends semicolon) → GrowsBy (IsLineOfBits flags ends) h a i c
 line-grown h i a b c bits flags ends is pushed y = (
@@ -121,8 +123,8 @@ none-ranged flags held gathered e =
     subst (λ (fs : List Bool). GrowsBy (Ranged 0 [] fs) held gathered held gathered) (sym e)
     ([], record { ranging = Ranging-none; is_plain = tt }, Grows-none held gathered)
 
--- let no token of `done` be after `line`. If the bits of `line` and `n - line` line ends are written, the text has the
--- range bits of all lines before `n`
+-- let no token of `done` be after `line`, and let `n` be a later line. If the bits of `line` and `n - line` line ends
+-- follow the bits of the lines before `line`, the text has the range bits of all lines before `n`
 pub turn-ranged : (line n : ℕ) (done : List RawToken) (flags : List Bool) (h i j : Option (List ℕ)) (a b c : List ℕ)
     → line < n → UpTo line (without_repeats done) → GrowsBy (Ranged line done flags) h a i b → GrowsBy (IsLineOfBits flags (n - line)) i b j c
     → GrowsBy (Ranged n done []) h a j c

@@ -1,5 +1,6 @@
--- The parts of a map's text together are the JSON text of the map's record (`IsEncoded`). If the map is well-formed,
--- this record reads back.
+-- If each member of a map's record is plain, the leading members are sound (`HasSoundLeadingMembers`), and the map has
+-- at most 4294967295 sources and at most 4294967295 names, the parts of the map's text together are the JSON text of
+-- the record (`IsEncoded`). If the map is also well-formed, this record reads back.
 use Rattle.std.proofs.Common.{◌≡◌, ◌≢◌, ℕ, ◌≤◌, ◌==◌, List, [], ◌∷◌, ◌++◌, length, Bool, true, false, if◌then◌else◌, Option, Some, None, option_map, IfSome, Ok, refl, sym, ap, subst, ◌∙◌, append_assoc, arith}
 use Rattle.std.specs.List.{AllByRecursion}
 use Rattle.serde_json.specs.Data.{null, string}

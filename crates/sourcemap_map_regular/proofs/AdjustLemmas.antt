@@ -1,4 +1,5 @@
--- The meaning of an adjusted map: moving a position (`IsMovedAlone`) changes neither the origin nor the meaning.
+-- Let a well-formed map have at most 4294967295 sources, and its tokens be in order. If this map is adjusted, a
+-- position that is moved (`IsMovedAlone`) keeps its meaning.
 use Rattle.std.proofs.Common.{◌≡◌, refl, sym, ap, ◌∙◌, ℕ, ◌≤◌, List, length, Option, None, Some, option_map, Ok}
 use Rattle.sourcemap_tokens.specs.declared.tokens.RawToken.{RawToken}
 use Rattle.sourcemap_tokens.specs.Tokens.{AreInOrder, closest_token, destination, position_cmp}

@@ -56,7 +56,8 @@ none_before texts ids text new =
     none_names texts (texts_in_use texts ids) text new ids
     (All-unmapped (IsListedIfAny (texts_in_use texts ids)) (slice_get texts) ids (used-kept (map (slice_get texts) ids)))
 
--- if `id` is an index of `text`, and `before` contains no index of `text`, then `id` is the first number of `text`
+-- if `id` is an index of `text`, and `before` contains no index of `text`, then `id` is the first index of `text` in
+-- `before ++ id ∷ later`
 pub first_here : (texts : List (List ℕ)) (before later : List ℕ) (id : ℕ) (text : List ℕ)
     → id_of text (texts_in_use texts before) ≡ None → slice_get texts id ≡ Some text → first_of texts (before ++ id ∷ later) text ≡ id
 first_here texts before later id text new at =
@@ -155,7 +156,8 @@ firsts-distinct texts ids = distinct_by_index (firsts_of texts ids) apart
         let (other, at_other, named_other) = text_at j x f in
         one_index one other i j (sym named_one ∙ named_other) (distinct-texts_in_use texts ids one i at_one) (distinct-texts_in_use texts ids other j at_other)
 
--- For each source in use, the seen numbers and the source ids of the tokens have the same first number.
+-- For each source in use, its first index among the seen numbers is also its first index among the source ids of the
+-- tokens.
 
 -- the text whose only item is `id`, if `id` passes `test`; otherwise `None`
 abbrev passing : (ℕ → Bool) → ℕ → Option (List ℕ)

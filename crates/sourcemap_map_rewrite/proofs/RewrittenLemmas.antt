@@ -36,7 +36,8 @@ all_have_new_numbers S s is = All-weaker (IsSeen S s) (HasNewNumber s.numbers.it
     has : (id : ℕ) → IsSeen S s id → HasNewNumber s.numbers.items (length (seen_texts S s)) id
     has id seen = (seen.number, seen.numbered, slice_get_within (seen_texts S s) seen.number seen.text (slice_get-id_of seen.text (seen_texts S s) seen.number seen.interned))
 
--- let `texts` be the seen texts, and `count` the length of `texts`. Each seen old number has a new number below `count`
+-- let `s` number the texts `S` (`AreNumbered`), `texts` be the seen texts, and `count` be the length of `texts`. Each
+-- seen old number has a new number below `count`
 pub numbered_below : (S : List (List ℕ)) (s : NewNumbers) (texts : Vec (String Global) Global) (count : ℕ) → AreNumbered S s → texts_of texts ≡ seen_texts S s → count ≡ vec_len texts
     → (count ≡ length (seen_texts S s)) × AllByRecursion (HasNewNumber s.numbers.items count) s.order.items
 numbered_below S s texts count is kept many =

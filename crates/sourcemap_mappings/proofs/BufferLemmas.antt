@@ -78,7 +78,8 @@ Adds-three a b old ha hb more low =
     (HasContinuation-glyph (raw % 32) (omega arith), (HasContinuation-glyph (raw / 32 % 32) (omega arith), tt)) (omega arith)
     (raw_of-split (first ∷ []) raw (raw / 32) (raw_of-split [] raw raw (omega arith))) (λ _. omega arith)
 
--- two bytes are stored from index `at` on. The first `n` bytes then end with `x`, or with `x` and `y`
+-- two bytes are stored from index `at` on. The first `at + 1` bytes then end with `x`, and the first `at + 2` bytes end
+-- with `x` and `y`
 pub pair-one : (buffer : List ℕ) (at x y n : ℕ) → n ≡ at + 1 → at + 1 < length buffer → take n (set (set buffer at x) (at + 1) y) ≡ take at buffer ++ x ∷ []
 pair-one buffer at x y n e h = take-set-le n (set buffer at x) (at + 1) y (omega arith) ∙ take-set_at buffer at n x e (omega arith)
 
@@ -89,7 +90,8 @@ pair-two buffer at x y n e h =
     ∙ ap (λ xs. xs ++ y ∷ []) (take-set_at buffer at (at + 1) x refl (omega arith))
     ∙ append_assoc (take at buffer) (x ∷ []) (y ∷ [])
 
--- three bytes are stored from index `at` on. The first `n` bytes then end with `x`, with `x` and `y`, or with all three
+-- three bytes are stored from index `at` on. The first `at + 1` bytes then end with `x`, the first `at + 2` bytes end
+-- with `x` and `y`, and the first `at + 3` bytes end with all three
 pub triple-one : (buffer : List ℕ) (at x y z n : ℕ) → n ≡ at + 1 → at + 2 < length buffer
     → take n (set (set (set buffer at x) (at + 1) y) (at + 2) z) ≡ take at buffer ++ x ∷ []
 triple-one buffer at x y z n e h =

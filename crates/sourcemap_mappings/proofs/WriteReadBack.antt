@@ -1,4 +1,5 @@
--- Decoding the encoded texts of sorted tokens that satisfy `AllWithin` gives their reduced list.
+-- Decoding the encoded texts of sorted tokens that satisfy `AllWithin` and `IsSmall` gives their reduced list, if there
+-- are fewer than 2^32 sources and fewer than 2^32 names.
 use Rattle.std.proofs.Common.{◌≡◌, ℕ, ◌+◌, ◌^◌, ◌||◌, ◌<◌, ◌≤◌, suc, zero, Bool, true, false, cond, List, [], ◌∷◌, ◌++◌, length, map, filter, Option, Some, None, Ok, refl, sym, ap, subst, ◌∙◌, inl, inr, append_assoc, append-nil, arith, add-zero, zero-add}
 use Rattle.std.specs.List.{join_with_byte, AllByRecursion, slice_index_or, last_or, list_any}
 use Rattle.std.specs.Option.{option_map_or}
@@ -334,7 +335,8 @@ texts_fit names tokens text (Some bits) some written is =
     each_beside (IsLine names ts) (FitBits ts) 0 (lines_of text) (lines_of bits) lines.0 fit
     (λ m h k. absurd (omega (arith, lines.1, ranges.1)))
 
--- the texts of sorted tokens that satisfy `AllWithin` decode to the reduced list
+-- the texts of sorted tokens that satisfy `AllWithin` and `IsSmall` decode to the reduced list, if there are fewer than
+-- 2^32 sources and fewer than 2^32 names
 pub reads_back : (sources names : ℕ) (tokens : List RawToken) (text : List ℕ) (ranges : Option (List ℕ))
     → sources < 2 ^ 32 → names < 2 ^ 32 → AreInOrder tokens → AllWithin sources names tokens → AllByRecursion IsSmall (without_repeats tokens)
     → Rises (without_repeats tokens) → filter (is_above (line_count tokens)) (without_repeats tokens) ≡ without_repeats tokens

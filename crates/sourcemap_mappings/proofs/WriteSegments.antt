@@ -141,7 +141,8 @@ Writing-repeat names done previous against text t e w =
       reached = subst (λ (ts : List RawToken). Reached (IsLine names ts) against.dst_line text) same w.reached;
     }
 
--- the gap before `t` is the line ends up to the line of `t`, and then a comma if `ts` has tokens on that line
+-- let `ts` be the tokens written so far, up to `line`. The gap before `t` is one `;` for each line after `line`, up to
+-- the line of `t`, and then a comma if `ts` has tokens on the line of `t`
 gap_is : (line : ℕ) (ts : List RawToken) (previous : Option RawToken) (t : RawToken) → line ≤ t.dst_line → UpTo line ts → IsAtLine line ts previous
     → gap previous line t ≡ replicate (t.dst_line - line) semicolon ++ comma_tail (filter (is_on t.dst_line) ts)
 unfolding comma_tail

@@ -12,8 +12,8 @@ use Rattle.sourcemap_trace.specs.Positions.{is_newline, position_of}
 use Rattle.sourcemap_trace.specs.Trace.{answer_at, answer_to, meaning_text, trace_of}
 use Rattle.sourcemap_trace.proofs.PositionsLemmas.{next_line}
 
--- let `new` be `old` followed by the answer to the first line of `rest`, and let `later` be the other lines. Then `new`
--- followed by the answers to `later` equals `old` followed by the answers to `rest`
+-- let `rest` be not empty, let `new` be `old` followed by the answer to the first line of `rest`, and let `later` be
+-- the other lines. Then `new` followed by the answers to `later` equals `old` followed by the answers to `rest`
 pub one_more : (says : ℕ × ℕ → Option Meaning) (rest later old new : List ℕ) (position : Option (ℕ × ℕ)) → 0 < length rest
     → position ≡ position_of (before_first is_newline rest) → later ≡ after_first is_newline rest
     → new ≡ old ++ (answer_at says position ++ codes "\n") → new ++ trace_of says later ≡ old ++ trace_of says rest

@@ -16,7 +16,8 @@ use Rattle.sourcemap.specs.declared.types.RawToken.{RawToken}
 use Rattle.sourcemap_uses.specs.Building.{source_position}
 use Rattle.sourcemap_uses.proofs.RefusalLemmas.{memory_alone}
 
--- if `names` is empty and `source` is the only source, `m` is the map of `tokens` and `source`
+-- let `m` be the map of `tokens`, `names` and `sources`. If `names` is empty and `source` is the only source, `m` is
+-- the map of `tokens` and `source`
 pub made : (m : MapValue) (tokens : List RawToken) (names sources : List (List ℕ)) (source : List ℕ)
     → Gives (λ m. m) (Ok m) (Ok (made_of None tokens names sources [])) → names ≡ [] → sources ≡ source ∷ []
     → m ≡ made_of None tokens [] (source ∷ []) []

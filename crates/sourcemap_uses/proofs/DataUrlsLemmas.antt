@@ -1,4 +1,5 @@
--- If decoding a data URL gives an error other than `InvalidDataUrl`, decoding the payload gives the same error.
+-- If decoding a data URL gives an error other than `InvalidDataUrl` and `OutOfMemory`, decoding the payload gives the
+-- same error.
 use Rattle.std.proofs.Common.{◌≢◌, inl, inr, ap, ℕ, List, Result, Ok, Err}
 use Rattle.sourcemap.specs.Answer.{UnlessMemory}
 use Rattle.sourcemap.specs.DataUrl.{Holds}

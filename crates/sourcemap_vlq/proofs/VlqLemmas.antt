@@ -651,8 +651,9 @@ no_shorter k m n other g e heavy =
           ]
     ]
 
--- if the rest `left` of the raw value after `part` is below 32, the digit of `left` ends the shortest digits of `n`;
--- `n` must not be too large, and `left` must not be 0 if `part` has digits
+-- let all digits of `part` have the continuation bit, and let the rest `left` of the raw value of `n` after `part` be
+-- below 32. Then `part` with the digit of `left` is the shortest digit sequence of `n`; `n` must not be too large, and
+-- `left` must not be 0 if `part` has digits
 pub IsShortest-last : (part : List ℕ) (n : ℤ) (left : ℕ) → AllByRecursion HasContinuation part → left < 32 → unsigned_abs n < 2 ^ 62
     → total_of n ≡ raw_of part + 2 ^ (5 * length part) * left → (0 < length part → 0 < left)
     → IsShortest (part ++ glyph left ∷ []) n

@@ -1,4 +1,4 @@
--- A data URL whose decoding returns an error.
+-- If decoding a data URL returns an error, `EmbeddedAnswer` allows this error, or the error is `OutOfMemory`.
 use Rattle.std.proofs.Common.{◌≡◌, true, rules}
 use Rattle.sourcemap_references.specs.Resolution.{is_data_url}
 use Rattle.sourcemap_embedding.proofs.EmbeddedLemmas.{error_embedded}

@@ -1,4 +1,5 @@
--- Bytes decode to the result for the record that they hold, or to the error for bytes without a record.
+-- Unless memory runs out, bytes decode to the result for the record that they hold, or to the error for bytes without a
+-- record.
 use Rattle.std.proofs.lemmas.Result.{err_from_is_err_and}
 use Rattle.sourcemap_records.specs.Jsontypes.{tree}
 use Rattle.sourcemap_map_regular.specs.Decode.{RegularDecodes}

@@ -1,4 +1,5 @@
--- The result for the reader is the result for the bytes read from the reader, or the error of a failed read.
+-- Unless memory runs out, the result for the reader is the result for the bytes read from the reader, or the error of a
+-- failed read.
 use Rattle.std.proofs.lemmas.Result.{err_from_is_err_and}
 use Rattle.sourcemap_records.specs.Bytes.{BytesHaveResult}
 use Rattle.sourcemap_map_regular.specs.Decode.{RegularDecodes}
