@@ -36,8 +36,8 @@ first_piece-cons x y ys other =
     let more : take_through 10 (x ∷ y ∷ ys) ≡ x ∷ take_through 10 (y ∷ ys) = rw other refl in
     ap (strip_last 10) (more ∙ ap (λ zs. x ∷ zs) next.1) ∙ strip_last-cons x y next.0 ∙ ap (λ zs. x ∷ strip_last 10 zs) (sym next.1)
 
--- a nonempty `text` without a newline is one line. Otherwise the lines are the first line, then the lines of the text
--- after the first newline
+-- `text` is not empty. Its lines are its first line, then the lines of the text after the first newline. Or `text` is
+-- one line, and no text is left after this line
 lines_through : (text : List ℕ) → 0 < length text
     → (text_lines text ≡ first_piece 10 text ∷ text_lines (drop_through 10 text)) ⊎ ((text_lines text ≡ first_piece 10 text ∷ []) × (drop_through 10 text ≡ []))
 lines_through [] some = absurd (omega arith)

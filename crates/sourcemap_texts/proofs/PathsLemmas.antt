@@ -157,8 +157,8 @@ concat-first_parts (parts ∷ lists) (Some s) none joined empty is same =
 
 -- ---- where two texts differ
 
--- two texts get the same byte in front: the new length of the common first parts, from the old length. `both_end`: in
--- both texts, the new byte is a part of its own
+-- two texts get the same byte in front. The first argument is the length of their common first parts before this, and
+-- the result is the length after this. `both_end`: in both texts, the new byte is a part of its own
 abbrev pub extended : ℕ → Bool → ℕ
 extended zero both_end = cond both_end 1 0
 extended (suc count) both_end = suc (suc count)
