@@ -391,7 +391,7 @@ AreEnded-lines_of (byte ∷ next ∷ text) =
       | inr p ↦ AreEnded-cut byte (next ∷ text) p after
     ]
 
--- a byte in front of the first line's body comes in front of the joined lines
+-- if `byte` is added in front of the first line, the joined lines get `byte` in front
 joined-body : (byte : ℕ) (lines : List Line) → 0 < length lines → joined (with_body byte lines) ≡ byte ∷ joined lines
 joined-body byte [] l = absurd (omega arith)
 joined-body byte (line ∷ lines) l = refl

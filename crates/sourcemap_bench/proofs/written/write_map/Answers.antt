@@ -1,4 +1,4 @@
--- The map is written, the bytes do not decode, the writer fails, or memory runs out.
+-- If the map is not written, there are three reasons: the bytes do not decode, the writer fails, or memory runs out.
 use Rattle.std.proofs.lemmas.Result.{err_from_is_err_and}
 use Rattle.sourcemap.specs.AnyMap.{map_tree}
 use Rattle.sourcemap_bench.proofs.WrittenLemmas.{no_map, text_written, text_unwritten}
