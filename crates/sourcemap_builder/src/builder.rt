@@ -15,6 +15,7 @@ ghost use Rattle.sourcemap_source_files.specs.Loading.{folder_of, newly, Fills, 
 ghost use Rattle.sourcemap_builder.specs.Builder.{with_changes, name_if, id_if};
 
 use sourcemap_errors::errors::Result;
+use sourcemap_headers::debug_id::DebugId;
 use sourcemap_interning::interner::Interner;
 use sourcemap_line_index::token_list::TokenList;
 use sourcemap_map_parts::contents::Contents;
@@ -23,7 +24,6 @@ use sourcemap_map_parts::metadata::MapMetadata;
 use sourcemap_map_parts::sources::Sources;
 use sourcemap_map_regular::map::SourceMap;
 use sourcemap_map_regular::token::Token;
-use sourcemap_records::jsontypes::DebugId;
 use sourcemap_source_files::loading::{check_folder, load_contents};
 use sourcemap_source_views::sourceview::SourceView;
 use sourcemap_texts::copies::copy_text;

@@ -17,9 +17,10 @@ use crate::encode::map_into_record;
 use crate::family::DecodedMap;
 use serde_json::Value;
 use sourcemap_errors::errors::Result;
+use sourcemap_headers::debug_id::DebugId;
 use sourcemap_map_regular::encode::Encodable;
 use sourcemap_map_regular::write::encode;
-use sourcemap_records::jsontypes::{DebugId, RawSourceMap};
+use sourcemap_records::jsontypes::RawSourceMap;
 use std::alloc::Global;
 use std::io::{Read, Write};
 

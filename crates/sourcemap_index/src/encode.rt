@@ -16,11 +16,12 @@ use crate::clone::{copy_lines, copy_paths};
 use crate::family::{DecodedMap, SourceMapIndex, SourceMapSection};
 use serde_json::Value;
 use sourcemap_errors::errors::Result;
+use sourcemap_headers::debug_id::DebugId;
 use sourcemap_map_conversions::to_record::checked_id;
 use sourcemap_map_parts::text_lists::copy_string;
 use sourcemap_map_regular::encode::Encodable;
 use sourcemap_map_regular::write::encode;
-use sourcemap_records::jsontypes::{DebugId, RawSection, RawSectionOffset, RawSourceMap};
+use sourcemap_records::jsontypes::{RawSection, RawSectionOffset, RawSourceMap};
 use std::alloc::Global;
 use std::io::Write;
 

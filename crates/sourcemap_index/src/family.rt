@@ -1,8 +1,8 @@
 //! The mutually recursive types `DecodedMap` (a map of any kind), `SourceMapIndex` (an index map)
 //! and `SourceMapSection` (a section of an index map).
+use sourcemap_headers::debug_id::DebugId;
 use sourcemap_hermes::map::SourceMapHermes;
 use sourcemap_map_regular::map::SourceMap;
-use sourcemap_records::jsontypes::DebugId;
 use std::alloc::Global;
 
 /// A section of an index map. It starts at its offset, which is a generated line and column. Its

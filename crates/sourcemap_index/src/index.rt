@@ -9,7 +9,7 @@ ghost use Rattle.sourcemap_records.specs.Jsontypes.{text_view};
 use crate::family::{SourceMapIndex, SourceMapSection};
 use crate::section::SourceMapSectionIter;
 use sourcemap_errors::errors::Result;
-use sourcemap_records::jsontypes::DebugId;
+use sourcemap_headers::debug_id::DebugId;
 use sourcemap_texts::copies::copy_text;
 use std::alloc::Global;
 

@@ -13,12 +13,13 @@ ghost use Rattle.sourcemap_map_conversions.specs.FromRecordSteps.{ArePartsIn, Ha
 use crate::parts::Parts;
 use serde_json::{Number, Value};
 use sourcemap_errors::errors::{Error, Result};
+use sourcemap_headers::debug_id::DebugId;
 use sourcemap_line_index::token_list::TokenList;
 use sourcemap_map_parts::contents::Contents;
 use sourcemap_map_parts::metadata::MapMetadata;
 use sourcemap_map_parts::sources::Sources;
 use sourcemap_mappings::read::parse_token_list;
-use sourcemap_records::jsontypes::{DebugId, RawSourceMap};
+use sourcemap_records::jsontypes::RawSourceMap;
 use std::alloc::Global;
 use std::collections::BTreeSet;
 

@@ -19,6 +19,7 @@ ghost use Rattle.sourcemap_map_conversions.specs.ToRecordSteps.{AreWritten, AreL
 use crate::parts::Parts;
 use serde_json::Value;
 use sourcemap_errors::errors::Result;
+use sourcemap_headers::debug_id::DebugId;
 use sourcemap_line_index::token_list::TokenList;
 use sourcemap_map_parts::contents::Contents;
 use sourcemap_map_parts::fitting::fit;
@@ -26,7 +27,7 @@ use sourcemap_map_parts::metadata::MapMetadata;
 use sourcemap_map_parts::sources::Sources;
 use sourcemap_map_parts::text_lists::copy_texts;
 use sourcemap_mappings::write::{write_mappings, write_range_mappings};
-use sourcemap_records::jsontypes::{DebugId, RawSourceMap};
+use sourcemap_records::jsontypes::RawSourceMap;
 use sourcemap_texts::copies::copy_text;
 use sourcemap_tokens::tokens::RawToken;
 use std::alloc::Global;

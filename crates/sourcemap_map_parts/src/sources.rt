@@ -330,7 +330,7 @@ fn update_resolved(
     ensures err { OnErr result (resolved_list.new ≡ resolved_list.old) }
     ensures memory { IsOkUnless result OutOfMemory }
 {
-    // prover: `&` leaves fewer goals
+    // prover: `&` leaves one goal
     if root.is_empty() & resolved_list.is_none() {
         return Ok(());
     }

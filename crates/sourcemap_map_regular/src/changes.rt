@@ -6,7 +6,7 @@ ghost use Rattle.sourcemap_map_regular.specs.Map.{fitted, IsWellFormed};
 
 use crate::map::SourceMap;
 use sourcemap_errors::errors::Result;
-use sourcemap_records::jsontypes::DebugId;
+use sourcemap_headers::debug_id::DebugId;
 use sourcemap_texts::copies::copy_text;
 
 impl SourceMap {

@@ -8,12 +8,12 @@ ghost use Rattle.sourcemap_map_regular.specs.Map.{distance};
 
 use crate::token::Token;
 use sourcemap_errors::errors::Result;
+use sourcemap_headers::debug_id::DebugId;
 use sourcemap_line_index::token_list::TokenList;
 use sourcemap_map_conversions::parts::Parts;
 use sourcemap_map_parts::contents::Contents;
 use sourcemap_map_parts::metadata::MapMetadata;
 use sourcemap_map_parts::sources::Sources;
-use sourcemap_records::jsontypes::DebugId;
 use sourcemap_source_views::sourceview::SourceView;
 use sourcemap_texts::copies::copy_text;
 use sourcemap_tokens::tokens::RawToken;

@@ -38,7 +38,6 @@ pub(crate) trait Field: Drop {
         ensures value { Makes view result (writing (see self)) }
         ensures in_range { OnOk result (in_range (see self)) };
 
-    // A deep copy.
     fn duplicate(&self, alloc: Global) -> Result<Self>
         ensures { Makes see result (see self.now) };
 }

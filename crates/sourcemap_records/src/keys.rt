@@ -7,7 +7,6 @@ ghost use Rattle.sourcemap_records.specs.Jsontypes.{flat, section, sections_from
 use crate::jsontypes::{DebugId, FacebookSources, RawSection, RawSourceMap};
 use serde_json::Value;
 
-// The version, the generated file, and the sources with their root.
 #[derive(Drop)]
 pub(crate) struct RawFileKeys {
     pub(crate) version: Option<u32>,
@@ -16,7 +15,6 @@ pub(crate) struct RawFileKeys {
     pub(crate) source_root: Option<String>,
 }
 
-// The mappings, the names and the contents.
 #[derive(Drop)]
 pub(crate) struct RawContentKeys {
     pub(crate) sources_content: Option<Vec<Option<String>>>,
@@ -25,7 +23,6 @@ pub(crate) struct RawContentKeys {
     pub(crate) mappings: Option<String>,
 }
 
-// Ignored sources, and the keys of Metro.
 #[derive(Drop)]
 pub(crate) struct RawExtraKeys {
     pub(crate) ignore_list: Option<Vec<u32>>,

@@ -28,7 +28,6 @@ pub trait WalkedToken: Copy + Drop {
 
     ghost name_of: { Seen → Option (List ℕ) };
 
-    // The text of a name.
     ghost text_of: { Self.Name → List ℕ };
 
     // The tokens before this token in its map, the closest first.
