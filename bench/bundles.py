@@ -17,7 +17,7 @@ class Refused(Exception):
     """Why a bundle, a module or a split is refused."""
 
 
-def answered(call, *given):
+def answer_of(call, *given):
     """What a call answers, or the text of its error."""
     try:
         return call(*given)
@@ -113,7 +113,7 @@ def modules_in_turn(bundle, most):
     """The numbers and texts, or the errors, of the first modules."""
     found = []
     for number in range(bundle.count):
-        text = answered(bundle.module, number)
+        text = answer_of(bundle.module, number)
         found += [] if text is None else [(number, text)]
         if len(found) == most:
             break
@@ -127,9 +127,9 @@ def module_text(number, text):
 def parts_of(make, given, numbers, ways):
     """All that a bundle answers, or why it is none."""
     bundle = make(given, ways)
-    code = answered(bundle.startup)
+    code = answer_of(bundle.startup)
     return [bundle.kind, bundle.count, [byte_text(code)] if isinstance(code, bytes) else code,
-            [module_text(number, answered(bundle.module, number)) for number in numbers],
+            [module_text(number, answer_of(bundle.module, number)) for number in numbers],
             [module_text(*found) for found in modules_in_turn(bundle, MOST_MODULES)]]
 
 
@@ -217,5 +217,5 @@ def items_of(make, given, record, ways):
         if not isinstance(data, bytes) or number >= len(lines):
             items.append(NO_ENTRY)
         elif lines[number] is not None:
-            items.append(answered(module_item, flat, lines[number], number, data, ways))
+            items.append(answer_of(module_item, flat, lines[number], number, data, ways))
     return items[:MOST_ITEMS]

@@ -143,18 +143,18 @@ def map_and_rest(data):
     return rules.Map(record), text
 
 
-def walked(data):
+def identifier_sum(data):
     found, text = map_and_rest(data)
     rows = walks.lines_of(text)
     return sum(size_of(walks.identifier_at(rows, token)) for token in found.tokens)
 
 
-def viewed(data):
+def line_sum(data):
     rows = walks.END.split(text_of(data))
     return len(rows) + sum(map(size_of, rows))
 
 
-def sliced(data):
+def slice_sum(data):
     text = text_of(data)
     rows = walks.lines_of(text)
     eighths = [size_of(row) // 8 for row in rows]
@@ -163,24 +163,24 @@ def sliced(data):
 
 def url_of(data):
     """The URL of the reference in a text, None without one."""
-    found = references.located(data)
+    found = references.locate_reference(data)
     if found == 'InvalidData':
         raise rules.Refusal('invalid data')
     return found and found[1]
 
 
-def located(data):
+def url_size(data):
     return size_of(url_of(data))
 
 
 def located_by_view(data):
     text_of(data)
-    return located(data)
+    return url_size(data)
 
 
-def resolved(data):
+def resolved_url_size(data):
     url = url_of(data)
-    return 0 if url is None else size_of(references.resolved(url, MINIFIED_URL))
+    return 0 if url is None else size_of(references.resolved_url(url, MINIFIED_URL))
 
 
 def resolved_path(data):
@@ -189,7 +189,7 @@ def resolved_path(data):
     return 0 if url is None else len(references.resolved_path(url, MINIFIED_PATH) or '')
 
 
-def detected(data):
+def detect_map(data):
     return int(references.is_map(data))
 
 
@@ -203,7 +203,7 @@ def prefix(data):
     return size_of(references.common_prefix(lines_of(text_of(data))))
 
 
-def decoded(data):
+def decode_data_url(data):
     text_of(data)
     front = DATA_URL.match(data)
     try:
@@ -212,21 +212,21 @@ def decoded(data):
         body = None
     if body is None or base64.b64encode(body) != data[front.end():]:
         raise rules.Refusal(NO_URL)
-    rules.decoded(body)
+    rules.decode_map(body)
     return 1
 
 
-def built(data):
+def count_lines(data):
     return len(lines_of(text_of(data)))
 
 
-def interned(data):
+def count_distinct_lines(data):
     return len(set(lines_of(text_of(data))))
 
 
-def encoded(data):
+def map_text(data):
     """The text of a regular map, or of a flattened index map."""
-    found = rules.decoded(data)
+    found = rules.decode_map(data)
     found = found.flat() if isinstance(found, rules.Index) else found
     if not rules.is_regular(found):
         raise rules.incompatible()
@@ -234,7 +234,7 @@ def encoded(data):
 
 
 def encoded_size(data):
-    return size_of(encoded(data))
+    return size_of(map_text(data))
 
 
 def data_url_size(data):
@@ -242,10 +242,10 @@ def data_url_size(data):
 
 
 def resolved_size(found):
-    return sum(size_of(found.resolved(source)) for source in range(len(found.texts)))
+    return sum(size_of(found.resolved_source(source)) for source in range(len(found.texts)))
 
 
-def rooted(data):
+def with_root(data):
     found, found.root = map_and_rest(data)
     return resolved_size(found)
 
@@ -285,7 +285,7 @@ def without_prefix(source, prefixes):
     return source[len(found):]
 
 
-def stripped(data):
+def stripped_size(data):
     line, text = parts_of(data)
     prefixes = [prefix if prefix.endswith('/') else f'{prefix}/' for prefix in line.split(' ')]
     return sum(size_of(without_prefix(source, prefixes)) for source in set(lines_of(text)))
@@ -296,15 +296,15 @@ def module_sizes(data):
         held = bundles.Indexed(data, ())
     except bundles.Refused as error:
         raise rules.Refusal(str(error)) from None
-    found = [bundles.answered(held.module, number) for number in range(held.count)]
+    found = [bundles.answer_of(held.module, number) for number in range(held.count)]
     return sum(len(each) if isinstance(each, bytes) else 1 for each in found if each is not None)
 
 
-def mixed(total, number):
+def mix(total, number):
     return (31 * total + number) % 2**32
 
 
-def split(data):
+def checksum_of(data):
     """The checksum of the modules that a bundle is split into."""
     line, _, rest = data.partition(b'\n')
     record = rules.record(rules.json_of(line))
@@ -320,7 +320,7 @@ def split(data):
 def split_sum(index, held):
     found = index.flat()
     tokens = [(token.line, token.column, token.source_line, token.source_column,
-               found.texts[token.source] if token.source < len(found.texts) else None, found.named(token), token.is_range)
+               found.texts[token.source] if token.source < len(found.texts) else None, found.name_of(token), token.is_range)
               for token in found.tokens]
     flat = types.SimpleNamespace(tokens=tokens, contents=dict(zip(found.texts, found.contents)))
     if index.offsets is None:
@@ -334,26 +334,26 @@ def split_sum(index, held):
             raise bundles.Refused(bundles.NO_ENTRY)
         if index.offsets[number] is not None:
             item = bundles.module_item(flat, index.offsets[number], number, data, ())
-            total = mixed(mixed(total, len(data)), len(item[3]))
+            total = mix(mix(total, len(data)), len(item[3]))
     return total
 
 
 # the words of each call, what draws its input, and what it answers by the rules
-CALLS = {('walk',): (map_and_text, walked), ('view',): (referring_text, viewed), ('locate',): (referring_text, located),
-         ('locate-reader',): (referring_text, located), ('locate-view',): (referring_text, located_by_view),
-         ('resolve',): (referring_text, resolved), ('resolve-path',): (referring_text, resolved_path),
-         ('relative',): (two_paths, relative), ('prefix',): (paths, prefix), ('data-url',): (data_url, decoded),
-         ('embedded',): (data_url, decoded), ('detect',): (record_text, detected), ('detect-reader',): (record_text, detected),
-         ('builder',): (lines, built), ('intern',): (lines, interned), ('bundle',): (bundle, module_sizes),
-         ('slices',): (referring_text, sliced), ('encode',): (map_line, encoded_size), ('encode-in-parts',): (map_line, encoded_size),
-         ('to-data-url',): (map_line, data_url_size), ('set-root',): (map_and_text, rooted), ('set-sources',): (map_and_lines, with_sources),
+CALLS = {('walk',): (map_and_text, identifier_sum), ('view',): (referring_text, line_sum), ('locate',): (referring_text, url_size),
+         ('locate-reader',): (referring_text, url_size), ('locate-view',): (referring_text, located_by_view),
+         ('resolve',): (referring_text, resolved_url_size), ('resolve-path',): (referring_text, resolved_path),
+         ('relative',): (two_paths, relative), ('prefix',): (paths, prefix), ('data-url',): (data_url, decode_data_url),
+         ('embedded',): (data_url, decode_data_url), ('detect',): (record_text, detect_map), ('detect-reader',): (record_text, detect_map),
+         ('builder',): (lines, count_lines), ('intern',): (lines, count_distinct_lines), ('bundle',): (bundle, module_sizes),
+         ('slices',): (referring_text, slice_sum), ('encode',): (map_line, encoded_size), ('encode-in-parts',): (map_line, encoded_size),
+         ('to-data-url',): (map_line, data_url_size), ('set-root',): (map_and_text, with_root), ('set-sources',): (map_and_lines, with_sources),
          ('set-contents',): (map_and_lines, with_contents), ('set-file',): (map_and_lines, with_file), ('ignore',): (map_and_lines, with_ignored),
-         ('strip',): (prefixes_and_sources, stripped)}
+         ('strip',): (prefixes_and_sources, stripped_size)}
 SPLIT = ('split', '1')
-ALL = {**CALLS, SPLIT: (index_and_bundle, split)}
+ALL = {**CALLS, SPLIT: (index_and_bundle, checksum_of)}
 
 
-def drawn(chance, maps):
+def draw_call(chance, maps):
     """The words of a call and its input, mutated or not."""
     words = chance.choice([*ALL, ('walk',), ('data-url',), ('bundle',), SPLIT, SPLIT])
     make = ALL[words][0]
@@ -365,7 +365,7 @@ def drawn(chance, maps):
     return words, data
 
 
-def ended(words, data):
+def outcome_of(words, data):
     """The status and the line of a run by the rules, None where they leave it open."""
     try:
         return 0, f'{ALL[words][1](data)}\n'.encode()

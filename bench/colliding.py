@@ -24,7 +24,7 @@ LENGTH = 48
 PLAIN = set(range(0x21, 0x7F)) - set(b'"\\/')
 
 
-def folded(a, b):
+def fold_product(a, b):
     product = a * b
     return (product & MASK) ^ (product >> 64)
 
@@ -32,7 +32,7 @@ def folded(a, b):
 def after_block(state, block):
     a = int.from_bytes(block[:8], 'little')
     b = int.from_bytes(block[8:], 'little')
-    return folded(a ^ state, b ^ MULTIPLIER)
+    return fold_product(a ^ state, b ^ MULTIPLIER)
 
 
 def hash_of(text):
@@ -57,7 +57,7 @@ def beginning():
     raise AssertionError('no block found')
 
 
-def colliding(count):
+def colliding_texts(count):
     start = beginning()
     texts = [start + b'%08d' % number + b'/src/app/file.js' for number in range(count)]
     assert len({hash_of(text) for text in texts[:1000]}) <= 1
@@ -92,7 +92,7 @@ def map_of(sources, names):
     return {'version': 3, 'sources': sources, 'names': names, 'mappings': ','.join(segments)}
 
 
-def written(kind, texts):
+def output_text(kind, texts):
     if kind == 'lines':
         return ''.join(text + '\n' for text in texts)
     if kind == 'sources':
@@ -113,8 +113,8 @@ def main():
     words.add_argument('count', type=int)
     words.add_argument('--usual', action='store_true')
     given = words.parse_args()
-    texts = usual(given.count) if given.usual else colliding(given.count)
-    sys.stdout.write(written(given.kind, texts))
+    texts = usual(given.count) if given.usual else colliding_texts(given.count)
+    sys.stdout.write(output_text(given.kind, texts))
 
 
 if __name__ == '__main__':

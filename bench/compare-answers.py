@@ -32,7 +32,7 @@ then the status is 1. A reason is given only where what was printed bears it out
 Positions in an index are drawn here, beside tokens of the flat map, beside starts of sections and anywhere.
 """
 import argparse, random, re, tempfile
-from comparing import (TOOL, answer, build_missing, compare_all, is_reordered, noted, tokens_with_positions,
+from comparing import (TOOL, answer, build_missing, compare_all, is_reordered, note_of, tokens_with_positions,
                        reason_of_index, reason_of_record, reason_of_rewritten_hermes, reference_program, tokens_of,
                        without_mark)
 from hermes_maps import KEY
@@ -138,13 +138,13 @@ def positions_in_index(record, count):
     starts = list(map(offset_of, record['sections'])) + [(0, 0)]
     last = max(positions)[0]
 
-    def drawn(number):
+    def draw_position(number):
         if number % 4 == 3:
             return draws.randrange(last + 3), draws.randrange(1 << draws.randrange(33))
         line, column = draws.choice(starts if number % 4 == 2 else positions)
         return line + (draws.randrange(-1, 2) if number % 4 == 2 else 0), column + draws.randrange(-2, 4)
 
-    bounded = ([max(0, min(LAST, part)) for part in drawn(number)] for number in range(count))
+    bounded = ([max(0, min(LAST, part)) for part in draw_position(number)] for number in range(count))
     return ''.join('%d %d\n' % tuple(position) for position in bounded).encode()
 
 
@@ -168,13 +168,13 @@ def compare_lookups(reference, count, name, data):
     for i, position in enumerate(positions.decode().splitlines()):
         here = answer([TOOL, 'lookup', *position.split()], data)
         theirs, with_position = (text if status else both.split(b'\n')[i] for both in (text, with_positions))
-        yield noted(f'{name}, lookup {position}', here, (status, text if status else theirs + b'\n'),
-                    lambda: reason_of_lookup(reference, data, position, here, theirs, with_position))
+        yield note_of(f'{name}, lookup {position}', here, (status, text if status else theirs + b'\n'),
+                      lambda: reason_of_lookup(reference, data, position, here, theirs, with_position))
 
 
 def compare_words(reference, words, name, data):
     here, there = answer([TOOL, *words], data), answer([reference, *words], data)
-    return noted(f'{name}, {" ".join(words)}', here, there, lambda: reason(words[0], data, here, there))
+    return note_of(f'{name}, {" ".join(words)}', here, there, lambda: reason(words[0], data, here, there))
 
 
 def main():

@@ -31,7 +31,7 @@ excuses an answer that is not that of the rules. The ways of the reference are
 - lossy: a file's name that is no UTF-8 is refused as one that has no number
 """
 import argparse, json, os, pathlib, random, struct, tempfile
-from bundles import MAGIC, Files, Indexed, answered, byte_text, is_file_bundle, items_of, parts_of
+from bundles import MAGIC, Files, Indexed, answer_of, byte_text, is_file_bundle, items_of, parts_of
 from comparing import reference_program
 from comparing_references import compare_answers
 from drawn_bundles import STARTUPS, TEXTS, bundle_bytes, drawn_index
@@ -94,11 +94,11 @@ def due(question, ways):
     word, given, more = question
     if word == 'modules':
         data = given.encode('latin-1')
-        return [data[:4] == struct.pack('<I', MAGIC) and len(data) >= 12, answered(parts_of, Indexed, data, more, ways)]
+        return [data[:4] == struct.pack('<I', MAGIC) and len(data) >= 12, answer_of(parts_of, Indexed, data, more, ways)]
     if word == 'folder':
-        return [is_file_bundle(given), answered(parts_of, Files, given, more, ways)]
+        return [is_file_bundle(given), answer_of(parts_of, Files, given, more, ways)]
     make, given = (Indexed, given.encode('latin-1')) if word == 'split' else (Files, given)
-    return answered(items_of, make, given, json.loads(more), ways)
+    return answer_of(items_of, make, given, json.loads(more), ways)
 
 
 # which ways the reference may go

@@ -22,8 +22,8 @@ programs differ, the reason is printed; without one the pair is UNEXPLAINED, and
 - panic: the reference panicked, and there are range tokens
 """
 import argparse, json, pathlib
-from comparing import Note, PANICKED, TOOL, answer, build_missing, compare_all, noted, reference_program
-from composing import composed, tokens_of_record, with_others_last, without_repeats
+from comparing import Note, PANICKED, TOOL, answer, build_missing, compare_all, note_of, reference_program
+from composing import compose_tokens, tokens_of_record, with_others_last, without_repeats
 from index_maps import record_of
 
 ORIGINAL, ADJUSTMENT = '.original.map', '.adjustment.map'
@@ -44,7 +44,7 @@ class Pair:
 
     def __init__(self, original, adjustment):
         self.original, self.adjustment = tokens_of_record(original), tokens_of_record(adjustment)
-        self.due = composed(self.original, self.adjustment)
+        self.due = compose_tokens(self.original, self.adjustment)
 
     def is_due(self, here):
         """Whether an answer is what the rules say."""
@@ -65,14 +65,14 @@ class Pair:
         theirs = without_marks(tokens_of_record(other))
         if theirs == without_marks(self.due):
             return 'range bits' if is_ranged else None
-        whole = composed(self.original, self.adjustment, takes_cut=False)
+        whole = compose_tokens(self.original, self.adjustment, takes_cut=False)
         if theirs == without_marks(whole):
             return 'cut range' if is_ranged else None
         return 'stable sort' if not is_ranged and self.is_reordered(theirs) else None
 
     def is_reordered(self, theirs):
         """Whether tokens without range tokens are what the rules say for another order of the adjustment's."""
-        due = composed(self.original, with_others_last(self.original, self.adjustment, theirs))
+        due = compose_tokens(self.original, with_others_last(self.original, self.adjustment, theirs))
         return due is not None and set(theirs) == set(due)
 
 
@@ -82,7 +82,7 @@ def compare_pair(reference, path, name, data):
     pair = Pair(record_of(data), record_of(pathlib.Path(adjustment).read_bytes()))
     why = 'same' if pair.is_due(here) else 'UNEXPLAINED'
     return [Note(f'{name}, by the rules', why, here[1][:400], str(pair.due).encode()[:400]),
-            noted(f'{name}, composed', here, there, lambda: pair.reason(here, there))]
+            note_of(f'{name}, composed', here, there, lambda: pair.reason(here, there))]
 
 
 def main():

@@ -27,10 +27,10 @@ no map has a text or functions. No reason excuses an answer that is not that of 
 """
 import argparse, collections, json, pathlib, random, re, sys
 from asking import Case, answers_here, answers_there, is_too_long
-from comparing import noted, reference_program, report, text_beside
+from comparing import note_of, reference_program, report, text_beside
 from composing import tokens_of_record
 from hermes_maps import KEY, closest, function_name, is_in_order
-from index_maps import LAST, is_index, offset_of, absolute_position, record_of, resolved
+from index_maps import LAST, is_index, offset_of, absolute_position, record_of, sections_with_maps
 from walks import Guesses, identifier_at, lines_of, slice_of
 
 WORD = re.compile(r'[A-Za-z_$][A-Za-z0-9_$]*')
@@ -65,7 +65,7 @@ def positions_of(record, text, draws, count):
     if not is_index(record):
         yield from named_positions(record, text, draws, count)
         return
-    sections = resolved(record)
+    sections = sections_with_maps(record)
     for section in sections:
         for *position, name in positions_of(section['map'], text, draws, -(-count // len(sections))):
             yield [*(min(LAST, part) for part in absolute_position(offset_of(section), position)), name]
@@ -183,8 +183,8 @@ def notes_of(case, here, there):
             return 'panic' if other == 'panic' and due is not OPEN else rules.reason(question, other)
 
         if due is not OPEN:
-            yield noted(f'{what}, by the rules', (0, own.encode()), (0, expected.encode()), lambda: None)
-        yield noted(what, (0, own.encode()), (0, other.encode()), reason)
+            yield note_of(f'{what}, by the rules', (0, own.encode()), (0, expected.encode()), lambda: None)
+        yield note_of(what, (0, own.encode()), (0, other.encode()), reason)
 
 
 def main():

@@ -21,7 +21,7 @@ are: `panic`, or those ways, the fewest, that lead to the reference's answer; or
 import argparse, os, pathlib, random, tempfile
 from comparing import reference_program
 from comparing_references import compare_answers
-from references import base_by, joined, path_by
+from references import base_by, url_of_reference, path_by
 from urls import Refused
 
 FILES = {
@@ -55,23 +55,23 @@ def make_files(top):
 def questions_of(top, given):
     draws = random.Random(given.seed)
 
-    def named(name):
+    def with_top(name):
         return name and name.replace('{}', top)
 
     for base in BASES:
         for source in SOURCES:
-            yield ['load', top, named(base), [[named(source), None]]]
+            yield ['load', top, with_top(base), [[with_top(source), None]]]
     for _ in range(given.cases):
-        sources = [[named(draws.choice(SOURCES)), draws.choice([None, None, None, 'old', ''])] for _ in range(draws.randrange(1, 12))]
+        sources = [[with_top(draws.choice(SOURCES)), draws.choice([None, None, None, 'old', ''])] for _ in range(draws.randrange(1, 12))]
         current = draws.choice([top, top, f'{top}/sub'])
-        yield [draws.choice(['load', 'rewrite']), current, named(draws.choice(BASES)), sources]
+        yield [draws.choice(['load', 'rewrite']), current, with_top(draws.choice(BASES)), sources]
 
 
 def path_from(folder, source, ways):
     """The path that a source leads to from a folder, None if it leads to none."""
     url = base_by(folder, ways, is_folder=True)
     try:
-        return url and path_by(joined(source, url, ways), ways)
+        return url and path_by(url_of_reference(source, url, ways), ways)
     except Refused:
         return None
 

@@ -21,7 +21,7 @@ import argparse, pathlib, random
 from comparing import reference_program
 from comparing_references import OPEN, compare_answers
 from drawn_references import BASES, PATHS, URLS, drawn_path, drawn_record, drawn_text
-from references import cut_sources, is_map, located, relative_path, resolved, resolved_path
+from references import cut_sources, is_map, locate_reference, relative_path, resolved_url, resolved_path
 from urls import Open
 
 MOST_TEXTS, MOST_BYTES = 300, 1 << 20
@@ -41,7 +41,7 @@ def text_questions(texts, draws):
             yield ['view', text.decode()]
         except UnicodeDecodeError:
             pass
-        found = located(text)
+        found = locate_reference(text)
         if isinstance(found, list) and not found[1].startswith('data:'):
             yield ['resolve', found[1], draws.choice(BASES)]
             yield ['path', found[1], draws.choice(PATHS)]
@@ -69,14 +69,14 @@ def due(question, ways):
     """What the rules say, where the reference may go some ways of its own."""
     word, *texts = question
     if word == 'locate':
-        return [located(texts[0].encode('latin-1'))] * 2
+        return [locate_reference(texts[0].encode('latin-1'))] * 2
     if word == 'view':
-        return located(texts[0].encode())
+        return locate_reference(texts[0].encode())
     if word == 'map':
         return [is_map(texts[0].encode('latin-1'), ways)] * 2
     if word == 'cut':
         return [[source, None] for source in cut_sources([source for source, _ in texts[2]], ways)]
-    call = {'resolve': resolved, 'path': resolved_path, 'relative': relative_path}.get(word)
+    call = {'resolve': resolved_url, 'path': resolved_path, 'relative': relative_path}.get(word)
     try:
         return call(*texts, ways) if call else OPEN
     except Open:

@@ -39,7 +39,7 @@ as they come; a cell has the ratio and, in brackets, the figure here.
 """
 import argparse, json, os, pathlib, shutil, subprocess, sys, tempfile
 from comparing import BENCH, BENCH_BUNDLES, BENCH_VIEWS, CRATES, TOOL, build_missing, reference_program, text_beside
-from composing import Token, written
+from composing import Token, mappings_of
 from index_maps import LAST, is_index, record_of
 from walks import TOKENS
 
@@ -179,7 +179,7 @@ def made_map(words, folder, name):
     return path
 
 
-def rounded(figure):
+def figure_text(figure):
     """A figure with three digits that count, or more before the point."""
     decimals = next((n for n, least in enumerate((100, 10, 1, 0.1)) if figure >= least), 4)
     return f'{figure:.{decimals}f}'
@@ -190,7 +190,7 @@ def cell(pair, unit, scale):
     if pair is None:
         return 'not there'
     here, there = pair
-    return f'{here / there:.2f} ({rounded(here * scale)} {unit})'
+    return f'{here / there:.2f} ({figure_text(here * scale)} {unit})'
 
 
 class Table:
@@ -273,7 +273,7 @@ def map_of_last_tokens(text):
     """The record of a map of tokens at the end of a text of one line, as many as a walk goes over."""
     columns = range(len(text) - 8 * TOKENS, len(text), 8)
     tokens = [Token(0, column, 0, column, 0, LAST, False) for column in columns]
-    return {'version': 3, 'sources': ['a.js'], 'names': [], 'mappings': written(tokens)[0]}
+    return {'version': 3, 'sources': ['a.js'], 'names': [], 'mappings': mappings_of(tokens)[0]}
 
 
 def walked_texts(paths):
@@ -334,7 +334,7 @@ def growth_row(title, programs, figures):
         return
     for i, name in enumerate(programs.commands):
         growth = ' | '.join(f'{f[i] / figures[0][i]:.2f}' for f in figures[1:])
-        print(f'| {title} | {name} | {rounded(figures[0][i] * 1e3)} ms | {growth} |', flush=True)
+        print(f'| {title} | {name} | {figure_text(figures[0][i] * 1e3)} ms | {growth} |', flush=True)
 
 
 def growth_table(programs, smallest, rounds):
@@ -350,7 +350,7 @@ def growth_table(programs, smallest, rounds):
         figures = [programs.memory(path, RUNS[0]) for path in paths]
         for i, name in enumerate(programs.commands):
             growth = ' | '.join(f'{f[i] / figures[0][i]:.2f}' for f in figures[1:])
-            print(f'| most memory | {name} | {rounded(figures[0][i])} MB | {growth} |', flush=True)
+            print(f'| most memory | {name} | {figure_text(figures[0][i])} MB | {growth} |', flush=True)
 
 
 def main():

@@ -22,7 +22,7 @@ the status is 1. A reason is given only where what was printed bears it out. Of 
 Of records those of `reason_of_record` in comparing.py.
 """
 import argparse
-from comparing import (BENCH, answer, build_missing, compare_all, is_reordered, kind_of, noted, reads_back,
+from comparing import (BENCH, answer, build_missing, compare_all, is_reordered, kind_of, note_of, reads_back,
                        reason_of_record, reference_program, tokens_here, without_marks, without_repeats)
 
 
@@ -53,8 +53,8 @@ def main():
         written = answer([BENCH, 'write'], data)
         back, whole = (answer([reference, 'tokens'], text) for text in (written[1], data))
         here, there = (written[0], written[1] + b'\n'), answer([reference, 'roundtrip'], data)
-        return [noted(f'{name}, tokens', back, whole, lambda: reason_of_tokens(data, written, back, whole)),
-                noted(f'{name}, record', here, there, lambda: reason_of_record(data, here, there))]
+        return [note_of(f'{name}, tokens', back, whole, lambda: reason_of_tokens(data, written, back, whole)),
+                note_of(f'{name}, record', here, there, lambda: reason_of_record(data, here, there))]
 
     compare_all(given.maps, compare)
 

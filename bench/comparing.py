@@ -131,8 +131,8 @@ def reason_of_record(data, here, there):
     other.pop('rangeMappings', None)
     if record == other:
         return 'range bits' if ranges and reads_back(data, here[1]) else None
-    listed = without_marks if ranges else without_repeats
-    tokens, others = (set(listed(tokens_here(text))) for text in (here[1], there[1]))
+    list_tokens = without_marks if ranges else without_repeats
+    tokens, others = (set(list_tokens(tokens_here(text))) for text in (here[1], there[1]))
     if without_order(record) != without_order(other) or tokens != others or not reads_back(data, here[1]):
         return None
     return 'stable sort, range bits' if ranges else 'stable sort'
@@ -207,7 +207,7 @@ def first_difference(here, there):
     return here[start:start + 200], there[start:start + 200]
 
 
-def noted(what, here, there, reason):
+def note_of(what, here, there, reason):
     """A comparison of two answers. For the reason of a difference `reason` is called, which answers None
     where nothing bears one out."""
     if here == there:

@@ -3,7 +3,7 @@ reference program and to the rules, and reasons for differences. Each reason has
 reference."""
 import collections, itertools, json, pathlib, sys, tempfile
 from asking import Case, answers_here
-from comparing import answer, noted, report
+from comparing import answer, note_of, report
 
 MOST_PRINTED = 10
 # what is due where the rules leave it open
@@ -46,8 +46,8 @@ def notes_of(question, here, there, due, ways):
         return 'panic' if other == 'panic' else next((', '.join(some) for some in chosen if due(question, some) == other), None)
 
     if right is not OPEN:
-        yield noted(f'{short(question)}, by the rules', as_answer(own), as_answer(right), lambda: None)
-    yield noted(short(question), as_answer(own), as_answer(other), reason)
+        yield note_of(f'{short(question)}, by the rules', as_answer(own), as_answer(right), lambda: None)
+    yield note_of(short(question), as_answer(own), as_answer(other), reason)
 
 
 def compare_answers(reference, questions, due, ways_of, word='references'):

@@ -88,7 +88,7 @@ def source_of(token):
     return token[2:4]
 
 
-def composed(original, adjustment, takes_cut=True):
+def compose_tokens(original, adjustment, takes_cut=True):
     """The tokens of a map adjusted by those of another one, None where one would pass the end of its line. With
     `takes_cut` a range token that is cut leads to where its rest does, else to where it did."""
     originals = Originals(original)
@@ -120,7 +120,7 @@ def without_repeats(tokens):
     return [token for i, token in enumerate(tokens) if i == 0 or tokens[i - 1] != token]
 
 
-def written(tokens):
+def mappings_of(tokens):
     """The mappings and the range mappings of tokens in any order within their lines."""
     lines, marks, there, by_line = [], [], [0, 0, 0, 0], collections.defaultdict(list)
     for token in tokens:

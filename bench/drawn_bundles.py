@@ -1,7 +1,7 @@
 """RAM bundles, with tables that may lie, and index maps of their modules, drawn by chance."""
 import json, struct
 from bundles import MAGIC
-from composing import Token, written
+from composing import Token, mappings_of
 from index_maps import LAST
 
 TEXTS = [b'xyz', b'x', b'', b'\n', b'ab\n', b'ab\ncdef', b'abcdef\nab', b'a\r\nbc\rdef\n', b'\n\nabc', '👌'.encode(), 'a👌b\nc👌é'.encode(),
@@ -66,7 +66,7 @@ def drawn_map(draws, count):
         source = (draws.randrange(9), draws.randrange(9), draws.randrange(len(sources))) if draws.randrange(8) else (LAST, LAST, LAST)
         name = draws.randrange(len(names)) if names and source[2] != LAST and draws.randrange(2) else LAST
         tokens.append(Token(line, column, *source, name, is_ranged and draws.randrange(2) == 0))
-    mappings, marks = written(tokens)
+    mappings, marks = mappings_of(tokens)
     record = {'version': 3, 'sources': sources, 'names': names, 'mappings': mappings}
     if marks:
         record['rangeMappings'] = marks

@@ -51,10 +51,10 @@ KINDS = []
 
 
 def kind(name, size, runs, memory, count=lambda size, given, written: given):
-    def added(make):
+    def add_kind(make):
         KINDS.append(Kind(name, make, size, runs, memory, count))
         return make
-    return added
+    return add_kind
 
 
 def of_tool(*words):
@@ -120,7 +120,7 @@ def small(mappings='AAAA'):
     return {'map': {'version': 3, 'sources': ['a.js'], 'names': [], 'mappings': mappings}}
 
 
-def colliding(what, count):
+def colliding_input(what, count):
     return subprocess.run([SCRIPTS / 'colliding.py', what, str(count)], stdout=subprocess.PIPE, check=True).stdout
 
 
@@ -128,22 +128,22 @@ def colliding(what, count):
 
 @kind('colliding sources', 10_000, FLAT, 12)
 def _(size):
-    return colliding('sources', size)
+    return colliding_input('sources', size)
 
 
 @kind('colliding names', 10_000, FLAT, 8)
 def _(size):
-    return colliding('names', size)
+    return colliding_input('names', size)
 
 
 @kind('colliding sections', 10_000, INDEX, 12)
 def _(size):
-    return colliding('index', size)
+    return colliding_input('index', size)
 
 
 @kind('colliding lines', 10_000, of_calls('builder', 'intern'), 8)
 def _(size):
-    return colliding('lines', size)
+    return colliding_input('lines', size)
 
 
 # mappings
@@ -273,7 +273,7 @@ def _(size):
 
 # products that the rules ask for
 
-def rooted(size):
+def map_with_root(size):
     """A map with a long root, and a token for each of as many sources."""
     return {'version': 3, 'sourceRoot': 'r' * size, 'sources': [f'{number}' for number in range(size)], 'names': [],
             'mappings': 'AAAA' + ',CCAA' * (size - 1)}
@@ -282,7 +282,7 @@ def rooted(size):
 @kind('sourceRoot times sources', 2_000, FLAT, 2.2, by_square)
 @kind('sourceRoot times sources, copied and printed', 2_000, COPIES, 2.5, by_square)
 def _(size):
-    return text_of(rooted(size))
+    return text_of(map_with_root(size))
 
 
 @kind('tokens of one long source', 1_000, FLAT, 2, with_output)
@@ -312,28 +312,28 @@ def _(size):
 
 @kind('sourceRoot times sources in a section', 2_000, INDEX, 3.2, by_square)
 def _(size):
-    return index([(0, 0, {'map': rooted(size)})])
+    return index([(0, 0, {'map': map_with_root(size)})])
 
 
 @kind('sourceRoot times sources in parts', 2_000, of_calls('encode-in-parts'), 1.25, by_square)
 def _(size):
-    return text_of(rooted(size))
+    return text_of(map_with_root(size))
 
 
 # the text is as long as the product, and is not held
 @kind('sourceRoot times sources in a section, in parts', 2_000, of_calls('encode-in-parts'), 2.5, by_square)
 def _(size):
-    return index([(0, 0, {'map': rooted(size)})])
+    return index([(0, 0, {'map': map_with_root(size)})])
 
 
 @kind('a root that is set', 2_000, of_calls('set-root'), 1.25, by_square)
 def _(size):
-    return text_of({**rooted(size), 'sourceRoot': None}) + b'\n' + b'r' * size
+    return text_of({**map_with_root(size), 'sourceRoot': None}) + b'\n' + b'r' * size
 
 
 @kind('a root in place of another', 2_000, of_calls('set-root'), 2.5, by_square)
 def _(size):
-    return text_of(rooted(size)) + b'\n' + b's' * size
+    return text_of(map_with_root(size)) + b'\n' + b's' * size
 
 
 PREFIX = 'p' * 40
@@ -348,7 +348,7 @@ def _(size):
 @kind('prefixes times sources of a map', 1_000, of_calls('rewrite-strip'), 0.1, by_square)
 def _(size):
     sources = [f'{PREFIX}/{number}' for number in range(size)]
-    return text_of({**rooted(size), 'sourceRoot': None, 'sources': sources}) + b'\n' + lines_of(range(size), PREFIX.encode())
+    return text_of({**map_with_root(size), 'sourceRoot': None, 'sources': sources}) + b'\n' + lines_of(range(size), PREFIX.encode())
 
 
 @kind('a root of a builder', 2_000, of_calls('builder-root'), 1.25, by_square)
@@ -360,7 +360,7 @@ def _(size):
 
 @kind('a line for each source', 100_000, of_calls('set-sources', 'set-contents', 'set-file', 'ignore'), 20)
 def _(size):
-    return text_of({**rooted(size), 'sourceRoot': 'r'}) + b'\n' + lines_of(range(size, 0, -1))
+    return text_of({**map_with_root(size), 'sourceRoot': 'r'}) + b'\n' + lines_of(range(size, 0, -1))
 
 
 @kind('one long line to set', 1_000_000, of_calls('set-root', 'set-sources', 'set-contents', 'set-file', 'ignore'), 4)
@@ -395,12 +395,12 @@ def _(size):
 
 @kind('a file for each source', 500, of_calls('rewrite-load'), 6)
 def _(size):
-    return text_of({**rooted(size), 'sourceRoot': None}), {f'{number}': b'a\n' * 2_000 for number in range(size)}
+    return text_of({**map_with_root(size), 'sourceRoot': None}), {f'{number}': b'a\n' * 2_000 for number in range(size)}
 
 
 @kind('a source for each file that is missing', 20_000, of_calls('rewrite-load'), 20)
 def _(size):
-    return text_of({**rooted(size), 'sourceRoot': None})
+    return text_of({**map_with_root(size), 'sourceRoot': None})
 
 
 # each source is another text that names the same file
@@ -411,7 +411,7 @@ def _(size):
 
 @kind('sources times one file', 1_000, of_calls('rewrite-load'), 1.25, by_square)
 def _(size):
-    return text_of({**rooted(size), 'sourceRoot': None, 'sources': [f'{number}/../FILE' for number in range(size)]}), b'a' * size
+    return text_of({**map_with_root(size), 'sourceRoot': None, 'sources': [f'{number}/../FILE' for number in range(size)]}), b'a' * size
 
 
 # index maps
@@ -445,29 +445,29 @@ def _(size):
     return record.encode()
 
 
-def unresolved(size):
+def unresolved_index(size):
     return index([(number, 0, {'url': 'u'}) for number in range(size)])
 
 
 @kind('a line for each section', 50_000, of_calls('index-file', 'section-urls'), 48)
 def _(size):
-    return unresolved(size) + b'\n' + lines_of(range(size))
+    return unresolved_index(size) + b'\n' + lines_of(range(size))
 
 
 @kind('one long line for an index', 1_000_000, of_calls('index-file', 'index-rows', 'section-urls', 'section-maps'), 4)
 def _(size):
-    return unresolved(1) + b'\n' + b'x' * size
+    return unresolved_index(1) + b'\n' + b'x' * size
 
 
 @kind('a map for each section', 10_000, of_calls('section-maps'), 16)
 def _(size):
-    return unresolved(size) + b'\n' + (README.encode() + b'\n') * size
+    return unresolved_index(size) + b'\n' + (README.encode() + b'\n') * size
 
 
 # each line moves all sections
 @kind('sections moved down by a row for each', 2_000, [Run(BENCH_CALLS, ['index-rows'], count=by_square)], 60)
 def _(size):
-    return unresolved(size) + b'\n' + b'1\n' * size
+    return unresolved_index(size) + b'\n' + b'1\n' * size
 
 
 @kind('indexes too deep for text', 20_000, DECODES, 4)
@@ -708,7 +708,7 @@ def with_stack(stack):
     return (lambda: resource.setrlimit(resource.RLIMIT_STACK, (stack, stack))) if stack else None
 
 
-def measured(run, folder, counts, size=None):
+def measure_run(run, folder, counts, size=None):
     """The time or the instructions, the most memory, the bytes of the output, and the status of a run."""
     counted, peak = pathlib.Path(folder, 'counted'), pathlib.Path(folder, 'peak')
     command = [run.program, *run.words]
@@ -757,14 +757,14 @@ def print_stack():
 Row = collections.namedtuple('Row', 'count steps given written cost memory status')
 
 
-def tried(each, run, base, scale, counts):
+def try_sizes(each, run, base, scale, counts):
     """A row for each size, and what failed of it."""
     rows = []
     for factor in (1, 2, 4):
         size = max(1, int(each.size * scale)) * factor
         with tempfile.TemporaryDirectory() as folder:
             given = inputs_of(made_of(each.make, size), folder)
-            cost, memory, written, status = measured(run, folder, counts, size)
+            cost, memory, written, status = measure_run(run, folder, counts, size)
         count = each.count(size, given, written)
         steps = run.count(size, given, written) if run.count else count
         rows.append(Row(count, steps, given, written, cost, max(0, memory - base[1]), status))
@@ -802,7 +802,7 @@ def name_of(run):
     return f'{pathlib.Path(run.program).name.removeprefix("sourcemap_")} {" ".join(run.words)}'
 
 
-def printed(each, run, rows, failures, counts):
+def print_row(each, run, rows, failures, counts):
     last = rows[-1]
     figure = f'{last.cost / 1e6:.1f} M' if counts else f'{last.cost * 1e3:.0f} ms'
     print(f'| {each.name} | {name_of(run)} | {last.given:,} | {last.written:,} | {figure} | {growth(rows, "cost"):.2f} '
@@ -826,7 +826,7 @@ def base_of(run, counts):
     """What a run of a small input costs."""
     with tempfile.TemporaryDirectory() as folder:
         inputs_of((README.encode(), b'0:5\n'), folder)
-        return measured(run, folder, counts)[:2]
+        return measure_run(run, folder, counts)[:2]
 
 
 def main():
@@ -849,8 +849,8 @@ def main():
         for run in each.runs:
             key = run.program, *run.words
             bases[key] = bases.get(key) or base_of(run, given.instructions)
-            rows, failures = tried(each, run, bases[key], given.scale, given.instructions)
-            printed(each, run, rows, failures, given.instructions)
+            rows, failures = try_sizes(each, run, bases[key], given.scale, given.instructions)
+            print_row(each, run, rows, failures, given.instructions)
             worst[-1][1].append((run, rows[-1]))
             passed, failed = passed + (not failures), failed + bool(failures)
     print_worst(worst)

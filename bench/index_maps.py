@@ -30,7 +30,7 @@ def in_order(sections):
     return sorted(sections, key=offset_of)
 
 
-def resolved(record):
+def sections_with_maps(record):
     """The sections of an index that have a map, in order."""
     return [section for section in in_order(record['sections']) if section.get('map') is not None]
 
@@ -40,7 +40,8 @@ def pieces(record):
     if not is_index(record):
         return [record]
     bare = [{key: part for key, part in section.items() if key != 'map'} for section in in_order(record['sections'])]
-    return [{**record, 'sections': bare}] + [piece for section in resolved(record) for piece in pieces(section['map'])]
+    return [{**record, 'sections': bare}] + [piece for section in sections_with_maps(record)
+                                             for piece in pieces(section['map'])]
 
 
 def relative_position(offset, position):
@@ -78,7 +79,7 @@ def flat_tokens(record, tokens_of):
     sections."""
     if not is_index(record):
         return tokens_of(record)
-    tokens = [(absolute_position(offset_of(section), where), text) for section in resolved(record)
+    tokens = [(absolute_position(offset_of(section), where), text) for section in sections_with_maps(record)
               for where, text in flat_tokens(section['map'], tokens_of)]
     return sorted(tokens, key=lambda token: token[0])
 

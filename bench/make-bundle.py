@@ -12,7 +12,7 @@ a name, of 2,000 that the modules share; a step in eight goes to another line of
 is missing.
 """
 import argparse, itertools, json, struct, sys
-from composing import Token, written
+from composing import Token, mappings_of
 from index_maps import LAST
 
 MAGIC, STARTUP, NAMES = 0xFB0BD1E5, b'var __startup = 1;', 2000
@@ -45,7 +45,7 @@ def made_section(bits, numbers, counts, size):
         tokens += more
         lengths.append(length)
     record = {'version': 3, 'sources': [f'src/module{number}.js' for number in numbers], 'names': list(names),
-              'mappings': written(tokens)[0]}
+              'mappings': mappings_of(tokens)[0]}
     if size:
         record['sourcesContent'] = [('module.exports = "text";\n' * (size // 24 + 1))[:size]] * len(numbers)
     return {'offset': {'line': numbers[0], 'column': 0}, 'map': record}, lengths

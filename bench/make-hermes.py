@@ -12,7 +12,7 @@ scopes is as long as that of sources, shorter or longer; an entry is missing, em
 the texts of scope mappings some cannot be read, some are unsorted, and some have names that are not there.
 """
 import argparse, json, pathlib, random
-from composing import Token, digits_of, written
+from composing import Token, digits_of, mappings_of
 from hermes_maps import KEY
 from index_maps import LAST
 
@@ -63,7 +63,7 @@ def drawn_map(draws):
     sources = [draws.choice([f's{n}.js', f's{n}.js', f's{n}.js', 's0.js']) for n in range(draws.randrange(5))]
     tokens = [drawn_token(draws, len(sources), draws.randrange(4) == 0) for _ in range(draws.randrange(13))]
     tokens.sort(key=lambda token: token[:2])
-    mappings, marks = written(tokens)
+    mappings, marks = mappings_of(tokens)
     length = len(sources) if draws.randrange(3) else draws.randrange(7)
     record = {'version': 3, 'sources': sources, 'names': [], 'mappings': mappings,
               KEY: [drawn_entry(draws, n) for n in range(length)]}

@@ -60,7 +60,7 @@ def offsets(draws, maps):
     return all_offsets
 
 
-def changed(draws, record):
+def changed_copy(draws, record):
     """A copy of a regular map, some with contents of their own, an ignore list, or range tokens."""
     record, count = dict(record), len(record.get('sources') or [])
     if draws.randrange(8) == 0:
@@ -93,9 +93,9 @@ def index_of(draws, groups, depth):
         if depth < DEPTH and draws.randrange(4) == 0:
             maps.append(index_of(draws, groups, depth + 1))
         elif maps and not is_index(maps[-1]) and draws.randrange(4) == 0:
-            maps.append(changed(draws, maps[-1]))
+            maps.append(changed_copy(draws, maps[-1]))
         else:
-            maps.append(changed(draws, draws.choice(draws.choice(groups))))
+            maps.append(changed_copy(draws, draws.choice(draws.choice(groups))))
     sections = [{'offset': {'line': line, 'column': column}, 'map': each}
                 for (line, column), each in zip(offsets(draws, maps), maps)]
     if draws.randrange(3) == 0:

@@ -18,7 +18,7 @@ in lines of forty tokens: it has nine in ten of the tokens, in blocks of two hun
 after the next one and one in four hundred at the end of the text.
 """
 import argparse, json, pathlib, random
-from composing import Token, written
+from composing import Token, mappings_of
 from index_maps import LAST
 
 
@@ -40,7 +40,7 @@ def drawn_map(draws, kind):
     is_far, is_ranged = draws.randrange(6) == 0, draws.randrange(3) == 0
     tokens = [drawn_token(draws, is_far, is_ranged) for _ in range(draws.randrange(17))]
     tokens.sort(key=(lambda token: token[:2]) if draws.randrange(2) else (lambda token: token.line))
-    mappings, marks = written(tokens)
+    mappings, marks = mappings_of(tokens)
     record = {'version': 3, 'file': f'{kind}.js', 'sources': [f'{kind}-{n}.js' for n in range(2)],
               'names': [f'{kind}{n}' for n in range(2)], 'mappings': mappings}
     return {**record, 'rangeMappings': marks} if marks else record
@@ -54,7 +54,7 @@ def steps_on(draws, count, tokens_a_line, farthest):
         yield index // tokens_a_line, column
 
 
-def reordered(draws, tokens):
+def reorder_blocks(draws, tokens):
     """The tokens in blocks, some of which are swapped with the next and a few of which come last."""
     blocks = [tokens[at:at + 200] for at in range(0, len(tokens), 200)]
     late = [block for block in blocks if draws.randrange(400) == 0]
@@ -69,7 +69,7 @@ def large_pair(draws, count):
     """The tokens of an original, and those of its adjustment."""
     originals = [Token(line, column, index // 7, column % 60, index * 50 // count, index % 2, False)
                  for index, (line, column) in enumerate(steps_on(draws, count, 10, 13))]
-    kept = reordered(draws, [token for token in originals if draws.randrange(10)])
+    kept = reorder_blocks(draws, [token for token in originals if draws.randrange(10)])
     positions = steps_on(draws, len(kept), 40, 8)
     return originals, [Token(line, column, token.line, token.column, 0, LAST, False)
                        for token, (line, column) in zip(kept, positions)]
@@ -77,7 +77,7 @@ def large_pair(draws, count):
 
 def large_map(tokens, kind):
     return {'version': 3, 'sources': [f'{kind}-{n}.js' for n in range(50)], 'names': ['one', 'two'],
-            'mappings': written(tokens)[0]}
+            'mappings': mappings_of(tokens)[0]}
 
 
 def main():

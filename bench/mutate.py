@@ -24,7 +24,7 @@ SOURCEMAP_TOOL, SOURCEMAP_BENCH_CALLS and SOURCEMAP_BENCH_BUNDLES name other pro
 import argparse, collections, json, multiprocessing, os, pathlib, random, shutil, struct, subprocess, sys, tempfile, time
 import calls, rules
 from comparing import BENCH_BUNDLES, BENCH_CALLS, TOOL, build_missing
-from composing import DIGITS, Token, written
+from composing import DIGITS, Token, mappings_of
 from drawn_bundles import TEXTS as MODULES, bundle_bytes
 from drawn_references import drawn_text
 from index_maps import LAST, LISTS
@@ -69,7 +69,7 @@ def tokens(chance, sources, names):
 def regular(chance):
     sources = [chance.choice(TEXTS + [None]) for _ in range(chance.choice([0, 1, 1, 2, 3]))]
     names = [chance.choice(NAMES) for _ in range(chance.choice([0, 0, 1, 2, 4]))]
-    mappings, marks = written(tokens(chance, len(sources), len(names)))
+    mappings, marks = mappings_of(tokens(chance, len(sources), len(names)))
     record = {'version': 3, 'sources': sources, 'names': names, 'mappings': mappings}
     if marks:
         record['rangeMappings'] = marks
@@ -267,7 +267,7 @@ MAPS = calls.Maps(whole, regular, lambda chance: map_bytes(chance, 'lookup'), wi
 def case_of(seed, at, path):
     chance = random.Random(f'{seed} {at} calls')
     if chance.random() < CALLS_SHARE:
-        words, data = calls.drawn(chance, MAPS)
+        words, data = calls.draw_call(chance, MAPS)
         return Case([*words], data, b'', BENCH_BUNDLES if words == calls.SPLIT else BENCH_CALLS)
     chance = random.Random(f'{seed} {at}')
     words = words_of(chance, path)
@@ -280,7 +280,7 @@ def case_of(seed, at, path):
     return Case(words, data, file)
 
 
-def packed(text):
+def pack_text(text):
     return struct.pack('=I', len(text)) + text
 
 
@@ -296,7 +296,7 @@ class Server:
         return self.started.stdout.read(struct.unpack('=I', self.started.stdout.read(4))[0])
 
     def run(self, words, data):
-        request = b''.join(packed(word.encode('utf-8', 'surrogateescape')) for word in words) + packed(data)
+        request = b''.join(pack_text(word.encode('utf-8', 'surrogateescape')) for word in words) + pack_text(data)
         self.started.stdin.write(request)
         self.started.stdin.flush()
         status = struct.unpack('=i', self.started.stdout.read(4))[0]
@@ -310,9 +310,9 @@ class Server:
 def due(case):
     """The status and the text that the rules say, and None where the text is too long for them, or open."""
     if case.program != TOOL:
-        return calls.ended(tuple(case.words), case.data)
+        return calls.outcome_of(tuple(case.words), case.data)
     try:
-        return rules.ended(case.words, case.data, case.file)
+        return rules.outcome_of(case.words, case.data, case.file)
     except rules.TooLong:
         return None
 
@@ -362,13 +362,13 @@ class Job:
             if why:
                 failures.append((at, f'{why}; it says {ended}'))
             if self.reference and case.program == TOOL and ended[0] < 2:
-                agreement = self.compared(case, ended)
+                agreement = self.compare_with_reference(case, ended)
                 kinds[f'reference: {agreement}'] += 1
                 if agreement == UNEXPLAINED:
                     failures.append((at, f'{UNEXPLAINED}: it says {ended[:2]}, the reference {self.asked[:2]}'))
         return failures, kinds
 
-    def compared(self, case, ended):
+    def compare_with_reference(self, case, ended):
         if case.words[0] == 'trace':
             return 'no such word'
         self.asked = self.run(self.reference, case)

@@ -25,7 +25,7 @@ difference is borne out by the answer that it leads to:
 """
 import itertools, json, os, re
 from urllib.parse import unquote_to_bytes
-from urls import DRIVE, EDGES, PATH, Refused, is_special, parsed, path_of_url, path_text, text_of, url_of_path
+from urls import DRIVE, EDGES, PATH, Refused, is_special, parse_url, path_of_url, path_text, text_of, url_of_path
 from walks import SPACE
 
 MARKS = {'//# sourceMappingURL=': 'regular', '//@ sourceMappingURL=': 'legacy'}
@@ -37,7 +37,7 @@ ROOTED = re.compile(r'/|[A-Za-z]:[/\\].')
 DEEPEST = 127
 
 
-def located(data):
+def locate_reference(data):
     """The kind and the URL of the reference in a text, None without one, or the kind of what is wrong."""
     for line in data.split(b'\n'):
         try:
@@ -70,22 +70,22 @@ def path_escapes(ways):
     return PATH - {ord('^')} if 'url' in ways else PATH
 
 
-def joined(reference, base, ways):
+def url_of_reference(reference, base, ways):
     """The URL of a reference, seen from that of a base; what refuses it is `Refused`."""
     text = reference.strip(EDGES)
     if 'url' in ways and is_special(base.scheme) and base.scheme != 'file' and re.match(r'[/\\]{3}', text):
         raise Refused
     if 'url' in ways and not is_special(base.scheme) and text.startswith('\\'):
         text = f'/{text[1:]}'
-    return by_the_library(parsed(text, base, path_escapes(ways)), text, ways)
+    return by_the_library(parse_url(text, base, path_escapes(ways)), text, ways)
 
 
-def resolved(reference, base, ways=()):
+def resolved_url(reference, base, ways=()):
     """The URL that a reference resolves to, against that of its text."""
     if reference.startswith('data:'):
         return None
     try:
-        text = text_of(joined(reference, parsed(base, None, path_escapes(ways)), ways))
+        text = text_of(url_of_reference(reference, parse_url(base, None, path_escapes(ways)), ways))
     except Refused:
         return None
     return re.sub(r'^([^/]*:)/\.//', r'\1//', text) if 'old url' in ways else text
@@ -120,7 +120,7 @@ def resolved_path(reference, path, ways=()):
     if reference.startswith('data:') or base is None:
         return None
     try:
-        return path_by(joined(reference, base, ways), ways)
+        return path_by(url_of_reference(reference, base, ways), ways)
     except Refused:
         return None
 
@@ -192,7 +192,7 @@ def has_lone_surrogates(value):
     return isinstance(value, str) and any('\ud800' <= letter <= '\udfff' for letter in value)
 
 
-def decoded(data, is_strict, is_twice):
+def json_value(data, is_strict, is_twice):
     """The value of a JSON text. What is not strict takes any bytes in texts, any numbers and any depth."""
     def object_of(pairs):
         keys = [key for key, _ in pairs if key in KEYS]
@@ -211,7 +211,7 @@ def is_map(data, ways=()):
     """Whether bytes hold a source map, by the keys of their JSON value."""
     rest = without_header(data)
     try:
-        record = decoded(rest or b'', 'skipped' not in ways, 'twice' in ways)
+        record = json_value(rest or b'', 'skipped' not in ways, 'twice' in ways)
     except (NoMap, ValueError, RecursionError):
         return False
     if 'array' in ways and isinstance(record, list) and len(record) == len(KEYS):

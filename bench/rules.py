@@ -1,7 +1,7 @@
 """The output of each command of the program, by the rules of the formats alone: from the bytes of a map, and of a
 file if one is named, to a status and a text. Stated here anew; takes nothing from the compared programs."""
 import json, re
-from composing import DIGITS, Token, composed, digits_of, without_repeats
+from composing import DIGITS, Token, compose_tokens, digits_of, without_repeats
 from hermes_maps import closest
 from index_maps import LAST, in_order, offset_of, absolute_position
 
@@ -130,7 +130,7 @@ def text(value):
     return value
 
 
-def listed(item):
+def list_of(item):
     def read(value):
         if not isinstance(value, list):
             raise shape()
@@ -142,7 +142,7 @@ def optional(item):
     return lambda value: None if value is None else item(value)
 
 
-def keyed(value, **keys):
+def read_object(value, **keys):
     if not isinstance(value, dict):
         raise shape()
     return {key: read(value.get(key)) for key, read in keys.items()}
@@ -160,21 +160,22 @@ def debug_id(value):
 
 
 def section(value):
-    return keyed(value, offset=lambda it: keyed(it, line=u32, column=u32), url=optional(text), map=optional(record))
+    return read_object(value, offset=lambda it: read_object(it, line=u32, column=u32), url=optional(text),
+                       map=optional(record))
 
 
 def scopes(value):
-    return keyed(value, names=listed(text), mappings=text)
+    return read_object(value, names=list_of(text), mappings=text)
 
 
 def record(value):
-    found = keyed(
-        value, version=optional(u32), file=any_value, sources=optional(listed(optional(text))),
-        sourceRoot=optional(text), sourcesContent=optional(listed(optional(text))),
-        sections=optional(listed(section)), names=optional(listed(any_value)), rangeMappings=optional(text),
-        mappings=optional(text), ignoreList=optional(listed(u32)), x_facebook_offsets=optional(listed(optional(u32))),
-        x_metro_module_paths=optional(listed(text)),
-        x_facebook_sources=optional(listed(optional(listed(scopes)))),
+    found = read_object(
+        value, version=optional(u32), file=any_value, sources=optional(list_of(optional(text))),
+        sourceRoot=optional(text), sourcesContent=optional(list_of(optional(text))),
+        sections=optional(list_of(section)), names=optional(list_of(any_value)), rangeMappings=optional(text),
+        mappings=optional(text), ignoreList=optional(list_of(u32)), x_facebook_offsets=optional(list_of(optional(u32))),
+        x_metro_module_paths=optional(list_of(text)),
+        x_facebook_sources=optional(list_of(optional(list_of(scopes)))),
         debugId=optional(debug_id), debug_id=optional(debug_id))
     found['debugId'] = found['debugId'] or found['debug_id']
     return found
@@ -249,7 +250,7 @@ class Map:
                                     there[3] if len(rest) == 4 else LAST, is_range))
         return sorted(tokens, key=lambda token: token[:2])
 
-    def resolved(self, source):
+    def resolved_source(self, source):
         """A source resolved against its root."""
         text = self.texts[source]
         if not self.root or text.startswith(('/', 'http:', 'https:')):
@@ -257,12 +258,12 @@ class Map:
         root = self.root[:-1] if self.root.endswith('/') else self.root
         return f'{root}/{text}'
 
-    def named(self, token):
+    def name_of(self, token):
         return self.names[token.name] if token.name < len(self.names) else None
 
-    def printed(self, token, distance=0):
-        source = self.resolved(token.source) if token.source < len(self.texts) else '<unknown>'
-        name = self.named(token)
+    def token_text(self, token, distance=0):
+        source = self.resolved_source(token.source) if token.source < len(self.texts) else '<unknown>'
+        name = self.name_of(token)
         return (f'{source}:{token.source_line}:{min(token.source_column + distance, LAST)}'
                 + ('' if name is None else f' name={name}'))
 
@@ -270,11 +271,11 @@ class Map:
         token = closest(self.tokens, lambda it: it[:2], (line, column))
         if token is None:
             return 'none'
-        return self.printed(token, column - token.column if token.is_range and token.line == line else 0)
+        return self.token_text(token, column - token.column if token.is_range and token.line == line else 0)
 
     def value(self):
         """The record that the map is written as."""
-        mappings, marks = self.written()
+        mappings, marks = self.mappings_and_marks()
         parts = {'version': 3, 'file': self.file, 'sourceRoot': self.root, 'debugId': self.debug_id,
                  'rangeMappings': marks, 'x_facebook_sources': self.scopes}
         parts = {key: part for key, part in parts.items() if part is not None}
@@ -285,7 +286,7 @@ class Map:
             parts['ignoreList'] = self.ignored
         return parts
 
-    def written(self):
+    def mappings_and_marks(self):
         tokens = [token if token.source != LAST and token.name < len(self.names) else token._replace(name=LAST)
                   for token in without_repeats(self.tokens)]
         last = self.tokens[-1].line if self.tokens else 0
@@ -305,21 +306,21 @@ class Map:
         return (';'.join(','.join(segment for segment, _ in row) for row in lines),
                 ';'.join(marks) if any(marks) else None)
 
-    def rewritten(self):
+    def rewrite(self):
         made = object.__new__(Map)
         made.file, made.debug_id, made.root, made.ignored = self.file, self.debug_id, None, []
         sources, names, firsts, contents, tokens = {}, {}, [], {}, []
         for token in self.tokens:
             source = name = LAST
             if token.source < len(self.texts):
-                text = self.resolved(token.source)
+                text = self.resolved_source(token.source)
                 source = sources.setdefault(text, len(sources))
                 if source == len(firsts):
                     firsts.append(token.source)
                 if self.contents[token.source] is not None:
                     contents.setdefault(source, self.contents[token.source])
-            if self.named(token) is not None:
-                name = names.setdefault(self.named(token), len(names))
+            if self.name_of(token) is not None:
+                name = names.setdefault(self.name_of(token), len(names))
             tokens.append(token._replace(source=source, name=name))
         made.texts, made.names, made.tokens = list(sources), list(names), tokens
         made.contents = [contents.get(source) for source in range(len(sources))]
@@ -355,7 +356,7 @@ class Index:
             inner = each['map'].flat() if isinstance(each['map'], Index) else each['map']
             ids = []
             for source in range(len(inner.texts)):
-                ids.append(sources.setdefault(inner.resolved(source), len(sources)))
+                ids.append(sources.setdefault(inner.resolved_source(source), len(sources)))
                 if inner.contents[source] is not None:
                     contents[ids[-1]] = inner.contents[source]
             name_ids = [names.setdefault(name, len(names)) for name in inner.names]
@@ -373,7 +374,7 @@ class Index:
         made.tokens = sorted(tokens, key=lambda token: token[:2])
         return made
 
-    def shifted(self, rows):
+    def shift(self, rows):
         if any(it['offset']['line'] + rows > LAST for it in self.sections):
             raise incompatible()
         for it in self.sections:
@@ -392,7 +393,7 @@ def map_of(found):
     return Map(found) if found['sections'] is None else Index(found)
 
 
-def decoded(data):
+def decode_map(data):
     return map_of(record(json_of(data)))
 
 
@@ -407,14 +408,14 @@ def is_regular(found):
 def tokens_text(found):
     if isinstance(found, Index):
         raise incompatible()
-    return ''.join(f'{token.line}:{token.column} {found.printed(token)}{" range" if token.is_range else ""}\n'
+    return ''.join(f'{token.line}:{token.column} {found.token_text(token)}{" range" if token.is_range else ""}\n'
                    for token in found.tokens)
 
 
-def adjusted(found, other):
+def adjust_map(found, other):
     if not is_regular(found) or not is_regular(other):
         raise incompatible()
-    found.tokens = composed(found.tokens, other.tokens)
+    found.tokens = compose_tokens(found.tokens, other.tokens)
     if found.tokens is None:
         raise incompatible()
     return found
@@ -428,7 +429,7 @@ def position_text(found, line):
     return found.looked_up(*map(int, numbers))
 
 
-def traced(found, positions):
+def trace_text(found, positions):
     lines = positions.split(b'\n')
     return ''.join(position_text(found, line) + '\n' for line in (lines if lines[-1] else lines[:-1]))
 
@@ -445,24 +446,24 @@ def output_of(words, data, file):
     known = {'lookup': 2, 'tokens': 0, 'rewrite': 0, 'flatten': 0, 'compose': 1, 'shift': 1, 'trace': 1}
     if known.get(verb) != len(numbers) or verb in ('lookup', 'shift') and None in numbers:
         return None
-    found = decoded(data)
+    found = decode_map(data)
     if verb == 'lookup':
         return found.looked_up(*numbers) + '\n'
     if verb == 'tokens':
         return tokens_text(found)
     if verb == 'compose':
-        return line_of(adjusted(found, decoded(file)))
+        return line_of(adjust_map(found, decode_map(file)))
     if verb == 'trace':
-        return traced(found, file)
+        return trace_text(found, file)
     if (verb == 'rewrite') != isinstance(found, Map):
         raise incompatible()
     if verb == 'shift':
-        found.shifted(numbers[0])
+        found.shift(numbers[0])
         return line_of(found)
-    return line_of(found.rewritten() if verb == 'rewrite' else found.flat())
+    return line_of(found.rewrite() if verb == 'rewrite' else found.flat())
 
 
-def ended(words, data, file=b''):
+def outcome_of(words, data, file=b''):
     """The status and the text of a run."""
     try:
         output = output_of(words, data, file)

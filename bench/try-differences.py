@@ -65,12 +65,12 @@ def fails_after(data):
     return ours
 
 
-def asked(word, record=None, text=None, question=None):
+def question_of(word, record=None, text=None, question=None):
     """One question to the library; after slices, one more line has the count of lines."""
     return Case(word, word, record, text, [question], 2 if word == 'slices' else 1)
 
 
-def referenced(*question):
+def reference_question(*question):
     """One question of those of asking_references.py."""
     return Case('references', 'references', None, None, [list(question)], 1)
 
@@ -79,7 +79,7 @@ def referenced(*question):
 FOLDERS = tempfile.TemporaryDirectory()
 
 
-def bundled(*question):
+def bundle_question(*question):
     """One question of those of asking_bundles.py."""
     return Case('bundles', 'bundles', None, None, [list(question)], 1)
 
@@ -96,12 +96,12 @@ def folder_of(*names):
     return str(folder / 'main.js')
 
 
-def split(text, mappings, line=0, offset=5, **more):
+def split_question(text, mappings, line=0, offset=5, **more):
     """The question of a bundle of this module, split by an index map with one section at a line."""
     code = text.encode() + b'\0'
     data = struct.pack('<5I', MAGIC, 1, 0, 0, len(code)) + code
     section = {'offset': {'line': line, 'column': 0}, 'map': {'sources': ['a.js'], 'mappings': mappings, **more}}
-    return bundled('split', byte_text(data), json.dumps({'sections': [section], 'x_facebook_offsets': [offset]}))
+    return bundle_question('split', byte_text(data), json.dumps({'sections': [section], 'x_facebook_offsets': [offset]}))
 
 
 def split_into(text, *tokens):
@@ -127,7 +127,7 @@ def is_shuffled(here, there):
     return pairs[0] != pairs[1] and pairs[0] == sorted(pairs[1]) and [first for first, _ in pairs[1]] == sorted(first for first, _ in pairs[1])
 
 
-def named(mappings, **more):
+def named_record(mappings, **more):
     return {'version': 3, 'sources': ['a.js'], 'names': ['foo'], 'mappings': mappings, **more}
 
 
@@ -213,73 +213,73 @@ INVALID_SECTION = {'sections': [{'offset': {'line': 0, 'column': 0}, 'map': {'ma
 TWO_TEXTS = 'a data URL of `e30=IA==` (two texts in base64, put end to end)'
 ASKED = {
     'the function at 0 of `{"mappings":"AADA","sources":["a.js"],"x_facebook_sources":[[{"mappings":"AAA","names":["f"]}]]}`': Asked(
-        asked('names', {'mappings': 'AADA', 'sources': ['a.js'], 'x_facebook_sources': [[{'mappings': 'AAA', 'names': ['f']}]]},
-              question=[0, 0, None]), '"f"', 'null'),
+        question_of('names', {'mappings': 'AADA', 'sources': ['a.js'], 'x_facebook_sources': [[{'mappings': 'AAA', 'names': ['f']}]]},
+                    question=[0, 0, None]), '"f"', 'null'),
     'text `function`, mappings `AAAAA`, name `foo`: the name of `function` at (0,1)': Asked(
-        asked('names', named('AAAAA'), 'function', [0, 1, 'function']), 'null', '"foo"'),
+        question_of('names', named_record('AAAAA'), 'function', [0, 1, 'function']), 'null', '"foo"'),
     'text `function b👌;`, mappings `AAAA,SAAAA,EAAA`, name `foo`: the name of `b` at (0,11)': Asked(
-        asked('names', named('AAAA,SAAAA,EAAA'), 'function b👌;', [0, 11, 'b']), '"foo"', 'null'),
+        question_of('names', named_record('AAAA,SAAAA,EAAA'), 'function b👌;', [0, 11, 'b']), '"foo"', 'null'),
     'text `function x` with U+037A for `x`, mappings `AAAA,SAAAA`, name `foo`: the name of that letter at (0,9)': Asked(
-        asked('names', named('AAAA,SAAAA'), 'function \u037a', [0, 9, '\u037a']), 'null', '"foo"'),
+        question_of('names', named_record('AAAA,SAAAA'), 'function \u037a', [0, 9, '\u037a']), 'null', '"foo"'),
     'view `abc`, slice (0,1,4294967295)': Asked(
-        asked('slices', None, 'abc', [0, 1, 2**32 - 1]), 'null', '""'),
+        question_of('slices', None, 'abc', [0, 1, 2**32 - 1]), 'null', '""'),
     '`SourceMap::from_slice` of `{"sections":[{"offset":{"line":0,"column":0},"map":{"mappings":"A!"}}]}`': Asked(
-        asked('regular', INVALID_SECTION), 'encountered incompatible sourcemap format', 'leftover cur/shift in vlq decode'),
+        question_of('regular', INVALID_SECTION), 'encountered incompatible sourcemap format', 'leftover cur/shift in vlq decode'),
     TWO_TEXTS: Asked(
-        asked('url', None, 'data:application/json;base64,e30=IA=='), 'the provided data URL is invalid', 'none'),
+        question_of('url', None, 'data:application/json;base64,e30=IA=='), 'the provided data URL is invalid', 'none'),
     'sources `a.js`, `a.js`, mappings `AAAA,ACAA`, the two tokens compared by `==`': Asked(
-        asked('equal', named('AAAA,ACAA', sources=['a.js', 'a.js'])), 'true', 'false'),
+        question_of('equal', named_record('AAAA,ACAA', sources=['a.js', 'a.js'])), 'true', 'false'),
     '`SourceMapIndex::from_slice` or `from_reader` of `{"mappings":"A!"}`': Asked(
-        asked('sections', {'mappings': 'A!'}), 'encountered incompatible sourcemap format', 'leftover cur/shift in vlq decode'),
+        question_of('sections', {'mappings': 'A!'}), 'encountered incompatible sourcemap format', 'leftover cur/shift in vlq decode'),
     'a writer that refuses': Asked(
-        asked('refused', named('AAAA')), 'broken pipe', 'bad json: broken pipe'),
-    'reference `c` by the path `/a/../b.js`': Asked(referenced('path', 'c', '/a/../b.js'), '"/c"', '"/a/../c"'),
-    'reference `/c` by the path `/C:/b.js`': Asked(referenced('path', '/c', '/C:/b.js'), '"/c"', '"/C:/c"'),
-    'reference `http://localhost/c` by the path `/b.js`': Asked(referenced('path', 'http://localhost/c', '/b.js'), 'null', '"/c"'),
-    'reference `%ff` by the path `/b.js`': Asked(referenced('path', '%ff', '/b.js'), 'null', '"/\u00ff"'),
-    'reference `./c:` by the path `/b.js`': Asked(referenced('path', './c:', '/b.js'), '"/c:"', '"/c:/"'),
-    'reference `^` by `http://x.com/`': Asked(referenced('resolve', '^', 'http://x.com/'), '"http://x.com/%5E"', '"http://x.com/^"'),
-    'reference `///y.com` by `http://x.com/`': Asked(referenced('resolve', '///y.com', 'http://x.com/'), '"http://y.com/"', 'null'),
-    'reference `\\c` by `x:/a/b`': Asked(referenced('resolve', '\\c', 'x:/a/b'), '"x:/a/\\\\c"', '"x:/c"'),
-    'reference `file:////c` by `http://x.com/`': Asked(referenced('resolve', 'file:////c', 'http://x.com/'), '"file:////c"', '"file:///c"'),
-    'reference `/C:` by `file://y/b`': Asked(referenced('resolve', '/C:', 'file://y/b'), '"file://y/C:"', '"file:///C:"'),
-    'the way from `/a/b.js` to `/c/d.js`': Asked(referenced('relative', '/a/b.js', '/c/d.js'), '"../c/d.js"', '"../cd.js"'),
+        question_of('refused', named_record('AAAA')), 'broken pipe', 'bad json: broken pipe'),
+    'reference `c` by the path `/a/../b.js`': Asked(reference_question('path', 'c', '/a/../b.js'), '"/c"', '"/a/../c"'),
+    'reference `/c` by the path `/C:/b.js`': Asked(reference_question('path', '/c', '/C:/b.js'), '"/c"', '"/C:/c"'),
+    'reference `http://localhost/c` by the path `/b.js`': Asked(reference_question('path', 'http://localhost/c', '/b.js'), 'null', '"/c"'),
+    'reference `%ff` by the path `/b.js`': Asked(reference_question('path', '%ff', '/b.js'), 'null', '"/\u00ff"'),
+    'reference `./c:` by the path `/b.js`': Asked(reference_question('path', './c:', '/b.js'), '"/c:"', '"/c:/"'),
+    'reference `^` by `http://x.com/`': Asked(reference_question('resolve', '^', 'http://x.com/'), '"http://x.com/%5E"', '"http://x.com/^"'),
+    'reference `///y.com` by `http://x.com/`': Asked(reference_question('resolve', '///y.com', 'http://x.com/'), '"http://y.com/"', 'null'),
+    'reference `\\c` by `x:/a/b`': Asked(reference_question('resolve', '\\c', 'x:/a/b'), '"x:/a/\\\\c"', '"x:/c"'),
+    'reference `file:////c` by `http://x.com/`': Asked(reference_question('resolve', 'file:////c', 'http://x.com/'), '"file:////c"', '"file:///c"'),
+    'reference `/C:` by `file://y/b`': Asked(reference_question('resolve', '/C:', 'file://y/b'), '"file://y/C:"', '"file:///C:"'),
+    'the way from `/a/b.js` to `/c/d.js`': Asked(reference_question('relative', '/a/b.js', '/c/d.js'), '"../c/d.js"', '"../cd.js"'),
     'whether `{"sections":[],"sections":[]}` is a map': Asked(
-        referenced('map', '{"sections":[],"sections":[]}'), '[true,true]', '[false,false]'),
-    'whether `{"sections":["\\ud800"]}` is a map': Asked(referenced('map', '{"sections":["\\ud800"]}'), '[false,false]', '[true,true]'),
+        reference_question('map', '{"sections":[],"sections":[]}'), '[true,true]', '[false,false]'),
+    'whether `{"sections":["\\ud800"]}` is a map': Asked(reference_question('map', '{"sections":["\\ud800"]}'), '[false,false]', '[true,true]'),
     'whether `[null,null,null,null,null,[],null,null]` is a map': Asked(
-        referenced('map', '[null,null,null,null,null,[],null,null]'), '[false,false]', '[true,true]'),
+        reference_question('map', '[null,null,null,null,null,[],null,null]'), '[false,false]', '[true,true]'),
     'contents loaded of the source `gone` from the folder `/`: their count': Asked(
-        referenced('load', '/', None, [['gone', None]]), '[0,null]', '[1,null]'),
+        reference_question('load', '/', None, [['gone', None]]), '[0,null]', '[1,null]'),
     'contents loaded of the source `dev/null` from `/`, with the base path `gone/..`': Asked(
-        referenced('load', '/', 'gone/..', [['dev/null', None]]), '[1,""]', '[1,null]'),
+        reference_question('load', '/', 'gone/..', [['dev/null', None]]), '[1,""]', '[1,null]'),
     'contents to be read from files, by the options of a rewriting, without `current_dir`': Asked(
-        asked('contents', named('AAAA')), 'invalid input parameter', 'none'),
+        question_of('contents', named_record('AAAA')), 'invalid input parameter', 'none'),
     'what the paths `/a`, `C:/a`, `/a/b` have in common': Asked(
-        referenced('cut', None, None, [['/a', None], ['C:/a', None], ['/a/b', None]]),
+        reference_question('cut', None, None, [['/a', None], ['C:/a', None], ['/a/b', None]]),
         '[["/a",null],["C:/a",null],["/a/b",null]]', '[["/a",null],["C:/a",null],["b",null]]'),
     'a file bundle with `+1.js` in `js-modules`': Asked(
-        bundled('folder', folder_of('+1.js'), [1]), compact([True, NO_INDEX]),
+        bundle_question('folder', folder_of('+1.js'), [1]), compact([True, NO_INDEX]),
         compact([True, ['Unbundle', 2, ['main'], [[1, '+1.js']], [[1, '+1.js']]]])),
     'one with `18446744073709551615.js`': Asked(
-        bundled('folder', folder_of('18446744073709551615.js'), [0]), compact([True, NO_INDEX]),
+        bundle_question('folder', folder_of('18446744073709551615.js'), [0]), compact([True, NO_INDEX]),
         compact([True, ['Unbundle', 0, ['main'], [None], []]])),
     'one with `1.js` and `01.js`': Asked(
-        bundled('folder', folder_of(*ZEROS), [0]),
+        bundle_question('folder', folder_of(*ZEROS), [0]),
         compact([True, ['Unbundle', 5, ['main'], [None], [[number, f'{number}.js'] for number in range(1, 5)]]]), has_listed_others),
     'one with a name that is not UTF-8': Asked(
-        bundled('folder', folder_of('\udcff.js'), [0]), compact([True, 'InvalidFilename']), compact([True, NO_INDEX])),
+        bundle_question('folder', folder_of('\udcff.js'), [0]), compact([True, 'InvalidFilename']), compact([True, NO_INDEX])),
     '11 bytes as an indexed bundle: the text of the error': Asked(
-        bundled('modules', 'x' * 11, [0]), compact([False, 'parse error: 0+12 past 11']), compact([False, 'Scroll'])),
+        bundle_question('modules', 'x' * 11, [0]), compact([False, 'parse error: 0+12 past 11']), compact([False, 'Scroll'])),
     'the module `xyz` by mappings `;;;;;AAAA,EAAE`': Asked(
-        split('xyz', ';;;;;AAAA,EAAE'), split_into('xyz', (0, 0), (0, 2)), split_into('xyz', (0, 2))),
+        split_question('xyz', ';;;;;AAAA,EAAE'), split_into('xyz', (0, 0), (0, 2)), split_into('xyz', (0, 2))),
     'the same with range bits `;;;;;C`': Asked(
-        split('xyz', ';;;;;AAAA,EAAE', rangeMappings=';;;;;C'), split_into('xyz', (0, 0), (0, 2, 'range')), split_into('xyz', (0, 2))),
+        split_question('xyz', ';;;;;AAAA,EAAE', rangeMappings=';;;;;C'), split_into('xyz', (0, 0), (0, 2, 'range')), split_into('xyz', (0, 2))),
     'the module of two lines `abcde` and `fg` by mappings `;;;;;AAAA,CAAC,GAAG;AAAJ`': Asked(
-        split('abcde\nfg', ';;;;;AAAA,CAAC,GAAG;AAAJ'), split_into('abcde\nfg', (0, 0), (0, 1), (0, 4), (1, 0)),
+        split_question('abcde\nfg', ';;;;;AAAA,CAAC,GAAG;AAAJ'), split_into('abcde\nfg', (0, 0), (0, 1), (0, 4), (1, 0)),
         split_into('abcde\nfg', (0, 1))),
     'the module of two lines `xyz` and `xyz` at line 4294967295, by mappings `AAAA,CAAC` at that line': Asked(
-        split('xyz\nxyz', 'AAAA,CAAC', 2**32 - 1, 2**32 - 1), split_into('xyz\nxyz', (0, 0), (0, 1)), split_into('xyz\nxyz')),
+        split_question('xyz\nxyz', 'AAAA,CAAC', 2**32 - 1, 2**32 - 1), split_into('xyz\nxyz', (0, 0), (0, 1)), split_into('xyz\nxyz')),
     BUILT: Asked(
         Case('built', 'built', None, None, [[1, 0], *([column, original] for original in range(1, 33, 2) for column in (0, 1))], 1),
         ' '.join([*(f'0:{original}' for original in range(1, 33, 2)), '1:0', *(f'1:{original}' for original in range(1, 33, 2))]) + ' ', is_shuffled),

@@ -21,7 +21,7 @@ MISSING = b'No such file or directory (os error 2)\n'
 COMPOSED = b'{"mappings":"","names":["x","alert"],"sources":["coolstuff.js"],"version":3}\n'
 
 
-def ended(command, **more):
+def run_on_map(command, **more):
     """The status of a run on the map, its output, and its standard error."""
     with open(MAP, 'rb') as given:
         streams = {'stdin': given, 'stdout': subprocess.PIPE, 'stderr': subprocess.PIPE, **more}
@@ -34,18 +34,18 @@ def without_reader(words):
     reader, writer = os.pipe()
     os.close(reader)
     try:
-        return ended([TOOL, *words], stdout=writer)
+        return run_on_map([TOOL, *words], stdout=writer)
     finally:
         os.close(writer)
 
 
 def on_full_device(words):
     with open('/dev/full', 'wb') as full:
-        return ended([TOOL, *words], stdout=full)
+        return run_on_map([TOOL, *words], stdout=full)
 
 
 def on_closed(words, streams):
-    return ended(['bash', '-c', f'exec "$0" "$@" {streams}', TOOL, *words])
+    return run_on_map(['bash', '-c', f'exec "$0" "$@" {streams}', TOOL, *words])
 
 
 def through_link(words):
@@ -56,10 +56,10 @@ def through_link(words):
         pathlib.Path(folder, 'here.map').write_bytes(MAP.read_bytes())
         pathlib.Path(folder, 'empty.map').write_text('{}')
         pathlib.Path(folder, 'inner').mkdir()
-        return ended(['bash', '-c', 'exec ../link "$@" < ../here.map', 'bash', *words], cwd=f'{folder}/inner')
+        return run_on_map(['bash', '-c', 'exec ../link "$@" < ../here.map', 'bash', *words], cwd=f'{folder}/inner')
 
 
-def unbuilt(words):
+def run_unbuilt(words):
     """A run of the wrapper on the map where nothing is built, in a copy of the files that git knows: its status, the
     first line that it printed, and the lines that it wrote to standard error."""
     listed = subprocess.run(['git', 'ls-files', '-z'], cwd=HOME, check=True, stdout=subprocess.PIPE).stdout
@@ -69,14 +69,14 @@ def unbuilt(words):
             copy = pathlib.Path(folder, name)
             copy.parent.mkdir(parents=True, exist_ok=True)
             shutil.copy(HOME / name, copy)
-        status, printed, errors = ended([f'{folder}/sourcemap', *words])
+        status, printed, errors = run_on_map([f'{folder}/sourcemap', *words])
     return status, printed.split(b'\n')[0], errors
 
 
 def answered_unproved(words):
     """The same of words that the program answers: the status, the line, how many lines standard error got, and
     whether they name the command that proves and builds."""
-    status, printed, errors = unbuilt(words)
+    status, printed, errors = run_unbuilt(words)
     return status, printed, len(errors.splitlines()), b'/sourcemap --build\'' in errors
 
 
@@ -84,7 +84,7 @@ def within(kilobytes):
     """A run with no more memory than this, None if it cannot be started."""
     limit = kilobytes << 10
     try:
-        return ended([TOOL, *LOOKUP], preexec_fn=lambda: resource.setrlimit(resource.RLIMIT_AS, (limit, limit)))
+        return run_on_map([TOOL, *LOOKUP], preexec_fn=lambda: resource.setrlimit(resource.RLIMIT_AS, (limit, limit)))
     except (OSError, subprocess.SubprocessError):
         return None
 
@@ -98,9 +98,9 @@ def short_of_memory():
 
 # What is tried, how, and how it should end.
 TRIALS = [
-    ('an answer', lambda: ended([TOOL, *LOOKUP]), (0, ANSWER, b'')),
-    ('a word that is not UTF-8', lambda: ended([TOOL, b'lookup', b'0', b'\xff']), (2, USAGE, b'')),
-    ('no words', lambda: ended([TOOL]), (2, USAGE, b'')),
+    ('an answer', lambda: run_on_map([TOOL, *LOOKUP]), (0, ANSWER, b'')),
+    ('a word that is not UTF-8', lambda: run_on_map([TOOL, b'lookup', b'0', b'\xff']), (2, USAGE, b'')),
+    ('no words', lambda: run_on_map([TOOL]), (2, USAGE, b'')),
     ('a reader that has gone away', lambda: without_reader([b'tokens']), (1, b'', b'')),
     ('the same at the usage', lambda: without_reader([b'tokens', b'0']), (1, b'', b'')),
     ('a full device', lambda: on_full_device(LOOKUP), (1, b'', b'No space left on device (os error 28)\n')),
@@ -111,11 +111,12 @@ TRIALS = [
     ('the wrapper through a link', lambda: through_link(LOOKUP), (0, ANSWER, b'')),
     ('a second map, named from the folder of the caller', lambda: through_link([b'compose', b'../empty.map']),
      (0, COMPOSED, b'')),
-    ('a second map that is missing', lambda: ended([TOOL, b'compose', b'no.map']), (1, MISSING, b'')),
-    ('a folder as a second map', lambda: ended([TOOL, b'compose', b'/']), (1, b'Is a directory (os error 21)\n', b'')),
+    ('a second map that is missing', lambda: run_on_map([TOOL, b'compose', b'no.map']), (1, MISSING, b'')),
+    ('a folder as a second map', lambda: run_on_map([TOOL, b'compose', b'/']),
+     (1, b'Is a directory (os error 21)\n', b'')),
     ('a word that is not UTF-8 through it', lambda: through_link([b'lookup', b'0', b'\xff']), (2, USAGE, b'')),
-    ('--help where nothing is built', lambda: unbuilt(['--help']), (0, WRAPPER_USAGE, b'')),
-    ('no words where nothing is built', lambda: unbuilt([]), (2, WRAPPER_USAGE, b'')),
+    ('--help where nothing is built', lambda: run_unbuilt(['--help']), (0, WRAPPER_USAGE, b'')),
+    ('no words where nothing is built', lambda: run_unbuilt([]), (2, WRAPPER_USAGE, b'')),
     ('an answer where nothing is built', lambda: answered_unproved(LOOKUP), (0, ANSWER.strip(), 1, True)),
     ('other words where nothing is built', lambda: answered_unproved([b'lookup', b'0']), (2, USAGE.strip(), 1, True)),
     ('out of memory before the run begins', short_of_memory, (1, b'', b'out of memory\n')),

@@ -35,7 +35,7 @@ class Open(Exception):
     """The result for such a host is unspecified."""
 
 
-def escaped(text, escapes):
+def escape(text, escapes):
     return ''.join(chr(b) if 32 <= b < 127 and b not in escapes else f'%{b:02X}' for b in text.encode())
 
 
@@ -43,7 +43,7 @@ def is_special(scheme):
     return scheme in PORTS
 
 
-def cut(text, mark):
+def cut_at(text, mark):
     """The text before a mark, and that after it, None where there is no mark."""
     before, found, after = text.partition(mark)
     return before, after if found else None
@@ -55,7 +55,7 @@ def host_of(scheme, text):
     if not is_special(scheme):
         if FORBIDDEN_OPAQUE.search(text):
             raise Refused
-        return escaped(text, OPAQUE)
+        return escape(text, OPAQUE)
     if not text or FORBIDDEN.search(text):
         raise Refused
     if re.search(r'(?:^|\.)(?:[0-9]+|0[xX][0-9A-Fa-f]*)\.?$', text):
@@ -81,7 +81,7 @@ def with_authority(scheme, text, escapes):
     """A URL of what follows the two slashes."""
     authority, rest = apart(scheme, text)
     user, found, address = authority.rpartition('@')
-    name, password = cut(user, ':')
+    name, password = cut_at(user, ':')
     host, port = re.fullmatch(r'((?:\[[^\]]*\]?|[^:\[])*)(?::(.*))?', address, re.S).groups()
     if not host and (found or port is not None):
         raise Refused
@@ -89,11 +89,11 @@ def with_authority(scheme, text, escapes):
     if rest[:1] == '/' or is_special(scheme) and rest[:1] == '\\':
         rest = rest[1:]
     elif not is_special(scheme):
-        return Url(scheme, escaped(name, USER), escaped(password or '', USER), host, port, [], None, None)
-    return Url(scheme, escaped(name, USER), escaped(password or '', USER), host, port, with_segments(scheme, [], rest, escapes), None, None)
+        return Url(scheme, escape(name, USER), escape(password or '', USER), host, port, [], None, None)
+    return Url(scheme, escape(name, USER), escape(password or '', USER), host, port, with_segments(scheme, [], rest, escapes), None, None)
 
 
-def shortened(scheme, path):
+def shorten_path(scheme, path):
     """A path without its last segment, unless that is the drive letter of a file."""
     if scheme == 'file' and len(path) == 1 and DRIVE.fullmatch(path[0]) and path[0][1] == ':':
         return path
@@ -105,14 +105,14 @@ def with_segments(scheme, path, text, escapes):
     parts = re.split(r'[/\\]' if is_special(scheme) else '/', text)
     for count, part in enumerate(parts, 1):
         if TWO_DOTS.fullmatch(part):
-            path = shortened(scheme, path)
+            path = shorten_path(scheme, path)
         elif ONE_DOT.fullmatch(part):
             path = path[:]
         elif scheme == 'file' and not path and DRIVE.fullmatch(part):
             path = [f'{part[0]}:']
             continue
         else:
-            path = [*path, escaped(part, escapes)]
+            path = [*path, escape(part, escapes)]
             continue
         if count == len(parts):
             path = [*path, '']
@@ -132,7 +132,7 @@ def file_parsed(base, text, escapes):
     path = []
     if base and not DRIVE_FIRST.match(rest):
         if slashes == 0:
-            path = shortened('file', base.path)
+            path = shorten_path('file', base.path)
         elif base.path and DRIVE.fullmatch(base.path[0]) and base.path[0][1] == ':':
             path = base.path[:1]
     return Url('file', '', '', host, None, with_segments('file', path, rest, escapes), None, None)
@@ -143,7 +143,7 @@ def relative_parsed(base, text, escapes):
     if slashes == 2:
         rest = text.lstrip('/\\') if is_special(base.scheme) else text[2:]
         return with_authority(base.scheme, rest, escapes)
-    path = shortened(base.scheme, base.path) if slashes == 0 else []
+    path = shorten_path(base.scheme, base.path) if slashes == 0 else []
     return base._replace(path=with_segments(base.scheme, path, text[slashes:], escapes), query=None, fragment=None)
 
 
@@ -157,15 +157,15 @@ def body_parsed(scheme, base, text, escapes):
         return with_authority(scheme, text.lstrip('/\\'), escapes)
     if text[:2] == '//':
         return with_authority(scheme, text[2:], escapes)
-    path = with_segments(scheme, [], text[1:], escapes) if text[:1] == '/' else escaped(text, OPAQUE)
+    path = with_segments(scheme, [], text[1:], escapes) if text[:1] == '/' else escape(text, OPAQUE)
     return Url(scheme, '', '', None, None, path, None, None)
 
 
-def parsed(text, base=None, escapes=PATH):
+def parse_url(text, base=None, escapes=PATH):
     """The URL of a text, which may be relative to that of a base; what refuses it is `Refused`."""
-    text, fragment = cut(re.sub('[\t\n\r]', '', text.strip(EDGES)), '#')
+    text, fragment = cut_at(re.sub('[\t\n\r]', '', text.strip(EDGES)), '#')
     found = SCHEME.match(text)
-    text, query = cut(text[found.end():] if found else text, '?')
+    text, query = cut_at(text[found.end():] if found else text, '?')
     scheme = found.group(1).lower() if found else base.scheme if base else None
     if scheme is None or not found and isinstance(base.path, str) and (text or query is not None or fragment is None):
         raise Refused
@@ -177,8 +177,8 @@ def parsed(text, base=None, escapes=PATH):
     if not is_base and isinstance(url.path, str) and url.path[-1:] == ' ' and (query, fragment) != (None, None):
         url = url._replace(path=f'{url.path[:-1]}%20')
     if query is not None:
-        url = url._replace(query=escaped(query, QUERY | frozenset(b"'") if is_special(scheme) else QUERY))
-    return url._replace(fragment=None if fragment is None else escaped(fragment, FRAGMENT))
+        url = url._replace(query=escape(query, QUERY | frozenset(b"'") if is_special(scheme) else QUERY))
+    return url._replace(fragment=None if fragment is None else escape(fragment, FRAGMENT))
 
 
 def path_text(url):
@@ -204,7 +204,7 @@ def url_of_path(path, is_folder=False):
         return None
     parts = [part for part in path.split('/') if part not in ('', '.')]
     text = ''.join(f'/{"".join(chr(b) if b in UNRESERVED else f"%{b:02X}" for b in part.encode())}' for part in parts)
-    return parsed(f'file://{text}{"/" if is_folder or not parts else ""}')
+    return parse_url(f'file://{text}{"/" if is_folder or not parts else ""}')
 
 
 def path_of_url(url):

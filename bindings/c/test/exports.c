@@ -19,7 +19,7 @@ static sm_code count_code(size_t count)
 }
 
 /* The code of a call that fills a handle, which it closes again. */
-#define FILLING(name, filled, call)        \
+#define FILL(name, filled, call)           \
     static sm_code name(sm_handle *handle) \
     {                                      \
         sm_handle filled = SM_EMPTY;       \
@@ -28,74 +28,74 @@ static sm_code count_code(size_t count)
         return code;                       \
     }
 
-#define ASKING(name, call)                 \
+#define ASK(name, call)                    \
     static sm_code name(sm_handle *handle) \
     {                                      \
         clear_text();                      \
         return call;                       \
     }
 
-#define WRITING(name, type, value, call)   \
+#define WRITE(name, type, value, call)     \
     static sm_code name(sm_handle *handle) \
     {                                      \
         type value = { 0 };                \
         return call;                       \
     }
 
-FILLING(share, other, sm_share(handle, &other, &error))
-FILLING(hermes_map, regular, sm_hermes_map(handle, &regular, &error))
-WRITING(count, sm_counts, counts, sm_count(handle, &counts))
-ASKING(file, sm_file(handle, &text))
-ASKING(source_root, sm_source_root(handle, &text))
-WRITING(get_debug_id, sm_debug_id, id, (id.bytes[0] = 0, sm_get_debug_id(handle, &id)))
-ASKING(source, sm_source(handle, 0, &text))
-ASKING(name_of, sm_name(handle, 0, &text))
-ASKING(contents, sm_contents(handle, 0, &text))
-FILLING(token_text, bytes, sm_token_text(handle, 0, &bytes, &error))
-WRITING(lookup_index, uint32_t, index, sm_lookup_index(handle, 0, 0, &index))
-ASKING(lookup_source, sm_lookup_source(handle, 0, 0, &text))
-ASKING(lookup_name, sm_lookup_name(handle, 0, 0, &text))
-FILLING(lookup_text, bytes, sm_lookup_text(handle, 0, 0, &bytes, &error))
-ASKING(hermes_function_name, sm_hermes_function_name(handle, 0, &text))
-FILLING(trace, answers, sm_trace(handle, BYTES("0:0\n"), &answers, &error))
-ASKING(rewrite, sm_rewrite(handle, true, true, &text, 0, &error))
-ASKING(flatten, sm_flatten(handle, &error))
-ASKING(shift, sm_shift(handle, 1, &error))
-ASKING(set_file, sm_set_file(handle, false, NO_BYTES, 0, &error))
-ASKING(set_source_root, sm_set_source_root(handle, false, NO_BYTES, 0, &error))
-WRITING(set_debug_id, sm_debug_id, id, (id.bytes[0] = 0, sm_set_debug_id(handle, false, &id, &error)))
-ASKING(set_source, sm_set_source(handle, 0, BYTES("a"), &error))
-ASKING(set_contents, sm_set_contents(handle, 0, false, NO_BYTES, 0, &error))
-ASKING(ignore_source, sm_ignore_source(handle, 0, &error))
-ASKING(remove_names, sm_remove_names(handle, &error))
-FILLING(write_json, json, sm_write(handle, &json, &error))
-FILLING(write_url, url, sm_write_url(handle, &url, &error))
-ASKING(bytes_text, sm_bytes_text(handle, &text))
-WRITING(section_start_of, sm_section_start, start, sm_section_start_of(handle, 0, &start))
-ASKING(section_url, sm_section_url(handle, 0, &text))
-ASKING(module_path, sm_module_path(handle, 0, &text))
-FILLING(section, map, sm_section(handle, 0, &map, &error))
-FILLING(sections_finish, map,
+FILL(share, other, sm_share(handle, &other, &error))
+FILL(hermes_map, regular, sm_hermes_map(handle, &regular, &error))
+WRITE(count, sm_counts, counts, sm_count(handle, &counts))
+ASK(file, sm_file(handle, &text))
+ASK(source_root, sm_source_root(handle, &text))
+WRITE(get_debug_id, sm_debug_id, id, (id.bytes[0] = 0, sm_get_debug_id(handle, &id)))
+ASK(source, sm_source(handle, 0, &text))
+ASK(name_of, sm_name(handle, 0, &text))
+ASK(contents, sm_contents(handle, 0, &text))
+FILL(token_text, bytes, sm_token_text(handle, 0, &bytes, &error))
+WRITE(lookup_index, uint32_t, index, sm_lookup_index(handle, 0, 0, &index))
+ASK(lookup_source, sm_lookup_source(handle, 0, 0, &text))
+ASK(lookup_name, sm_lookup_name(handle, 0, 0, &text))
+FILL(lookup_text, bytes, sm_lookup_text(handle, 0, 0, &bytes, &error))
+ASK(hermes_function_name, sm_hermes_function_name(handle, 0, &text))
+FILL(trace, answers, sm_trace(handle, BYTES("0:0\n"), &answers, &error))
+ASK(rewrite, sm_rewrite(handle, true, true, &text, 0, &error))
+ASK(flatten, sm_flatten(handle, &error))
+ASK(shift, sm_shift(handle, 1, &error))
+ASK(set_file, sm_set_file(handle, false, NO_BYTES, 0, &error))
+ASK(set_source_root, sm_set_source_root(handle, false, NO_BYTES, 0, &error))
+WRITE(set_debug_id, sm_debug_id, id, (id.bytes[0] = 0, sm_set_debug_id(handle, false, &id, &error)))
+ASK(set_source, sm_set_source(handle, 0, BYTES("a"), &error))
+ASK(set_contents, sm_set_contents(handle, 0, false, NO_BYTES, 0, &error))
+ASK(ignore_source, sm_ignore_source(handle, 0, &error))
+ASK(remove_names, sm_remove_names(handle, &error))
+FILL(write_json, json, sm_write(handle, &json, &error))
+FILL(write_url, url, sm_write_url(handle, &url, &error))
+ASK(bytes_text, sm_bytes_text(handle, &text))
+WRITE(section_start_of, sm_section_start, start, sm_section_start_of(handle, 0, &start))
+ASK(section_url, sm_section_url(handle, 0, &text))
+ASK(module_path, sm_module_path(handle, 0, &text))
+FILL(section, map, sm_section(handle, 0, &map, &error))
+FILL(sections_finish, map,
         sm_sections_finish(handle, &map, false, NO_BYTES, 0, false, NO_OFFSETS, 0, false, &text, 0, &error))
-ASKING(builder_set_source_root, sm_builder_set_source_root(handle, false, NO_BYTES, 0, &error))
-WRITING(builder_set_debug_id, sm_debug_id, id, (id.bytes[0] = 0, sm_builder_set_debug_id(handle, false, &id, &error)))
-WRITING(builder_add_source, uint32_t, id, sm_builder_add_source(handle, BYTES("a.js"), &id, &error))
-WRITING(builder_add_name, uint32_t, id, sm_builder_add_name(handle, BYTES("n"), &id, &error))
-ASKING(builder_source, sm_builder_source(handle, 0, &text))
-ASKING(builder_set_source, sm_builder_set_source(handle, 0, BYTES("a"), &error))
-ASKING(builder_strip_prefixes, sm_builder_strip_prefixes(handle, &text, 0, &error))
-ASKING(builder_set_contents, sm_builder_set_contents(handle, 0, false, NO_BYTES, 0, &error))
-ASKING(builder_ignore_source, sm_builder_ignore_source(handle, 0, &error))
-FILLING(builder_finish, map, sm_builder_finish(handle, &map, &error))
-ASKING(view_text, sm_view_text(handle, &text))
-WRITING(view_count, size_t, lines, sm_view_count(handle, &lines))
-ASKING(view_line, sm_view_line(handle, 0, &text))
-ASKING(view_slice, sm_view_slice(handle, 0, 0, 0, &text))
-WRITING(bundle_count, size_t, modules, sm_bundle_count(handle, &modules))
-ASKING(bundle_startup, sm_bundle_startup(handle, &text, &error))
-ASKING(bundle_module, sm_bundle_module(handle, 0, &text, &error))
-WRITING(split_count, size_t, items, sm_split_count(handle, &items))
-FILLING(split_map, map, sm_split_map(handle, 0, &map, &error))
+ASK(builder_set_source_root, sm_builder_set_source_root(handle, false, NO_BYTES, 0, &error))
+WRITE(builder_set_debug_id, sm_debug_id, id, (id.bytes[0] = 0, sm_builder_set_debug_id(handle, false, &id, &error)))
+WRITE(builder_add_source, uint32_t, id, sm_builder_add_source(handle, BYTES("a.js"), &id, &error))
+WRITE(builder_add_name, uint32_t, id, sm_builder_add_name(handle, BYTES("n"), &id, &error))
+ASK(builder_source, sm_builder_source(handle, 0, &text))
+ASK(builder_set_source, sm_builder_set_source(handle, 0, BYTES("a"), &error))
+ASK(builder_strip_prefixes, sm_builder_strip_prefixes(handle, &text, 0, &error))
+ASK(builder_set_contents, sm_builder_set_contents(handle, 0, false, NO_BYTES, 0, &error))
+ASK(builder_ignore_source, sm_builder_ignore_source(handle, 0, &error))
+FILL(builder_finish, map, sm_builder_finish(handle, &map, &error))
+ASK(view_text, sm_view_text(handle, &text))
+WRITE(view_count, size_t, lines, sm_view_count(handle, &lines))
+ASK(view_line, sm_view_line(handle, 0, &text))
+ASK(view_slice, sm_view_slice(handle, 0, 0, 0, &text))
+WRITE(bundle_count, size_t, modules, sm_bundle_count(handle, &modules))
+ASK(bundle_startup, sm_bundle_startup(handle, &text, &error))
+ASK(bundle_module, sm_bundle_module(handle, 0, &text, &error))
+WRITE(split_count, size_t, items, sm_split_count(handle, &items))
+FILL(split_map, map, sm_split_map(handle, 0, &map, &error))
 
 static sm_code ignore_list(sm_handle *handle)
 {
@@ -208,14 +208,14 @@ static sm_code sections_add_map(sm_handle *map)
     return code;
 }
 
-ASKING(equal, call_with(handle, SM_KIND_REGULAR, equal_both))
-ASKING(equal_other, call_with(handle, SM_KIND_REGULAR, equal_reversed))
-ASKING(compose, call_with(handle, SM_KIND_REGULAR, compose_both))
-ASKING(compose_adjustment, call_with(handle, SM_KIND_REGULAR, compose_reversed))
-ASKING(bundle_split, call_with(handle, SM_KIND_INDEX, split_both))
-ASKING(bundle_split_index, call_with(handle, SM_KIND_BUNDLE, split_reversed))
-ASKING(function_name, call_with(handle, SM_KIND_VIEW, name_both))
-ASKING(function_name_view, call_with(handle, SM_KIND_REGULAR, name_reversed))
+ASK(equal, call_with(handle, SM_KIND_REGULAR, equal_both))
+ASK(equal_other, call_with(handle, SM_KIND_REGULAR, equal_reversed))
+ASK(compose, call_with(handle, SM_KIND_REGULAR, compose_both))
+ASK(compose_adjustment, call_with(handle, SM_KIND_REGULAR, compose_reversed))
+ASK(bundle_split, call_with(handle, SM_KIND_INDEX, split_both))
+ASK(bundle_split_index, call_with(handle, SM_KIND_BUNDLE, split_reversed))
+ASK(function_name, call_with(handle, SM_KIND_VIEW, name_both))
+ASK(function_name_view, call_with(handle, SM_KIND_REGULAR, name_reversed))
 
 static sm_code builder_add_tokens(sm_handle *handle)
 {

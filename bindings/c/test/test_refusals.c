@@ -264,7 +264,7 @@ CALL(split_map, sm_split_map(&h->subject, 0, &h->out, error))
 CALL(invalid_split_map, sm_split_map(&h->subject, 1, &h->out, error))
 
 /* A call that borrows a text, and fails: the text is as it was. */
-#define BORROWING(name, expression)                         \
+#define BORROW(name, expression)                            \
     static sm_code name(struct handles *h, sm_error *error) \
     {                                                       \
         sm_text bytes = text_of("before");                  \
@@ -273,11 +273,11 @@ CALL(invalid_split_map, sm_split_map(&h->subject, 1, &h->out, error))
         return code;                                        \
     }
 
-BORROWING(bundle_startup, sm_bundle_startup(&h->subject, &bytes, error))
-BORROWING(bundle_module, sm_bundle_module(&h->subject, 0, &bytes, error))
-BORROWING(missing_module, sm_bundle_module(&h->subject, 1, &bytes, error))
-BORROWING(invalid_module, sm_bundle_module(&h->subject, 2, &bytes, error))
-BORROWING(no_module, sm_bundle_module(&h->subject, 3, &bytes, error))
+BORROW(bundle_startup, sm_bundle_startup(&h->subject, &bytes, error))
+BORROW(bundle_module, sm_bundle_module(&h->subject, 0, &bytes, error))
+BORROW(missing_module, sm_bundle_module(&h->subject, 1, &bytes, error))
+BORROW(invalid_module, sm_bundle_module(&h->subject, 2, &bytes, error))
+BORROW(no_module, sm_bundle_module(&h->subject, 3, &bytes, error))
 
 static sm_code invalid_item(struct handles *h, sm_error *error)
 {

@@ -136,7 +136,7 @@ impl Error {
 
 /// The printed text of an error. If the library cut it within a character, that
 /// character is omitted.
-fn printed(error: &ffi::Error) -> String {
+fn message(error: &ffi::Error) -> String {
     let length = error.text_length.min(ffi::SM_ERROR_TEXT - 1);
     let mut chunks = error.text[..length].utf8_chunks();
     chunks
@@ -146,14 +146,14 @@ fn printed(error: &ffi::Error) -> String {
 }
 
 fn invalid_data(error: &ffi::Error) -> io::Error {
-    io::Error::new(io::ErrorKind::InvalidData, printed(error))
+    io::Error::new(io::ErrorKind::InvalidData, message(error))
 }
 
 fn reason(error: &ffi::Error) -> String {
-    let printed = printed(error);
-    match printed.strip_prefix(CANNOT_FLATTEN) {
+    let message = message(error);
+    match message.strip_prefix(CANNOT_FLATTEN) {
         Some(reason) => reason.to_owned(),
-        None => printed,
+        None => message,
     }
 }
 

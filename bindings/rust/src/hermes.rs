@@ -49,7 +49,7 @@ impl SourceMapHermes {
 
     /// Writes the map as JSON.
     pub fn to_writer<W: Write>(&self, w: W) -> Result<()> {
-        self.handle().written(|text| write_all(w, text))?
+        self.handle().with_json(|text| write_all(w, text))?
     }
 
     /// Returns the name of the function at an offset of the bytecode. The offset is
@@ -67,7 +67,7 @@ impl SourceMapHermes {
     /// names. For a token on another line the call returns none. If the functions of
     /// the token's source are not in order, the result is unspecified.
     pub fn get_scope_for_token(&self, token: Token<'_>) -> Option<&str> {
-        match token.looked_up() {
+        match token.lookup_position() {
             (0, offset) => self.get_original_function_name(offset),
             _ => None,
         }

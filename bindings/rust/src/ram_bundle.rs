@@ -79,12 +79,12 @@ pub struct SplitRamBundleModuleIter<'a> {
 impl<'a> RamBundle<'a> {
     /// Reads an indexed bundle.
     pub fn parse_indexed_from_slice(bytes: &'a [u8]) -> Result<Self> {
-        RamBundle::indexed(Cow::Borrowed(bytes))
+        RamBundle::parse_indexed(Cow::Borrowed(bytes))
     }
 
     /// Reads an indexed bundle.
     pub fn parse_indexed_from_vec(bytes: Vec<u8>) -> Result<Self> {
-        RamBundle::indexed(Cow::Owned(bytes))
+        RamBundle::parse_indexed(Cow::Owned(bytes))
     }
 
     /// Reads an indexed bundle from a file.
@@ -105,7 +105,7 @@ impl<'a> RamBundle<'a> {
         Ok(RamBundle { repr })
     }
 
-    fn indexed(bytes: Cow<'a, [u8]>) -> Result<Self> {
+    fn parse_indexed(bytes: Cow<'a, [u8]>) -> Result<Self> {
         let handle = BundleHandle::open(&bytes)?;
         let repr = Repr::Indexed(Indexed { handle, bytes });
         Ok(RamBundle { repr })

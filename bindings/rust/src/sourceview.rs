@@ -79,7 +79,7 @@ impl SourceView {
         minified_name: &str,
     ) -> Option<&'map str> {
         let map = token.sourcemap().regular_handle();
-        map.function_name(token.looked_up(), minified_name, &self.handle)
+        map.function_name(token.lookup_position(), minified_name, &self.handle)
     }
 
     /// Returns how many lines there are.

@@ -98,7 +98,7 @@ impl Random {
 }
 
 /// Positions at tokens or up to three columns after one.
-fn drawn(tokens: &[Position]) -> Vec<Position> {
+fn draw_positions(tokens: &[Position]) -> Vec<Position> {
     let mut random = Random(1);
     let mut draw = || {
         let (line, column) = tokens[random.below(tokens.len())];
@@ -128,7 +128,7 @@ fn compare(name: &str, json: &[u8], rounds: usize) -> bool {
         tokens == reference.token_positions(),
         "{name}: other tokens"
     );
-    let random = drawn(&tokens);
+    let random = draw_positions(&tokens);
     let mut sorted = random.clone();
     sorted.sort();
     let mut is_same = true;

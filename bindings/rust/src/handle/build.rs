@@ -13,7 +13,7 @@ impl BuilderHandle {
     pub fn new() -> Result<BuilderHandle> {
         let (present, at, length) = optional(None);
         // SAFETY: the text is where it says.
-        Handle::filled(|builder, error| unsafe {
+        Handle::fill(|builder, error| unsafe {
             ffi::sm_builder_new(builder, present, at, length, error)
         })
         .map(BuilderHandle)
@@ -104,7 +104,7 @@ impl BuilderHandle {
 
     pub fn finish(self) -> Result<MapHandle> {
         // SAFETY: both are handles, and not the same.
-        Handle::filled(|map, error| unsafe { ffi::sm_builder_finish(self.0.at(), map, error) })
+        Handle::fill(|map, error| unsafe { ffi::sm_builder_finish(self.0.at(), map, error) })
             .map(MapHandle)
     }
 }

@@ -13,7 +13,7 @@ pub(crate) struct SplitHandle(Handle);
 impl BundleHandle {
     pub fn open(bytes: &[u8]) -> Result<BundleHandle> {
         // SAFETY: the slice is where it says.
-        Handle::filled(|bundle, error| unsafe {
+        Handle::fill(|bundle, error| unsafe {
             ffi::sm_bundle_open(bundle, bytes.as_ptr(), bytes.len(), error)
         })
         .map(BundleHandle)
@@ -46,7 +46,7 @@ impl BundleHandle {
 
     pub fn split(&self, index: &MapHandle) -> Result<SplitHandle> {
         // SAFETY: all are handles, and no two the same.
-        Handle::filled(|split, error| unsafe {
+        Handle::fill(|split, error| unsafe {
             ffi::sm_bundle_split(self.0.at(), index.0.at(), split, error)
         })
         .map(SplitHandle)
@@ -75,7 +75,7 @@ impl SplitHandle {
 
     pub fn map(&self, item: usize) -> Result<MapHandle> {
         // SAFETY: both are handles, and not the same.
-        Handle::filled(|map, error| unsafe { ffi::sm_split_map(self.0.at(), item, map, error) })
+        Handle::fill(|map, error| unsafe { ffi::sm_split_map(self.0.at(), item, map, error) })
             .map(MapHandle)
     }
 }

@@ -7,7 +7,7 @@ use crate::ffi;
 
 pub(crate) fn debug_id_text(id: &DebugId) -> Result<String> {
     // SAFETY: the id is a value of the caller.
-    Handle::made(|text, error| unsafe { ffi::sm_debug_id_text(id, text, error) })
+    Handle::fill_text(|text, error| unsafe { ffi::sm_debug_id_text(id, text, error) })
 }
 
 pub(crate) fn parse_debug_id(text: &str) -> Option<DebugId> {

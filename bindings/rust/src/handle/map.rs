@@ -86,31 +86,27 @@ impl Span {
 impl MapHandle {
     pub fn open(bytes: &[u8]) -> Result<MapHandle> {
         // SAFETY: the slice is where it says.
-        Handle::filled(|map, error| unsafe {
-            ffi::sm_open(map, bytes.as_ptr(), bytes.len(), error)
-        })
-        .map(MapHandle)
+        Handle::fill(|map, error| unsafe { ffi::sm_open(map, bytes.as_ptr(), bytes.len(), error) })
+            .map(MapHandle)
     }
 
     pub fn open_url(url: &str) -> Result<MapHandle> {
         // SAFETY: the text is where it says.
-        Handle::filled(|map, error| unsafe {
-            ffi::sm_open_url(map, url.as_ptr(), url.len(), error)
-        })
-        .map(MapHandle)
+        Handle::fill(|map, error| unsafe { ffi::sm_open_url(map, url.as_ptr(), url.len(), error) })
+            .map(MapHandle)
     }
 
     /// Another handle that shares the same map, without a copy.
     pub fn share(&self) -> Result<MapHandle> {
         // SAFETY: both are handles, and not the same.
-        Handle::filled(|other, error| unsafe { ffi::sm_share(self.0.at(), other, error) })
+        Handle::fill(|other, error| unsafe { ffi::sm_share(self.0.at(), other, error) })
             .map(MapHandle)
     }
 
     /// A copy of the regular map in a Hermes map.
     pub fn hermes_map(&self) -> Result<MapHandle> {
         // SAFETY: both are handles, and not the same.
-        Handle::filled(|regular, error| unsafe { ffi::sm_hermes_map(self.0.at(), regular, error) })
+        Handle::fill(|regular, error| unsafe { ffi::sm_hermes_map(self.0.at(), regular, error) })
             .map(MapHandle)
     }
 
@@ -179,7 +175,7 @@ impl MapHandle {
     /// The text of the token of this index, in a map that is no index map.
     pub fn token_text(&self, index: u32) -> Result<Option<String>> {
         // SAFETY: both are handles, and not the same.
-        Handle::made_if_any(|text, error| unsafe {
+        Handle::fill_text_if_any(|text, error| unsafe {
             ffi::sm_token_text(self.0.at(), index, text, error)
         })
     }
@@ -246,7 +242,7 @@ impl MapHandle {
     /// looked up.
     pub fn lookup_text(&self, line: u32, column: u32) -> Result<Option<String>> {
         // SAFETY: both are handles, and not the same.
-        Handle::made_if_any(|text, error| unsafe {
+        Handle::fill_text_if_any(|text, error| unsafe {
             ffi::sm_lookup_text(self.0.at(), line, column, text, error)
         })
     }
@@ -285,16 +281,15 @@ impl MapHandle {
     }
 
     /// Calls a function with the JSON text of the map.
-    pub fn written<T>(&self, read: impl FnOnce(&str) -> T) -> Result<T> {
+    pub fn with_json<T>(&self, read: impl FnOnce(&str) -> T) -> Result<T> {
         // SAFETY: both are handles, and not the same.
-        let text =
-            Handle::filled(|text, error| unsafe { ffi::sm_write(self.0.at(), text, error) })?;
+        let text = Handle::fill(|text, error| unsafe { ffi::sm_write(self.0.at(), text, error) })?;
         Ok(read(text.made_text()))
     }
 
     pub fn data_url(&self) -> Result<String> {
         // SAFETY: both are handles, and not the same.
-        Handle::made(|text, error| unsafe { ffi::sm_write_url(self.0.at(), text, error) })
+        Handle::fill_text(|text, error| unsafe { ffi::sm_write_url(self.0.at(), text, error) })
     }
 
     /// A section of an index map, with a copy of its map.
@@ -306,7 +301,7 @@ impl MapHandle {
             return Ok(None);
         }
         // SAFETY: both are handles, and not the same.
-        let map = Handle::filled_if_any(|map, error| unsafe {
+        let map = Handle::fill_if_any(|map, error| unsafe {
             ffi::sm_section(self.0.at(), id, map, error)
         })?;
         Ok(Some(Section {

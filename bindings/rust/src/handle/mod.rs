@@ -56,31 +56,33 @@ impl Handle {
     }
 
     /// A handle that a call fills.
-    fn filled(fill: impl FnOnce(*mut ffi::Handle, *mut ffi::Error) -> ffi::Code) -> Result<Handle> {
+    fn fill(call: impl FnOnce(*mut ffi::Handle, *mut ffi::Error) -> ffi::Code) -> Result<Handle> {
         let handle = Handle::empty();
-        check(|error| fill(handle.at(), error))?;
+        check(|error| call(handle.at(), error))?;
         Ok(handle)
     }
 
     /// A handle that a call fills, or none if there is nothing to fill it with.
-    fn filled_if_any(
-        fill: impl FnOnce(*mut ffi::Handle, *mut ffi::Error) -> ffi::Code,
+    fn fill_if_any(
+        call: impl FnOnce(*mut ffi::Handle, *mut ffi::Error) -> ffi::Code,
     ) -> Result<Option<Handle>> {
         let handle = Handle::empty();
-        let is_there = check_if_any(|error| fill(handle.at(), error))?;
+        let is_there = check_if_any(|error| call(handle.at(), error))?;
         Ok(is_there.then_some(handle))
     }
 
     /// The text that a call makes.
-    fn made(fill: impl FnOnce(*mut ffi::Handle, *mut ffi::Error) -> ffi::Code) -> Result<String> {
-        Ok(Handle::filled(fill)?.made_text().to_owned())
+    fn fill_text(
+        call: impl FnOnce(*mut ffi::Handle, *mut ffi::Error) -> ffi::Code,
+    ) -> Result<String> {
+        Ok(Handle::fill(call)?.made_text().to_owned())
     }
 
     /// The text that a call makes, or none if there is nothing to make it of.
-    fn made_if_any(
-        fill: impl FnOnce(*mut ffi::Handle, *mut ffi::Error) -> ffi::Code,
+    fn fill_text_if_any(
+        call: impl FnOnce(*mut ffi::Handle, *mut ffi::Error) -> ffi::Code,
     ) -> Result<Option<String>> {
-        Ok(Handle::filled_if_any(fill)?.map(|text| text.made_text().to_owned()))
+        Ok(Handle::fill_if_any(call)?.map(|text| text.made_text().to_owned()))
     }
 
     /// The bytes that a call points to in this handle.

@@ -13,7 +13,7 @@ pub(crate) struct Reference {
 pub(crate) fn locate_reference(text: &[u8]) -> Result<Option<Reference>> {
     let mut is_legacy = false;
     // SAFETY: the slice is where it says.
-    let url = Handle::filled_if_any(|url, error| unsafe {
+    let url = Handle::fill_if_any(|url, error| unsafe {
         ffi::sm_locate_reference(text.as_ptr(), text.len(), url, &mut is_legacy, error)
     })?;
     Ok(url.map(|url| Reference {
@@ -32,28 +32,28 @@ type MakeText = unsafe extern "C" fn(
     *mut ffi::Error,
 ) -> ffi::Code;
 
-fn made_of(call: MakeText, first: &str, second: &str) -> Result<Option<String>> {
+fn make_text_of(call: MakeText, first: &str, second: &str) -> Result<Option<String>> {
     // Both may be the same text, but arguments must not overlap.
     let second = second.to_owned();
     let (at, length) = (second.as_ptr(), second.len());
     // SAFETY: the texts are where they say.
-    Handle::made_if_any(|result, error| unsafe {
+    Handle::fill_text_if_any(|result, error| unsafe {
         call(first.as_ptr(), first.len(), at, length, result, error)
     })
 }
 
 /// The URL that a reference leads to from the URL of its text.
 pub(crate) fn resolve(url: &str, base: &str) -> Result<Option<String>> {
-    made_of(ffi::sm_resolve, url, base)
+    make_text_of(ffi::sm_resolve, url, base)
 }
 
 /// The path that a reference leads to from the path of its text.
 pub(crate) fn resolve_path(url: &str, base: &str) -> Result<Option<String>> {
-    made_of(ffi::sm_resolve_path, url, base)
+    make_text_of(ffi::sm_resolve_path, url, base)
 }
 
 /// The path from the folder of a file to another file, if both paths are as
 /// [`make_relative_path`](crate::make_relative_path) asks.
 pub(crate) fn relative_path(base: &str, target: &str) -> Result<String> {
-    Ok(made_of(ffi::sm_relative_path, base, target)?.unwrap_or_default())
+    Ok(make_text_of(ffi::sm_relative_path, base, target)?.unwrap_or_default())
 }

@@ -10,7 +10,7 @@ pub(crate) struct SectionsHandle(Handle);
 impl SectionsHandle {
     pub fn new() -> Result<SectionsHandle> {
         // SAFETY: it is a handle.
-        Handle::filled(|sections, error| unsafe { ffi::sm_sections_new(sections, error) })
+        Handle::fill(|sections, error| unsafe { ffi::sm_sections_new(sections, error) })
             .map(SectionsHandle)
     }
 
@@ -57,7 +57,7 @@ impl SectionsHandle {
         let texts = texts_of(paths.unwrap_or_default());
         // SAFETY: the lists and texts are where they say, and both are handles,
         // not the same.
-        Handle::filled(|map, error| unsafe {
+        Handle::fill(|map, error| unsafe {
             ffi::sm_sections_finish(
                 self.0.at(),
                 map,

@@ -27,7 +27,7 @@ pub(crate) fn parse_segment(segment: &str) -> Result<Vec<i64>> {
 
 pub(crate) fn write_segment(numbers: &[i64]) -> Result<String> {
     // SAFETY: the numbers are where they say.
-    Handle::made(|text, error| unsafe {
+    Handle::fill_text(|text, error| unsafe {
         ffi::sm_write_segment(numbers.as_ptr(), numbers.len(), text, error)
     })
 }

@@ -10,7 +10,7 @@ pub(crate) struct ViewHandle(pub(super) Handle);
 impl ViewHandle {
     pub fn open(text: &str) -> Result<ViewHandle> {
         // SAFETY: the text is where it says.
-        Handle::filled(|view, error| unsafe {
+        Handle::fill(|view, error| unsafe {
             ffi::sm_view_open(view, text.as_ptr(), text.len(), error)
         })
         .map(ViewHandle)

@@ -85,7 +85,7 @@ impl SourceMapIndex {
     }
 
     pub(crate) fn handle(&self) -> &MapHandle {
-        self.handle.get_or_init(|| must(self.made()))
+        self.handle.get_or_init(|| must(self.make_handle()))
     }
 
     fn handle_mut(&mut self) -> &mut MapHandle {
@@ -94,7 +94,7 @@ impl SourceMapIndex {
     }
 
     /// A handle made of the parts, which must all be set.
-    fn made(&self) -> Result<MapHandle> {
+    fn make_handle(&self) -> Result<MapHandle> {
         let mut sections = SectionsHandle::new()?;
         for section in self.section_list() {
             let map = section.get_sourcemap().map(DecodedMap::handle);
@@ -111,7 +111,7 @@ impl SourceMapIndex {
 
     /// Reads all parts from the handle, then drops the handle. The next call of
     /// [`SourceMapIndex::handle`] makes a new one.
-    fn let_go(&mut self) {
+    fn drop_handle(&mut self) {
         self.section_list();
         self.x_facebook_offsets();
         self.x_metro_module_paths();
@@ -142,7 +142,7 @@ impl SourceMapIndex {
 
     /// Writes the map as JSON.
     pub fn to_writer<W: Write>(&self, w: W) -> Result<()> {
-        self.handle().written(|text| write_all(w, text))?
+        self.handle().with_json(|text| write_all(w, text))?
     }
 
     pub(crate) fn debug_id(&self) -> Option<DebugId> {
@@ -179,7 +179,7 @@ impl SourceMapIndex {
     /// that return sections, do not build it.
     pub fn get_section_mut(&mut self, idx: u32) -> Option<&mut SourceMapSection> {
         self.get_section(idx)?;
-        self.let_go();
+        self.drop_handle();
         self.sections.get_mut()?.get_mut(idx as usize)
     }
 

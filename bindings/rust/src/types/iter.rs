@@ -59,7 +59,7 @@ impl<'a> Iterator for TokenIter<'a> {
         }
         let raw = *self.block.get(self.at)?;
         self.at += 1;
-        Some(Token::listed(self.sm, raw))
+        Some(Token::of_raw(self.sm, raw))
     }
 }
 

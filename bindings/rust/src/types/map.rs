@@ -96,7 +96,7 @@ impl SourceMap {
 
     /// Writes the map as JSON.
     pub fn to_writer<W: Write>(&self, w: W) -> Result<()> {
-        self.regular_handle().written(|text| write_all(w, text))?
+        self.regular_handle().with_json(|text| write_all(w, text))?
     }
 
     /// Returns the map as a `data:` URL.
@@ -168,7 +168,7 @@ impl SourceMap {
     /// such token. A number above 4294967295 gives none.
     pub fn get_token(&self, idx: usize) -> Option<Token<'_>> {
         let raw = self.raw_token(u32::try_from(idx).ok()?)?;
-        Some(Token::listed(self, raw))
+        Some(Token::of_raw(self, raw))
     }
 
     /// Returns how many tokens there are, but at most 4294967295.
@@ -198,7 +198,7 @@ impl SourceMap {
         if !self.kept.has(position) && !self.handle.lookup_span(position, &self.kept) {
             return None;
         }
-        Some(Token::answered(self, self.kept.token(), position))
+        Some(Token::of_answer(self, self.kept.token(), position))
     }
 
     /// Guesses the original name of the function at a generated position.

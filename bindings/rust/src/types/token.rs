@@ -68,14 +68,18 @@ pub struct Token<'a> {
 impl<'a> Token<'a> {
     /// A token as it is in its map.
     #[inline]
-    pub(crate) fn listed(sm: &'a SourceMap, raw: RawToken) -> Token<'a> {
-        Token::answered(sm, raw, raw.dst())
+    pub(crate) fn of_raw(sm: &'a SourceMap, raw: RawToken) -> Token<'a> {
+        Token::of_answer(sm, raw, raw.dst())
     }
 
     /// The answer to a position. The original column that a range token has in its
     /// map is computed only when it is asked for, so that lookups stay fast.
     #[inline]
-    pub(crate) fn answered(sm: &'a SourceMap, answer: RawToken, position: (u32, u32)) -> Token<'a> {
+    pub(crate) fn of_answer(
+        sm: &'a SourceMap,
+        answer: RawToken,
+        position: (u32, u32),
+    ) -> Token<'a> {
         let column = match position {
             (line, column) if line == answer.dst_line => column,
             _ => answer.dst_col,
@@ -85,7 +89,7 @@ impl<'a> Token<'a> {
 
     /// For a range token the position that was looked up, if it is on the token's
     /// line; else the token's own generated position.
-    pub(crate) fn looked_up(&self) -> (u32, u32) {
+    pub(crate) fn lookup_position(&self) -> (u32, u32) {
         if self.answer.is_range {
             (self.answer.dst_line, self.column)
         } else {
@@ -95,7 +99,7 @@ impl<'a> Token<'a> {
 
     /// The original column of the token in its map.
     fn listed_src_col(&self) -> u32 {
-        let position = self.looked_up();
+        let position = self.lookup_position();
         match (position.1 - self.answer.dst_col, self.answer.src_col) {
             (0, column) => column,
             // The sum may have stopped at the last column, so the map is asked.
@@ -241,7 +245,7 @@ impl Ord for Token<'_> {
 
 impl fmt::Display for Token<'_> {
     fn fmt(&self, f: &mut fmt::Formatter<'_>) -> fmt::Result {
-        f.write_str(&self.sm.token_text(self.answer, self.looked_up()))?;
+        f.write_str(&self.sm.token_text(self.answer, self.lookup_position()))?;
         if f.alternate() {
             let range = if self.is_range() { " (range)" } else { "" };
             write!(

@@ -2,7 +2,7 @@ use std::sync::Arc;
 
 use sourcemap::{RawToken, SourceMap, SourceMapBuilder};
 
-use crate::{bare_token, raw_tokens, regular, token, written, COOLSTUFF};
+use crate::{bare_token, raw_tokens, regular, token, written_map, COOLSTUFF};
 
 #[test]
 fn equal_texts_have_one_id() {
@@ -165,7 +165,7 @@ fn tokens_of_another_map_come_with_or_without_names() {
     for token in map.tokens() {
         builder.add_token(&token, true);
     }
-    assert_eq!(written(&builder.into_sourcemap()), written(&map));
+    assert_eq!(written_map(&builder.into_sourcemap()), written_map(&map));
     let mut builder = SourceMapBuilder::new(None);
     let raw = builder.add_token(&map.get_token(1).expect("a token"), false);
     assert_eq!(raw, token((0, 3), (0, 4)));

@@ -9,7 +9,7 @@ use sourcemap::ram_bundle::{
 };
 use sourcemap::{Error, RangeError, SourceMapIndex};
 
-use crate::written;
+use crate::written_map;
 
 /// Startup code `ab`, and module 0 `xyz`.
 const BUNDLE: &[u8; 26] = b"\xe5\xd1\x0b\xfb\x01\0\0\0\x02\0\0\0\x02\0\0\0\x04\0\0\0abxyz\0";
@@ -122,7 +122,7 @@ fn a_bundle_is_split_into_modules_with_maps() {
     let (name, view, map) = items.next().expect("an item").expect("a module");
     assert_eq!((name.as_str(), view.source()), ("0.js", "xyz"));
     assert_eq!(
-        written(&map),
+        written_map(&map),
         r#"{"file":"0.js","mappings":"AAAA,EAAE","names":[],"sources":["a.js"],"version":3}"#
     );
     assert!(items.next().is_none());

@@ -8,7 +8,7 @@ fn of_tokens(tokens: &[RawToken]) -> SourceMap {
     SourceMap::new(None, tokens.to_vec(), vec![], vec!["a.js".into()], None)
 }
 
-fn composed(originals: &[RawToken], adjustments: &[RawToken]) -> Vec<RawToken> {
+fn compose(originals: &[RawToken], adjustments: &[RawToken]) -> Vec<RawToken> {
     let mut map = of_tokens(originals);
     map.adjust_mappings(&of_tokens(adjustments));
     raw_tokens(&map)
@@ -19,7 +19,7 @@ fn originals_move_with_the_stretch_that_covers_them() {
     let originals = [token((8, 28), (102, 35)), token((8, 40), (102, 50))];
     let adjustments = [token((17, 23), (8, 30))];
     let expected = [token((17, 23), (102, 35)), token((17, 33), (102, 50))];
-    assert_eq!(composed(&originals, &adjustments), expected);
+    assert_eq!(compose(&originals, &adjustments), expected);
 }
 
 #[test]
@@ -27,11 +27,11 @@ fn of_two_adjustments_of_one_position_the_later_has_the_stretch() {
     let adjustments = [token((3, 0), (0, 5)), token((4, 0), (0, 5))];
     let before = [token((0, 0), (9, 0))];
     assert_eq!(
-        composed(&before, &adjustments),
+        compose(&before, &adjustments),
         [token((3, 0), (9, 0)), token((4, 0), (9, 0))]
     );
     let there = [token((0, 5), (9, 0))];
-    assert_eq!(composed(&there, &adjustments), [token((4, 0), (9, 0))]);
+    assert_eq!(compose(&there, &adjustments), [token((4, 0), (9, 0))]);
 }
 
 #[test]
@@ -43,7 +43,7 @@ fn a_token_past_the_last_column_is_refused() {
     let result = map.try_adjust_mappings(&adjustment);
     assert!(matches!(result, Err(Error::IncompatibleSourceMap)));
     assert_eq!(map, before);
-    let alone = composed(&[token((0, 0), (1, 0))], &[last]);
+    let alone = compose(&[token((0, 0), (1, 0))], &[last]);
     assert_eq!(alone, [token((0, u32::MAX), (1, 0))]);
 }
 

@@ -2,7 +2,7 @@ use std::collections::HashSet;
 
 use sourcemap::{decode_slice, DebugId, DecodedMap, RewriteOptions, SourceMap};
 
-use crate::{regular, written, written_any};
+use crate::{regular, written_any, written_map};
 
 const PLAIN: &str = "0123456789abcdef0123456789abcdef";
 const HYPHENATED: &str = "01234567-89ab-cdef-0123-456789abcdef";
@@ -71,7 +71,7 @@ fn of_both_keys_the_one_in_camel_case_is_taken() {
     assert_eq!(map.get_debug_id(), Some(DebugId::nil()));
     let map = of_keys(&format!(r#""debug_id":"{ones}""#));
     assert_eq!(map.get_debug_id(), Some(id(ones)));
-    let text = written(&map);
+    let text = written_map(&map);
     assert!(text.contains(&format!(r#""debugId":"{ones}""#)) && !text.contains("debug_id"));
 }
 

@@ -5,7 +5,7 @@ use sourcemap::{
     JsonError, SourceMap, SourceMapHermes, SourceMapIndex,
 };
 
-use crate::{bare_token, raw_tokens, regular, written, written_any, COOLSTUFF};
+use crate::{bare_token, raw_tokens, regular, written_any, written_map, COOLSTUFF};
 
 /// The error of a map with these mappings and no more.
 fn error_of(mappings: &str, sources: &str, ranges: &str) -> Error {
@@ -161,7 +161,7 @@ fn data_urls() {
 #[test]
 fn a_map_is_written_as_it_was_read() {
     let expected = r#"{"mappings":"AAAA,GAAIA,GAAI,EACR,IAAIA,GAAK,EAAG,CACVC,MAAM","names":["x","alert"],"sources":["coolstuff.js"],"version":3}"#;
-    assert_eq!(written(&regular(COOLSTUFF)), expected);
+    assert_eq!(written_map(&regular(COOLSTUFF)), expected);
 }
 
 #[test]
@@ -174,12 +174,12 @@ fn sources_are_written_without_the_root() {
         (map.get_file(), map.source_contents().count()),
         (Some("foo.js"), 2)
     );
-    let text = written(&map);
+    let text = written_map(&map);
     assert!(
         text.contains(r#""sources":["./bar.js","./baz.js"]"#),
         "{text}"
     );
-    assert_eq!(written(&regular(&text)), text);
+    assert_eq!(written_map(&regular(&text)), text);
 }
 
 #[test]
@@ -217,5 +217,5 @@ fn the_ignore_list_is_in_order() {
     map.add_to_ignore_list(1);
     map.add_to_ignore_list(1);
     assert_eq!(map.ignore_list().copied().collect::<Vec<_>>(), [0, 1, 2]);
-    assert!(written(&map).contains(r#""ignoreList":[0,1,2]"#));
+    assert!(written_map(&map).contains(r#""ignoreList":[0,1,2]"#));
 }

@@ -15,7 +15,7 @@ const INDEX: &str = r#"{"version":3,"file":"all.js","sections":[{"offset":{"line
 
 const HERMES: &str = r#"{"version":3,"sources":["a.js"],"names":[],"mappings":"AAAA,KACK","x_facebook_sources":[[{"names":["<global>","foo"],"mappings":"AAA,KCC"}]]}"#;
 
-fn decoded(json: &str) -> DecodedMap {
+fn decode_json(json: &str) -> DecodedMap {
     decode_slice(json.as_bytes()).expect(json)
 }
 
@@ -28,11 +28,11 @@ fn with_change(json: &str, from: &str, to: &str) -> String {
 #[test]
 fn a_map_that_is_read_twice_is_equal() {
     for json in [FULL, INDEX, HERMES] {
-        let map = decoded(json);
+        let map = decode_json(json);
         let junk = [")]}'\n", json].concat();
         assert_eq!(map, map, "the same object");
-        assert_eq!(map, decoded(json));
-        assert_eq!(map, decoded(&junk));
+        assert_eq!(map, decode_json(json));
+        assert_eq!(map, decode_json(&junk));
         assert_eq!(map, map.clone());
         assert_eq!(map.clone(), map.clone());
     }
@@ -83,7 +83,7 @@ const PARTS: &[(&str, &str, &str)] = &[
 #[test]
 fn one_other_part_makes_a_map_unequal() {
     for (json, from, to) in PARTS {
-        let (map, other) = (decoded(json), decoded(&with_change(json, from, to)));
+        let (map, other) = (decode_json(json), decode_json(&with_change(json, from, to)));
         assert_ne!(map, other, "{from} and {to}");
         assert_ne!(other, map, "{to} and {from}");
     }
@@ -97,24 +97,24 @@ fn the_order_of_lists_counts() {
     assert_ne!(map, other);
     assert_ne!(of_mappings("AAAA,AACA", ""), of_mappings("AACA,AADA", ""));
     // Ignored sources have none.
-    let ignoring = |list: &str| {
+    let with_ignore_list = |list: &str| {
         regular(&format!(
             r#"{{"sources":["a","b"],"mappings":"","ignoreList":[{list}]}}"#
         ))
     };
-    assert_eq!(ignoring("1,0,1"), ignoring("0,1"));
+    assert_eq!(with_ignore_list("1,0,1"), with_ignore_list("0,1"));
 }
 
 #[test]
 fn maps_of_other_kinds_are_unequal() {
-    let maps = [FULL, INDEX, HERMES].map(decoded);
+    let maps = [FULL, INDEX, HERMES].map(decode_json);
     for (at, map) in maps.iter().enumerate() {
         for (other_at, other) in maps.iter().enumerate() {
             assert_eq!(map == other, at == other_at);
         }
     }
-    let without_scopes = decoded(&with_change(HERMES, "x_facebook_sources", "unknown"));
-    assert_ne!(decoded(HERMES), without_scopes);
+    let without_scopes = decode_json(&with_change(HERMES, "x_facebook_sources", "unknown"));
+    assert_ne!(decode_json(HERMES), without_scopes);
 }
 
 #[test]

@@ -3,7 +3,7 @@ use sourcemap::{
     SourceView,
 };
 
-use crate::{raw_tokens, regular, written, written_any};
+use crate::{raw_tokens, regular, written_any, written_map};
 
 const HERMES: &str = r#"{"version":3,"sources":["a.js"],"names":[],"mappings":"AAAA,KACK",
     "x_facebook_sources":[[{"names":["<global>","foo"],"mappings":"AAA,KCC"}]]}"#;
@@ -84,12 +84,12 @@ fn a_hermes_map_has_the_calls_of_a_map() {
 #[test]
 fn the_map_in_a_hermes_map_is_regular() {
     let mut hermes = hermes(HERMES);
-    let expected = written(&regular(&HERMES.replace("x_facebook_sources", "unknown")));
-    assert_eq!(written(&hermes), expected);
+    let expected = written_map(&regular(&HERMES.replace("x_facebook_sources", "unknown")));
+    assert_eq!(written_map(&hermes), expected);
     let url = hermes.to_data_url().expect("a URL");
     assert!(matches!(decode_data_url(&url), Ok(DecodedMap::Regular(_))));
     let mut copy: SourceMap = (*hermes).clone();
-    assert_eq!(written(&copy), expected);
+    assert_eq!(written_map(&copy), expected);
     assert_eq!(copy, *hermes);
     copy.adjust_mappings(&hermes);
     assert!(matches!(
@@ -98,7 +98,7 @@ fn the_map_in_a_hermes_map_is_regular() {
     ));
     // What is written is the map as it is now, not as it was copied before.
     hermes.set_source(0, "b.js");
-    assert_eq!(written(&hermes), expected.replace("a.js", "b.js"));
+    assert_eq!(written_map(&hermes), expected.replace("a.js", "b.js"));
     assert_eq!(hermes.get_original_function_name(7), Some("foo"));
 }
 
@@ -113,7 +113,7 @@ fn the_map_in_a_hermes_map_has_all_of_its_parts() {
     let copy: SourceMap = (*hermes).clone();
     assert_eq!(copy.names().collect::<Vec<_>>(), ["n", "n"]);
     assert_eq!(raw_tokens(&copy), raw_tokens(&hermes));
-    assert_eq!(written(&copy), written(&expected));
+    assert_eq!(written_map(&copy), written_map(&expected));
     assert_eq!(copy, expected);
     assert_eq!(*hermes, expected);
 }

@@ -2,7 +2,7 @@ use sourcemap::{
     decode_slice, DecodedMap, Error, RewriteOptions, SourceMapIndex, SourceMapSection, SourceView,
 };
 
-use crate::{of_mappings, regular, written, written_any};
+use crate::{of_mappings, regular, written_any, written_map};
 
 /// The map of one source with one token.
 fn of_source(source: &str) -> String {
@@ -13,7 +13,7 @@ fn section_json(line: u32, column: u32, rest: &str) -> String {
     format!(r#"{{"offset":{{"line":{line},"column":{column}}},{rest}}}"#)
 }
 
-fn decoded(sections: &[String]) -> SourceMapIndex {
+fn index_of(sections: &[String]) -> SourceMapIndex {
     let json = format!(r#"{{"version":3,"sections":[{}]}}"#, sections.join(","));
     SourceMapIndex::from_slice(json.as_bytes()).expect("an index map")
 }
@@ -23,7 +23,7 @@ fn two_sections() -> SourceMapIndex {
     let section = |line, column, source| {
         section_json(line, column, &format!(r#""map":{}"#, of_source(source)))
     };
-    decoded(&[section(0, 0, "a.js"), section(10, 4, "b.js")])
+    index_of(&[section(0, 0, "a.js"), section(10, 4, "b.js")])
 }
 
 fn decoded_map(json: &str) -> DecodedMap {
@@ -33,7 +33,7 @@ fn decoded_map(json: &str) -> DecodedMap {
 /// Sections at these offsets, without maps.
 fn bare(offsets: &[(u32, u32)]) -> SourceMapIndex {
     let section = |&(line, column): &(u32, u32)| section_json(line, column, r#""url":null"#);
-    decoded(&offsets.iter().map(section).collect::<Vec<_>>())
+    index_of(&offsets.iter().map(section).collect::<Vec<_>>())
 }
 
 #[test]
@@ -58,14 +58,14 @@ fn the_section_that_begins_last_answers() {
             "at {line}:{col} of the flat map"
         );
     }
-    assert!(written(&flat).contains(r#""mappings":"AAAA;;;;;;;;;;ICAA""#));
+    assert!(written_map(&flat).contains(r#""mappings":"AAAA;;;;;;;;;;ICAA""#));
 }
 
 #[test]
 fn before_the_first_section_and_in_one_without_a_map_there_is_no_token() {
     let url = section_json(5, 0, r#""url":"u""#);
     let map = section_json(2, 7, &format!(r#""map":{}"#, of_source("a.js")));
-    let index = decoded(&[map, url]);
+    let index = index_of(&[map, url]);
     assert!(index.lookup_token(2, 6).is_none());
     assert!(index.lookup_token(2, 7).is_some());
     assert!(index.lookup_token(5, 0).is_none());
@@ -74,7 +74,7 @@ fn before_the_first_section_and_in_one_without_a_map_there_is_no_token() {
 #[test]
 fn sections_as_they_were_read() {
     let map = format!(r#""map":{}"#, of_source("a.js"));
-    let index = decoded(&[
+    let index = index_of(&[
         section_json(3, 4, r#""url":"u","map":null"#),
         section_json(1, 2, &map),
     ]);
@@ -115,7 +115,7 @@ fn what_can_not_be_flattened() {
         ),
     ];
     for (section, expected) in rows {
-        let error = decoded(&[section]).flatten().expect_err(expected);
+        let error = index_of(&[section]).flatten().expect_err(expected);
         let printed = format!("cannot flatten the indexed sourcemap: {expected}");
         assert_eq!(error.to_string(), printed);
         assert!(matches!(error, Error::CannotFlatten(reason) if reason == expected));
@@ -125,7 +125,7 @@ fn what_can_not_be_flattened() {
 #[test]
 fn a_written_index_map_is_read_as_the_same() {
     let map = format!(r#""url":"u \"q\"","map":{}"#, of_source("a.js"));
-    let index = decoded(&[section_json(0, 0, &map), section_json(1, 2, r#""url":"v""#)]);
+    let index = index_of(&[section_json(0, 0, &map), section_json(1, 2, r#""url":"v""#)]);
     let text = written_any(&DecodedMap::Index(index.clone()));
     assert_eq!(
         decode_slice(text.as_bytes()).expect("a map"),
@@ -146,7 +146,7 @@ fn nested_index_maps_and_hermes_maps_answer() {
     );
     let hermes = r#""map":{"version":3,"sources":["h.js"],"names":[],"mappings":"AAAA",
         "x_facebook_sources":[null]}"#;
-    let index = decoded(&[section_json(1, 0, &inner), section_json(7, 0, hermes)]);
+    let index = index_of(&[section_json(1, 0, &inner), section_json(7, 0, hermes)]);
     let flat = index.flatten().expect("a map");
     for ((line, col), expected) in [((3, 3), "in.js:0:0"), ((7, 0), "h.js:0:0")] {
         assert_eq!(
@@ -169,14 +169,14 @@ fn nested_index_maps_and_hermes_maps_answer() {
 #[test]
 fn a_flat_map_is_rewritten() {
     let map = format!(r#""map":{}"#, of_source("a.js"));
-    let mut index = decoded(&[section_json(0, 0, &map), section_json(5, 0, &map)]);
+    let mut index = index_of(&[section_json(0, 0, &map), section_json(5, 0, &map)]);
     index.set_file(Some("f.js"));
     let map = index
         .flatten_and_rewrite(&RewriteOptions::default())
         .expect("a map");
     let expected =
         r#"{"file":"f.js","mappings":"AAAA;;;;;AAAA","names":[],"sources":["a.js"],"version":3}"#;
-    assert_eq!(written(&map), expected);
+    assert_eq!(written_map(&map), expected);
 }
 
 #[test]
@@ -249,7 +249,7 @@ fn a_moved_index_map_answers_further_down() {
 fn the_lists_of_a_ram_bundle() {
     let lists = r#""x_facebook_offsets":[0,null,7],"x_metro_module_paths":["a.js","b\u00e9.js"]"#;
     let json = format!(r#"{{"version":3,"sections":[],{lists}}}"#);
-    let nested = decoded(&[section_json(0, 0, &format!(r#""map":{json}"#))]);
+    let nested = index_of(&[section_json(0, 0, &format!(r#""map":{json}"#))]);
     let inner = nested.get_section(0).expect("a section").get_sourcemap();
     for index in [inner, Some(&decoded_map(&json))] {
         let Some(DecodedMap::Index(index)) = index else {
@@ -295,7 +295,7 @@ fn function_names_of_an_index_map() {
     let map = r#"{"version":3,"sources":["a.js"],"names":["original","function"],
         "mappings":"AAAAC,SAAAD"}"#;
     let view = SourceView::from_string("function f(){}".into());
-    let index = decoded(&[section_json(0, 0, &format!(r#""map":{map}"#))]);
+    let index = index_of(&[section_json(0, 0, &format!(r#""map":{map}"#))]);
     let name = regular(map)
         .get_original_function_name(0, 9, "f", &view)
         .map(str::to_owned);
@@ -334,7 +334,7 @@ fn an_index_that_is_made_is_that_of_its_text() {
     let token = made.lookup_token(10, 9).expect("a token");
     assert_eq!(token.to_string(), "b.js:0:0");
     let flat = made.flatten().expect("a regular map");
-    assert!(written(&flat).contains(r#""mappings":"AAAA;;;;;;;;;;ICAA""#));
+    assert!(written_map(&flat).contains(r#""mappings":"AAAA;;;;;;;;;;ICAA""#));
     assert_eq!(SourceMapIndex::new(None, vec![]).get_section_count(), 0);
 }
 

@@ -85,13 +85,13 @@ fn a_later_range_token_at_one_position_prints_itself() {
     let map = of_mappings("CAAA,AACA", "C");
     let listed: Vec<_> = map.tokens().map(|token| format!("{token:#}")).collect();
     assert_eq!(listed, ["a.js:0:0 (0:1)", "a.js:1:0 (0:1) (range)"]);
-    let printed = |line, col| {
+    let text_at = |line, col| {
         let token = map.lookup_token(line, col).expect("a token");
         token.to_string()
     };
-    assert_eq!(printed(0, 1), "a.js:0:0");
-    assert_eq!(printed(0, 4), "a.js:1:3");
-    assert_eq!(printed(1, 4), "a.js:1:0");
+    assert_eq!(text_at(0, 1), "a.js:0:0");
+    assert_eq!(text_at(0, 4), "a.js:1:3");
+    assert_eq!(text_at(1, 4), "a.js:1:0");
 }
 
 #[test]

@@ -41,7 +41,7 @@ fn of_mappings(mappings: &str, ranges: &str) -> SourceMap {
     ))
 }
 
-fn written(map: &SourceMap) -> String {
+fn written_map(map: &SourceMap) -> String {
     let mut text = Vec::new();
     map.to_writer(&mut text).expect("a Vec takes all");
     String::from_utf8(text).expect("JSON is UTF-8")

@@ -1,4 +1,4 @@
-use crate::{bare_token, of_mappings, raw_tokens, regular, token, written};
+use crate::{bare_token, of_mappings, raw_tokens, regular, token, written_map};
 use sourcemap::{RawToken, SourceMap, SourceMapBuilder};
 
 fn range(token: RawToken) -> RawToken {
@@ -14,7 +14,7 @@ fn of_tokens(tokens: Vec<RawToken>) -> SourceMap {
 }
 
 fn has(map: &SourceMap, key: &str, text: &str) -> bool {
-    written(map).contains(&format!(r#""{key}":"{text}""#))
+    written_map(map).contains(&format!(r#""{key}":"{text}""#))
 }
 
 #[test]
@@ -70,7 +70,7 @@ fn the_bits_of_a_line_are_those_of_its_segments() {
             .filter(|&index| map.get_token(index).expect("a token").is_range())
             .collect();
         assert_eq!(ranges, expected, "of {text}");
-        assert!(has(&map, "rangeMappings", text), "{}", written(&map));
+        assert!(has(&map, "rangeMappings", text), "{}", written_map(&map));
     }
 }
 
@@ -81,7 +81,7 @@ fn written_ranges_are_those_of_the_segments_that_are_written() {
     let same = token((0, 0), (0, 0));
     let doubled = of_tokens(vec![same, same, range(token((0, 5), (0, 5)))]);
     assert!(has(&doubled, "mappings", "AAAA,KAAK") && has(&doubled, "rangeMappings", "C"));
-    let again = regular(&written(&doubled));
+    let again = regular(&written_map(&doubled));
     for col in 0..9 {
         assert_eq!(again.lookup_token(0, col), doubled.lookup_token(0, col));
     }

@@ -93,17 +93,17 @@ fn references_are_resolved_against_urls() {
 
 #[test]
 fn references_are_resolved_against_paths() {
-    let resolved = |url: &str, path: &str| reference(url).resolve_path(Path::new(path));
+    let resolve = |url: &str, path: &str| reference(url).resolve_path(Path::new(path));
     assert_eq!(
-        resolved("../m/a.js.map", "/x/y/a.js"),
+        resolve("../m/a.js.map", "/x/y/a.js"),
         Some(PathBuf::from("/x/m/a.js.map"))
     );
     assert_eq!(
-        resolved("a%20b.map", "/x/a.js"),
+        resolve("a%20b.map", "/x/a.js"),
         Some(PathBuf::from("/x/a b.map"))
     );
-    assert_eq!(resolved("a.map", "x/a.js"), None);
-    assert_eq!(resolved("http://example.com/a.map", "/x/a.js"), None);
+    assert_eq!(resolve("a.map", "x/a.js"), None);
+    assert_eq!(resolve("http://example.com/a.map", "/x/a.js"), None);
 }
 
 #[test]

@@ -5,7 +5,7 @@ use std::process;
 
 use sourcemap::{RewriteOptions, SourceMap, SourceMapBuilder};
 
-use crate::{regular, written, COOLSTUFF};
+use crate::{regular, written_map, COOLSTUFF};
 
 /// A map with a token of each source.
 fn of_sources(sources: &[&str]) -> SourceMap {
@@ -16,16 +16,16 @@ fn of_sources(sources: &[&str]) -> SourceMap {
     builder.into_sourcemap()
 }
 
-fn rewritten(map: SourceMap, options: &RewriteOptions<'_>) -> SourceMap {
+fn rewrite(map: SourceMap, options: &RewriteOptions<'_>) -> SourceMap {
     map.rewrite(options).expect("a map")
 }
 
-fn stripped(sources: &[&str], prefixes: &[&str]) -> Vec<String> {
+fn strip(sources: &[&str], prefixes: &[&str]) -> Vec<String> {
     let options = RewriteOptions {
         strip_prefixes: prefixes,
         ..Default::default()
     };
-    rewritten(of_sources(sources), &options)
+    rewrite(of_sources(sources), &options)
         .sources()
         .map(str::to_owned)
         .collect()
@@ -35,11 +35,11 @@ fn stripped(sources: &[&str], prefixes: &[&str]) -> Vec<String> {
 fn only_what_tokens_use_is_kept() {
     let json = r#"{"version":3,"file":"f","sourceRoot":"r","sources":["unused","b"],
         "sourcesContent":["0","1"],"names":["unused","n"],"mappings":"ACAAC","ignoreList":[1]}"#;
-    let map = rewritten(regular(json), &RewriteOptions::default());
+    let map = rewrite(regular(json), &RewriteOptions::default());
     let expected = r#"{"file":"f","mappings":"AAAAA","names":["n"],"sources":["r/b"],"sourcesContent":["1"],"version":3}"#;
-    assert_eq!(written(&map), expected);
+    assert_eq!(written_map(&map), expected);
     assert_eq!(
-        written(&rewritten(map.clone(), &RewriteOptions::default())),
+        written_map(&rewrite(map.clone(), &RewriteOptions::default())),
         expected
     );
 }
@@ -47,8 +47,8 @@ fn only_what_tokens_use_is_kept() {
 #[test]
 fn a_map_that_has_nothing_else_is_rewritten_as_it_is() {
     let expected = r#"{"mappings":"AAAA,GAAIA,GAAI,EACR,IAAIA,GAAK,EAAG,CACVC,MAAM","names":["x","alert"],"sources":["coolstuff.js"],"version":3}"#;
-    let map = rewritten(regular(COOLSTUFF), &RewriteOptions::default());
-    assert_eq!(written(&map), expected);
+    let map = rewrite(regular(COOLSTUFF), &RewriteOptions::default());
+    assert_eq!(written_map(&map), expected);
 }
 
 #[test]
@@ -60,12 +60,12 @@ fn names_and_contents_are_removed_if_asked() {
         with_source_contents: false,
         ..Default::default()
     };
-    let without = rewritten(map.clone(), &options);
+    let without = rewrite(map.clone(), &options);
     assert_eq!(
         (without.has_names(), without.get_source_contents(0)),
         (false, None)
     );
-    let with = rewritten(map, &RewriteOptions::default());
+    let with = rewrite(map, &RewriteOptions::default());
     assert_eq!(
         (with.has_names(), with.get_source_contents(0)),
         (true, Some("let x;"))
@@ -74,11 +74,11 @@ fn names_and_contents_are_removed_if_asked() {
 
 #[test]
 fn the_first_prefix_that_matches_is_stripped() {
-    assert_eq!(stripped(&["/a/b/c.js"], &["/a", "/a/b"]), ["b/c.js"]);
-    assert_eq!(stripped(&["/a/b/c.js"], &["/a/b", "/a"]), ["c.js"]);
-    assert_eq!(stripped(&["/a/b/c.js"], &["/a/b/"]), ["c.js"]);
+    assert_eq!(strip(&["/a/b/c.js"], &["/a", "/a/b"]), ["b/c.js"]);
+    assert_eq!(strip(&["/a/b/c.js"], &["/a/b", "/a"]), ["c.js"]);
+    assert_eq!(strip(&["/a/b/c.js"], &["/a/b/"]), ["c.js"]);
     assert_eq!(
-        stripped(&["/a/b/c.js", "/ab/c.js"], &["/a"]),
+        strip(&["/a/b/c.js", "/ab/c.js"], &["/a"]),
         ["b/c.js", "/ab/c.js"]
     );
 }
@@ -86,7 +86,7 @@ fn the_first_prefix_that_matches_is_stripped() {
 #[test]
 fn the_common_prefix_of_absolute_sources() {
     let both = ["/foo/bar/baz", "/foo/bar/baz/blah"];
-    let of_both = |others: &[&str]| stripped(&[&both, others].concat(), &["~"]);
+    let of_both = |others: &[&str]| strip(&[&both, others].concat(), &["~"]);
     assert_eq!(of_both(&[]), ["/foo/bar/baz", "blah"]);
     assert_eq!(of_both(&["foo"]), ["/foo/bar/baz", "blah", "foo"]);
     assert_eq!(of_both(&["/foo"]), ["bar/baz", "bar/baz/blah", "/foo"]);
@@ -103,18 +103,18 @@ fn the_common_prefix_of_absolute_sources() {
 #[test]
 fn the_common_prefix_of_sources_on_a_drive() {
     assert_eq!(
-        stripped(&["C:/foo/a.js", "C:/foo/sub/b.js", "c.js"], &["~"]),
+        strip(&["C:/foo/a.js", "C:/foo/sub/b.js", "c.js"], &["~"]),
         ["a.js", "sub/b.js", "c.js"]
     );
     // The folders `C:\foo` are the prefix, which a slash completes.
     assert_eq!(
-        stripped(&["C:\\foo/a.js", "C:\\foo/b.js"], &["~"]),
+        strip(&["C:\\foo/a.js", "C:\\foo/b.js"], &["~"]),
         ["a.js", "b.js"]
     );
     let both = ["C:\\foo\\a.js", "C:\\foo\\b.js"];
-    assert_eq!(stripped(&both, &["~"]), both);
+    assert_eq!(strip(&both, &["~"]), both);
     let drives = ["C:/foo/a.js", "D:/foo/b.js"];
-    assert_eq!(stripped(&drives, &["~"]), drives);
+    assert_eq!(strip(&drives, &["~"]), drives);
 }
 
 /// A folder of files, which is removed when it is dropped.
@@ -210,7 +210,7 @@ fn a_rewritten_map_loads_contents_from_files() {
         strip_prefixes: &["sub"],
         ..Default::default()
     };
-    let kept = rewritten(map.clone(), &loading);
+    let kept = rewrite(map.clone(), &loading);
     assert_eq!(
         kept.sources().collect::<Vec<_>>(),
         ["a.js", "b%20c.js", "missing.js"]
@@ -223,7 +223,7 @@ fn a_rewritten_map_loads_contents_from_files() {
         with_source_contents: false,
         ..loading
     };
-    let loaded = rewritten(map, &removing);
+    let loaded = rewrite(map, &removing);
     let contents: Vec<_> = loaded.source_contents().collect();
     assert_eq!(contents, [Some("file a"), Some("file b"), None]);
 }

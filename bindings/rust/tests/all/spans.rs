@@ -52,7 +52,7 @@ fn fresh_answers(map: &SourceMap) -> Vec<(Position, Answer)> {
         .collect()
 }
 
-fn printed(map: &SourceMap, (line, column): Position) -> Option<String> {
+fn text_at(map: &SourceMap, (line, column): Position) -> Option<String> {
     Some(map.lookup_token(line, column)?.to_string())
 }
 
@@ -88,7 +88,7 @@ fn positions_in_before_and_after_a_span() {
     ];
     for (position, expected) in rows {
         assert_eq!(
-            printed(&map, position).as_deref(),
+            text_at(&map, position).as_deref(),
             expected,
             "at {position:?}"
         );
@@ -136,42 +136,40 @@ fn a_token_is_the_one_of_the_list() {
 /// A change of a map that was asked before.
 type Change = fn(SourceMap) -> SourceMap;
 
-fn changed(mut map: SourceMap, change: impl FnOnce(&mut SourceMap)) -> SourceMap {
+fn apply(mut map: SourceMap, change: impl FnOnce(&mut SourceMap)) -> SourceMap {
     change(&mut map);
     map
 }
 
 /// The map of the same text, moved one line and two columns.
-fn moved() -> SourceMap {
+fn adjustment() -> SourceMap {
     let moves = vec![token((1, 2), (0, 0)), token((2, 0), (1, 0))];
     SourceMap::new(None, moves, vec![], vec!["out.js".into()], None)
 }
 
 const CHANGES: [(&str, Change); 14] = [
     ("set_source", |map| {
-        changed(map, |map| map.set_source(1, "c.js"))
+        apply(map, |map| map.set_source(1, "c.js"))
     }),
     ("set_source_contents", |map| {
-        changed(map, |map| map.set_source_contents(1, Some("c")))
+        apply(map, |map| map.set_source_contents(1, Some("c")))
     }),
     ("set_source_root", |map| {
-        changed(map, |map| map.set_source_root(Some("root")))
+        apply(map, |map| map.set_source_root(Some("root")))
     }),
-    ("set_file", |map| {
-        changed(map, |map| map.set_file(Some("f")))
-    }),
+    ("set_file", |map| apply(map, |map| map.set_file(Some("f")))),
     ("set_debug_id", |map| {
-        changed(map, |map| map.set_debug_id(Some([7; 16].into())))
+        apply(map, |map| map.set_debug_id(Some([7; 16].into())))
     }),
     ("add_to_ignore_list", |map| {
-        changed(map, |map| map.add_to_ignore_list(1))
+        apply(map, |map| map.add_to_ignore_list(1))
     }),
-    ("remove_names", |map| changed(map, |map| map.remove_names())),
+    ("remove_names", |map| apply(map, |map| map.remove_names())),
     ("adjust_mappings", |map| {
-        changed(map, |map| map.adjust_mappings(&moved()))
+        apply(map, |map| map.adjust_mappings(&adjustment()))
     }),
     ("an adjustment that is refused", |map| {
-        changed(map, |map| {
+        apply(map, |map| {
             let last = vec![token((0, u32::MAX), (0, 0))];
             let last = SourceMap::new(None, last, vec![], vec!["out.js".into()], None);
             map.try_adjust_mappings(&last)
@@ -190,12 +188,12 @@ const CHANGES: [(&str, Change); 14] = [
         map.rewrite(&options).expect("a map")
     }),
     ("an assignment", |map| {
-        changed(map, |map| *map = of_mappings("AAAA,IACA;;EACA", ""))
+        apply(map, |map| *map = of_mappings("AAAA,IACA;;EACA", ""))
     }),
     ("a swap", |map| {
         let mut other = of_mappings("AAAA,IACA;;EACA", "");
         other.lookup_token(0, 3);
-        changed(map, |map| mem::swap(map, &mut other))
+        apply(map, |map| mem::swap(map, &mut other))
     }),
     ("an assignment in a Hermes map", |map| {
         let json = br#"{"sources":["h.js"],"mappings":"AAAA,GACA","x_facebook_sources":[null]}"#;
@@ -228,19 +226,19 @@ fn a_change_is_seen_at_each_position() {
 #[test]
 fn what_changes_say() {
     let mut map = map();
-    assert_eq!(printed(&map, (0, 3)).as_deref(), Some("a.js:0:7 name=n"));
+    assert_eq!(text_at(&map, (0, 3)).as_deref(), Some("a.js:0:7 name=n"));
     map.set_source(1, "c.js");
-    assert_eq!(printed(&map, (0, 3)).as_deref(), Some("c.js:0:7 name=n"));
+    assert_eq!(text_at(&map, (0, 3)).as_deref(), Some("c.js:0:7 name=n"));
     map.set_source_root(Some("root"));
     assert_eq!(
-        printed(&map, (0, 3)).as_deref(),
+        text_at(&map, (0, 3)).as_deref(),
         Some("root/c.js:0:7 name=n")
     );
     map.remove_names();
-    assert_eq!(printed(&map, (0, 3)).as_deref(), Some("root/c.js:0:7"));
-    map.adjust_mappings(&moved());
-    assert_eq!(printed(&map, (0, 3)), None);
-    assert_eq!(printed(&map, (1, 5)).as_deref(), Some("root/c.js:0:7"));
+    assert_eq!(text_at(&map, (0, 3)).as_deref(), Some("root/c.js:0:7"));
+    map.adjust_mappings(&adjustment());
+    assert_eq!(text_at(&map, (0, 3)), None);
+    assert_eq!(text_at(&map, (1, 5)).as_deref(), Some("root/c.js:0:7"));
     let token = map.lookup_token(1, 5).expect("a token");
     assert_eq!(token.get_src_id(), 1);
     let map = map.rewrite(&RewriteOptions::default()).expect("a map");
@@ -255,10 +253,10 @@ fn a_clone_and_its_map_answer_for_themselves() {
     answer(&map, (0, 3));
     let mut clone = map.clone();
     answer(&clone, (0, 3));
-    clone.adjust_mappings(&moved());
-    assert_eq!(printed(&clone, (0, 3)), None);
-    assert_eq!(printed(&map, (0, 3)).as_deref(), Some("a.js:0:7 name=n"));
-    assert_eq!(printed(&clone, (1, 5)).as_deref(), Some("a.js:0:7 name=n"));
+    clone.adjust_mappings(&adjustment());
+    assert_eq!(text_at(&clone, (0, 3)), None);
+    assert_eq!(text_at(&map, (0, 3)).as_deref(), Some("a.js:0:7 name=n"));
+    assert_eq!(text_at(&clone, (1, 5)).as_deref(), Some("a.js:0:7 name=n"));
 }
 
 #[test]
@@ -266,11 +264,11 @@ fn a_hermes_map_answers_again() {
     let json = br#"{"sources":["h.js"],"mappings":"AAAA,GACA","x_facebook_sources":[null]}"#;
     let mut hermes = SourceMapHermes::from_slice(json).expect("a Hermes map");
     for _ in 0..2 {
-        assert_eq!(printed(&hermes, (0, 2)).as_deref(), Some("h.js:0:0"));
-        assert_eq!(printed(&hermes, (0, 4)).as_deref(), Some("h.js:1:0"));
+        assert_eq!(text_at(&hermes, (0, 2)).as_deref(), Some("h.js:0:0"));
+        assert_eq!(text_at(&hermes, (0, 4)).as_deref(), Some("h.js:1:0"));
     }
     hermes.set_source(0, "i.js");
-    assert_eq!(printed(&hermes, (0, 4)).as_deref(), Some("i.js:1:0"));
+    assert_eq!(text_at(&hermes, (0, 4)).as_deref(), Some("i.js:1:0"));
 }
 
 /// An index map of sections that begin on lines 1 and 3.
