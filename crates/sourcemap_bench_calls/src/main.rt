@@ -33,9 +33,9 @@ fn size_of<R: Files + Env + AllocGlobal>(
     bytes: &[u8],
 ) -> Result<usize> {
     match call {
-        Call::Walk => views::walked(alloc, bytes),
-        Call::View => views::viewed(alloc, bytes),
-        Call::Slices => views::sliced(alloc, bytes),
+        Call::Walk => views::walk_tokens(alloc, bytes),
+        Call::View => views::view_lines(alloc, bytes),
+        Call::Slices => views::slice_lines(alloc, bytes),
         Call::Locate => references::locate_in_slice(alloc, bytes),
         Call::LocateReader => references::locate_by_reader(alloc, bytes),
         Call::LocateView => references::locate_by_view(alloc, bytes),
@@ -49,7 +49,7 @@ fn size_of<R: Files + Env + AllocGlobal>(
         Call::Prefix => paths::prefix(alloc, bytes),
         Call::Vlq => segments::segment_size(alloc, bytes),
         Call::Identifier => segments::identifier_size(bytes),
-        Call::Intern => tables::interned(alloc, bytes),
+        Call::Intern => tables::intern_lines(alloc, bytes),
         Call::Bundle => tables::modules(bytes),
         Call::BundlePath => tables::modules_at(rt, alloc, bytes),
         Call::Scopes => scopes::name_size(alloc, bytes),

@@ -8,7 +8,7 @@ use std::rt::Files;
 use std::str;
 
 /// Interns each line and returns the number of different lines.
-pub fn interned(alloc: Global, bytes: &[u8]) -> Result<usize> {
+pub fn intern_lines(alloc: Global, bytes: &[u8]) -> Result<usize> {
     let mut interner = Interner::new(alloc);
     for line in str::from_utf8(bytes)?.lines() {
         interner.add(line)?;

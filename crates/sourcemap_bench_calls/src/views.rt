@@ -9,14 +9,14 @@ use std::str;
 /// identifiers. The map is on the first line of the input, and the generated text is after that
 /// line. Without a `\n`, both are empty. Returns `Utf8` if the input is not UTF-8. The other errors
 /// come from `SourceMap::from_slice` and `SourceView::new`.
-pub fn walked(alloc: Global, bytes: &[u8]) -> Result<usize> {
+pub fn walk_tokens(alloc: Global, bytes: &[u8]) -> Result<usize> {
     let (line, text) = str::from_utf8(bytes)?.split_once('\n').unwrap_or_default();
     let map = SourceMap::from_slice(alloc, line.as_bytes())?;
     let view = SourceView::new(alloc, text)?;
-    Ok(met(&map, &view))
+    Ok(walk_size(&map, &view))
 }
 
-fn met(map: &SourceMap, view: &SourceView) -> usize {
+fn walk_size(map: &SourceMap, view: &SourceView) -> usize {
     let mut size = 0usize;
     if let Some(last) = map.tokens().last() {
         for (_token, identifier) in view.rev_token_iter(last) {
@@ -27,7 +27,7 @@ fn met(map: &SourceMap, view: &SourceView) -> usize {
 }
 
 /// The number of lines of a text, plus the byte count of all lines.
-pub fn viewed(alloc: Global, bytes: &[u8]) -> Result<usize> {
+pub fn view_lines(alloc: Global, bytes: &[u8]) -> Result<usize> {
     let view = SourceView::new(alloc, str::from_utf8(bytes)?)?;
     let mut size = view.line_count();
     for line in view.lines() {
@@ -48,7 +48,7 @@ fn slice_size(view: &SourceView, line: u32) -> usize {
 
 /// The number of lines of a text, plus the byte count of one slice of each line. `slice_size`
 /// chooses the slice.
-pub fn sliced(alloc: Global, bytes: &[u8]) -> Result<usize> {
+pub fn slice_lines(alloc: Global, bytes: &[u8]) -> Result<usize> {
     let view = SourceView::new(alloc, str::from_utf8(bytes)?)?;
     let mut size = view.line_count();
     for line in 0..u32::try_from(view.line_count()).unwrap_or(u32::MAX) {

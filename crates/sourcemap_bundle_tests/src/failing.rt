@@ -1,6 +1,6 @@
 // File bundles in a file system that fails.
-use crate::answers::bundle_text;
 use crate::checks::check;
+use crate::texts::bundle_text;
 use sourcemap_bundles::ram_bundle::{RamBundle, is_unbundle_path};
 use sourcemap_errors::errors::{Error, Result};
 use sourcemap_test_support::files::{FakeFile, unsupported_error};

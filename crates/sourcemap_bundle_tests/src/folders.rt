@@ -1,6 +1,6 @@
 // File bundles in folders that the tests make and remove.
-use crate::answers::{error_text, parsed_text};
 use crate::checks::check;
+use crate::texts::{error_text, parsed_text};
 use sourcemap_bundles::ram_bundle::{RamBundle, is_unbundle_path};
 use sourcemap_errors::errors::Result;
 use std::alloc::Global;

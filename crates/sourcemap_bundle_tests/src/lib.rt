@@ -4,8 +4,6 @@
 #![tactic(auto)]
 
 #[cfg(test)]
-mod answers;
-#[cfg(test)]
 mod checks;
 #[cfg(test)]
 mod failing;
@@ -13,3 +11,5 @@ mod failing;
 mod folders;
 #[cfg(test)]
 mod indexed;
+#[cfg(test)]
+mod texts;

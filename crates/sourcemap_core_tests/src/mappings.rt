@@ -178,7 +178,7 @@ static WRITTEN: [(&str, &[Row], &str, Option<&str>); 8] = [
         Some(";B"),
     ),
     (
-        "a repeat is left out, and has no place among the bits",
+        "a repeat is left out, and has no bit",
         &[
             ((0, 0), (0, 0, 0), NO_ID, false),
             ((0, 0), (0, 0, 0), NO_ID, false),

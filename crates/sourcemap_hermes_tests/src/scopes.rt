@@ -30,7 +30,7 @@ fn scopes(alloc: Global, text: &str) -> Result<SourceScopes> {
     SourceScopes::new(alloc, lists)
 }
 
-fn selected(alloc: Global, text: &str, ids: &[u32]) -> Result<SourceScopes> {
+fn select_scopes(alloc: Global, text: &str, ids: &[u32]) -> Result<SourceScopes> {
     if ids.len() > 4294967295 {
         return Err(Error::IncompatibleSourceMap);
     }
@@ -172,7 +172,7 @@ fn write_scopes(alloc: Global, lists: ScopeLists) -> Result<String> {
 }
 
 fn selected_written(alloc: Global, text: &str, ids: &[u32]) -> Result<String> {
-    let selected = selected(alloc, text, ids)?;
+    let selected = select_scopes(alloc, text, ids)?;
     write_scopes(alloc, selected.into_entries())
 }
 
@@ -219,7 +219,7 @@ fn selected_scopes_are_written(rt: HostRuntime) {
 }
 
 fn name_when_selected(alloc: Global, text: &str, ids: &[u32], source: u32) -> Result<String> {
-    let selected = selected(alloc, text, ids)?;
+    let selected = select_scopes(alloc, text, ids)?;
     name_or_none(alloc, selected.scope(source, 0, 0))
 }
 

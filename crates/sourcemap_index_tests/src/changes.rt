@@ -1,8 +1,8 @@
 // Tests of index maps that are constructed, not decoded. The tests change `file` or one section,
 // read the lists of an index map for a RAM bundle, or write an index map and read it back.
-use crate::answers::lists_text;
 use crate::checks::check;
 use crate::decoding::sections_text;
+use crate::getters::lists_text;
 use crate::maps::{map_of, record_text};
 use sourcemap::decoder::decode_slice;
 use sourcemap::encoder::Encodable;

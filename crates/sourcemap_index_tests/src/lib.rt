@@ -4,8 +4,6 @@
 #![tactic(auto)]
 
 #[cfg(test)]
-mod answers;
-#[cfg(test)]
 mod changes;
 #[cfg(test)]
 mod checks;
@@ -13,6 +11,8 @@ mod checks;
 mod debug_ids;
 #[cfg(test)]
 mod decoding;
+#[cfg(test)]
+mod getters;
 #[cfg(test)]
 mod hermes;
 #[cfg(test)]
@@ -22,10 +22,10 @@ mod maps;
 #[cfg(test)]
 mod nested;
 #[cfg(test)]
+mod operations;
+#[cfg(test)]
 mod readers;
 #[cfg(test)]
 mod splitting;
-#[cfg(test)]
-mod whole;
 #[cfg(test)]
 mod writers;

@@ -1,12 +1,11 @@
 // Detection of source maps in slices and in readers. Each reader returns at most one byte per read.
 // Some readers are interrupted or fail.
 use crate::checks::check;
-use crate::headers::OneByOne;
 use sourcemap_errors::errors::{Error, Result};
 use sourcemap_json::detector::{is_sourcemap, is_sourcemap_slice};
-use sourcemap_test_support::readers::HaltingReader;
+use sourcemap_test_support::readers::{HaltingReader, NarrowReader};
 use std::alloc::Global;
-use std::io::{ErrorKind, Read};
+use std::io::ErrorKind;
 
 // A label, and a map.
 static MAPS: [(&str, &str); 11] = [
@@ -70,7 +69,12 @@ static OTHERS: [(&str, &str); 11] = [
 
 fn detect(alloc: Global, bytes: &[u8]) -> Result<String> {
     let is_map = is_sourcemap_slice(alloc, bytes)?;
-    let is_read = is_sourcemap(alloc, OneByOne(bytes))?;
+    let narrow = NarrowReader {
+        rest: bytes,
+        left: None,
+        kind: ErrorKind::TimedOut,
+    };
+    let is_read = is_sourcemap(alloc, narrow)?;
     let halting = HaltingReader::new(bytes, usize::MAX, ErrorKind::TimedOut);
     let is_read_on = is_sourcemap(alloc, halting)?;
     Ok(format!(in alloc; "{is_map}, {is_read}, {is_read_on}")?)
@@ -96,10 +100,14 @@ fn maps_and_other_texts(rt: HostRuntime) {
     }
 }
 
-// Calls `is_sourcemap` on a reader that returns the first `count` bytes, and then an error.
+// Calls `is_sourcemap` on a reader that returns the first `count` bytes and then fails.
 fn detect_failing(alloc: Global, bytes: &[u8], count: usize) -> Result<String> {
-    let read = &bytes[..count.min(bytes.len())];
-    let is_map = is_sourcemap(alloc, OneByOne(read).chain(OneByOne(b"!")))?;
+    let reader = NarrowReader {
+        rest: bytes,
+        left: Some(count),
+        kind: ErrorKind::TimedOut,
+    };
+    let is_map = is_sourcemap(alloc, reader)?;
     Ok(format!(in alloc; "{is_map}")?)
 }
 

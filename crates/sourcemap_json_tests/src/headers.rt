@@ -2,31 +2,11 @@
 use crate::checks::check;
 use sourcemap_errors::errors::{Error, Result};
 use sourcemap_json::decoder::{StripHeaderReader, strip_junk_header};
+use sourcemap_test_support::readers::NarrowReader;
 use sourcemap_test_support::results::error_text;
 use std::alloc::Global;
 use std::io::{ErrorKind, Read};
 use std::{io, str};
-
-// Each read returns one byte. At a `!`, the read fails instead, and the `!` is skipped.
-#[derive(Drop)]
-pub struct OneByOne<'a>(pub &'a [u8]);
-
-impl Read for OneByOne<'_> {
-    fn read(&mut self, buf: &mut [u8]) -> io::Result<usize> {
-        match (self.0, buf) {
-            ([b'!', rest @ ..], _) => {
-                self.0 = rest;
-                Err(io::Error::from(ErrorKind::TimedOut))
-            }
-            ([byte, rest @ ..], [first, ..]) => {
-                self.0 = rest;
-                *first = *byte;
-                Ok(1)
-            }
-            _ => Ok(0),
-        }
-    }
-}
 
 // A label, bytes, and what `StripHeaderReader` keeps of them, or the error.
 static READ: [(&str, &[u8], &str); 6] = [
@@ -55,7 +35,12 @@ fn text_or_error(alloc: Global, bytes: &[u8], outcome: io::Result<usize>) -> Res
 
 fn read(alloc: Global, text: &[u8]) -> Result<String> {
     let mut bytes = Vec::new(alloc);
-    let outcome = StripHeaderReader::new(OneByOne(text)).read_to_end(&mut bytes);
+    let inner = NarrowReader {
+        rest: text,
+        left: None,
+        kind: ErrorKind::TimedOut,
+    };
+    let outcome = StripHeaderReader::new(inner).read_to_end(&mut bytes);
     text_or_error(alloc, bytes.as_slice(), outcome)
 }
 
@@ -95,53 +80,9 @@ fn strips_the_header(rt: HostRuntime) {
     }
 }
 
-// A label, bytes, the buffer size of each read, and the results of the reads. A result is the byte
-// read, `.` for none, `?` for invalid data, or `~` for the error of the inner reader.
-static INVALID: [(&str, &[u8], [usize; 4], &str); 2] = [
-    (
-        "an empty buffer, then the same error at each read",
-        b")]}'\r[1, 2, 3]",
-        [0, 4, 0, 4],
-        ".???",
-    ),
-    (
-        "an error within the header, which goes on after it",
-        b")]}!x\nab",
-        [4, 4, 4, 4],
-        "~ab.",
-    ),
-];
-
-fn next(reader: &mut StripHeaderReader<OneByOne<'_>>, size: usize) -> char {
-    let mut buf = [0u8; 4];
-    match reader.read(&mut buf[..size.min(4)]) {
-        Ok(0) => '.',
-        Ok(_) => buf[0] as char,
-        Err(cause) => match cause.kind() {
-            ErrorKind::InvalidData => '?',
-            ErrorKind::TimedOut => '~',
-            _ => '!',
-        },
-    }
-}
-
-fn read_by_sizes(alloc: Global, text: &[u8], sizes: [usize; 4]) -> Result<String> {
-    let mut reader = StripHeaderReader::new(OneByOne(text));
-    let mut outcomes = String::new(alloc);
-    for size in sizes {
-        outcomes.push(next(&mut reader, size))?;
-    }
-    Ok(outcomes)
-}
-
-#[test]
-fn errors_come_at_their_reads(rt: HostRuntime) {
-    for (about, text, sizes, want) in INVALID.iter() {
-        check(&rt, about, read_by_sizes(rt.alloc(), text, *sizes), want);
-    }
-}
-
-// Each read returns one byte. When `left` bytes remain, one read fails instead, with a message.
+// Each read returns one byte. When `left` bytes remain, one read fails instead, with a message. The
+// reads after it return the remaining bytes. Once a `NarrowReader` or a `HaltingReader` fails, all
+// its further uninterrupted reads fail too, and their errors have no message.
 #[derive(Drop)]
 struct FailsOnce<'a> {
     rest: &'a [u8],
@@ -163,6 +104,69 @@ impl Read for FailsOnce<'_> {
             }
             _ => Ok(0),
         }
+    }
+}
+
+// A label, bytes, how many bytes are left where the inner reader fails, the buffer size of each
+// read, and the results of the reads. A result is the byte read, `.` for none, `?` for invalid data,
+// or `~` for the error of the inner reader.
+static INVALID: [(&str, &[u8], Option<usize>, [usize; 4], &str); 2] = [
+    (
+        "an empty buffer, then the same error at each read",
+        b")]}'\r[1, 2, 3]",
+        None,
+        [0, 4, 0, 4],
+        ".???",
+    ),
+    (
+        "an error within the header, which goes on after it",
+        b")]}x\nab",
+        Some(4),
+        [4, 4, 4, 4],
+        "~ab.",
+    ),
+];
+
+fn next(reader: &mut StripHeaderReader<FailsOnce<'_>>, size: usize) -> char {
+    let mut buf = [0u8; 4];
+    match reader.read(&mut buf[..size.min(4)]) {
+        Ok(0) => '.',
+        Ok(_) => buf[0] as char,
+        Err(cause) => match cause.kind() {
+            ErrorKind::InvalidData => '?',
+            ErrorKind::TimedOut => '~',
+            _ => '!',
+        },
+    }
+}
+
+fn read_by_sizes(
+    alloc: Global,
+    text: &[u8],
+    left: Option<usize>,
+    sizes: [usize; 4],
+) -> Result<String> {
+    let mut reader = StripHeaderReader::new(FailsOnce {
+        rest: text,
+        left,
+        kind: ErrorKind::TimedOut,
+    });
+    let mut outcomes = String::new(alloc);
+    for size in sizes {
+        outcomes.push(next(&mut reader, size))?;
+    }
+    Ok(outcomes)
+}
+
+#[test]
+fn errors_come_at_their_reads(rt: HostRuntime) {
+    for (about, text, left, sizes, want) in INVALID.iter() {
+        check(
+            &rt,
+            about,
+            read_by_sizes(rt.alloc(), text, *left, *sizes),
+            want,
+        );
     }
 }
 

@@ -379,7 +379,7 @@ fn equal_by_mark_and_text(rt: HostRuntime) {
 }
 
 // A reader that fails at its first read.
-fn failing(kind: ErrorKind) -> NarrowReader<'static> {
+fn failing_reader(kind: ErrorKind) -> NarrowReader<'static> {
     NarrowReader {
         rest: &[],
         left: Some(0),
@@ -394,14 +394,14 @@ static FAILED: [(ErrorKind, &str, &str); 2] = [
 ];
 
 fn locate_failing(alloc: Global, kind: ErrorKind) -> Result<String> {
-    match locate_sourcemap_reference(alloc, failing(kind)) {
+    match locate_sourcemap_reference(alloc, failing_reader(kind)) {
         Ok(found) => Ok(format!(in alloc; "{found:?}")?),
         Err(error) => Ok(format!(in alloc; "{error:?}")?),
     }
 }
 
 fn detect_failing(alloc: Global, kind: ErrorKind) -> Result<String> {
-    match is_sourcemap(alloc, failing(kind)) {
+    match is_sourcemap(alloc, failing_reader(kind)) {
         Ok(found) => Ok(format!(in alloc; "{found}")?),
         Err(error) => Ok(format!(in alloc; "{error:?}")?),
     }

@@ -1,8 +1,10 @@
 // The value that a reader returns, as compact JSON. If the reader refuses the text, the result is
 // `none`. The error is out of memory.
+use crate::checks::check;
 use serde_json::{Category, Result, Value};
 use sourcemap_json_read::values::value_from_slice;
 use std::alloc::Global;
+use std::process::Abort;
 
 fn compact_text(alloc: Global, answer: Result<Value>) -> Result<String> {
     match answer {
@@ -20,4 +22,10 @@ pub fn answer(alloc: Global, bytes: &[u8]) -> Result<String> {
 /// What the kit's `serde_json` reads from these bytes, as compact JSON, or `none`.
 pub fn kit_answer(alloc: Global, bytes: &[u8]) -> Result<String> {
     compact_text(alloc, Value::from_slice(alloc, bytes))
+}
+
+/// Checks that both readers read the value `want` from this text, or refuse it if `want` is `none`.
+pub fn check_row(rt: &impl Abort, alloc: Global, text: &str, want: &str) {
+    check(rt, text, answer(alloc, text.as_bytes()), want);
+    check(rt, text, kit_answer(alloc, text.as_bytes()), want);
 }

@@ -1,10 +1,8 @@
 // Strings with escapes between runs of plain bytes. The reader loads blocks of 32 or 64 bytes. Some
 // runs are as long as such a block, or one byte longer or shorter.
-use crate::answers::{answer, kit_answer};
-use crate::checks::check;
+use crate::answers::check_row;
 use serde_json::Result;
 use std::alloc::Global;
-use std::process::Abort;
 
 static LENGTHS: [usize; 8] = [0, 1, 31, 32, 33, 63, 64, 65];
 
@@ -47,11 +45,6 @@ fn around(alloc: Global, before: usize, inner: &str, after: usize) -> Result<Str
     let first = "a".repeat(alloc, before)?;
     let last = "b".repeat(alloc, after)?;
     Ok(format!(in alloc; "\"{first}{inner}{last}\"")?)
-}
-
-fn check_row(rt: &impl Abort, alloc: Global, text: &str, want: &str) {
-    check(rt, text, answer(alloc, text.as_bytes()), want);
-    check(rt, text, kit_answer(alloc, text.as_bytes()), want);
 }
 
 #[test]

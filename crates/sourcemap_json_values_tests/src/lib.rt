@@ -9,11 +9,11 @@ mod blocks;
 #[cfg(test)]
 mod bytes;
 #[cfg(test)]
-mod changes;
-#[cfg(test)]
 mod checks;
 #[cfg(test)]
 mod long_strings;
+#[cfg(test)]
+mod mutations;
 #[cfg(test)]
 mod nesting;
 #[cfg(test)]

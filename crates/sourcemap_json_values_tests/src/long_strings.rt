@@ -1,10 +1,8 @@
 // Strings with escapes, mostly so far from the end of the JSON text that the reader decodes whole
 // blocks. Some strings are longer than 4096 bytes, so the reader extends its buffer more than once.
-use crate::answers::{answer, kit_answer};
-use crate::checks::check;
+use crate::answers::check_row;
 use serde_json::Result;
 use std::alloc::Global;
-use std::process::Abort;
 
 // A JSON string that is read, and the same string in compact JSON, both without enclosing quotes.
 static SPELLED: [(&str, &str); 11] = [
@@ -34,11 +32,6 @@ fn surround(alloc: Global, before: usize, inner: &str, rest: usize) -> Result<St
     let first = "a".repeat(alloc, before)?;
     let last = "z".repeat(alloc, rest)?;
     Ok(format!(in alloc; "[\"{first}{inner}b\",\"{last}\"]")?)
-}
-
-fn check_row(rt: &impl Abort, alloc: Global, text: &str, want: &str) {
-    check(rt, text, answer(alloc, text.as_bytes()), want);
-    check(rt, text, kit_answer(alloc, text.as_bytes()), want);
 }
 
 #[test]

@@ -173,7 +173,7 @@ fn take_all(alloc: Global, builder: &mut SourceMapBuilder, steps: &[Step<'_>]) -
 }
 
 // A builder that began with the file `f`, after these steps.
-fn built(alloc: Global, steps: &[Step<'_>]) -> Result<SourceMapBuilder> {
+fn builder_after(alloc: Global, steps: &[Step<'_>]) -> Result<SourceMapBuilder> {
     let mut builder = SourceMapBuilder::new(alloc, Some("f"))?;
     take_all(alloc, &mut builder, steps)?;
     Ok(builder)
@@ -366,13 +366,13 @@ fn builders_return_and_are_written(rt: HostRuntime) {
         check(
             &rt,
             row.about,
-            describe(alloc, built(alloc, row.steps)),
+            describe(alloc, builder_after(alloc, row.steps)),
             row.getters,
         );
         check(
             &rt,
             row.about,
-            write_built(alloc, built(alloc, row.steps)),
+            write_built(alloc, builder_after(alloc, row.steps)),
             row.written,
         );
     }
@@ -390,7 +390,7 @@ fn sources_are_resolved_against_the_root(rt: HostRuntime) {
     check(
         &rt,
         want,
-        builder_text(rt.alloc(), built(rt.alloc(), ROWS[0].steps)),
+        builder_text(rt.alloc(), builder_after(rt.alloc(), ROWS[0].steps)),
         want,
     );
 }

@@ -1,7 +1,7 @@
 // Decoding of maps from bytes and data URLs, and the errors of decoding. Also copies and debug ids
 // of decoded maps, and the writing of data URLs.
-use crate::answers::id_text;
 use crate::checks::check;
+use crate::getters::id_text;
 use crate::lookups::token_text;
 use sourcemap::errors::Result;
 use sourcemap::{DecodedMap, Error, SourceMap, decode, decode_data_url, decode_slice};

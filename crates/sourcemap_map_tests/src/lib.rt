@@ -8,8 +8,6 @@
 #[cfg(test)]
 mod adjusting;
 #[cfg(test)]
-mod answers;
-#[cfg(test)]
 mod builder;
 #[cfg(test)]
 mod changes;
@@ -18,7 +16,11 @@ mod checks;
 #[cfg(test)]
 mod decoding;
 #[cfg(test)]
+mod encoding_in_parts;
+#[cfg(test)]
 mod errors;
+#[cfg(test)]
+mod getters;
 #[cfg(test)]
 mod identifiers;
 #[cfg(test)]
@@ -28,10 +30,6 @@ mod lookups;
 #[cfg(test)]
 mod names;
 #[cfg(test)]
-mod order;
-#[cfg(test)]
-mod parts;
-#[cfg(test)]
 mod records;
 #[cfg(test)]
 mod rewriting;
@@ -39,6 +37,8 @@ mod rewriting;
 mod samples;
 #[cfg(test)]
 mod steps;
+#[cfg(test)]
+mod tokens;
 #[cfg(test)]
 mod views;
 #[cfg(test)]

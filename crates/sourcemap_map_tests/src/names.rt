@@ -46,15 +46,12 @@ static NAMES: [(&str, (u32, u32), &str, &str); 17] = [
     (HERMES, (1, 0), "b", "none"),
 ];
 
-// The map is in a box because of the prover. At each return, the prover follows the drop of a box
-// in one step. Without a box, the prover takes one step for each part of a `DecodedMap`.
+// prover: one drop
 fn map_of(alloc: Global, text: &str) -> Result<Box<DecodedMap>> {
     let map = decode_slice(alloc, text.as_bytes())?;
     Ok(Box::new(alloc, map)?)
 }
 
-// A regular map in a box. This box saves the prover no steps: the prover follows the hand-written
-// `Drop` of `SourceMap` in one step.
 fn regular_of(alloc: Global, text: &str) -> Result<Box<SourceMap>> {
     let map = SourceMap::from_slice(alloc, text.as_bytes())?;
     Ok(Box::new(alloc, map)?)

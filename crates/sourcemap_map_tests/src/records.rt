@@ -23,7 +23,8 @@ static ONE_FIELD: [&str; 14] = [
     r#"{"debugId":"00000000-0000-0000-0000-000000000000"}"#,
 ];
 
-fn record(alloc: Global, text: &str) -> Result<RawSourceMap> {
+/// The record that is read from this JSON text.
+pub fn record(alloc: Global, text: &str) -> Result<RawSourceMap> {
     RawSourceMap::from_owned(alloc, Value::from_str(alloc, text)?)
 }
 

@@ -1,11 +1,11 @@
 // Tests of the encoding of maps: as records, as JSON values, and as bytes. The writers take one
 // byte in each write, and some fail after a number of bytes.
 use crate::checks::check;
+use crate::records::record;
 use crate::samples::{Made, map_text, record_of, record_written, value_written};
 use serde_json::Value;
 use sourcemap::decoder::decode_regular;
 use sourcemap::encoder::{Encodable, encode, encode_to};
-use sourcemap::jsontypes::RawSourceMap;
 use sourcemap::{DecodedMap, Error, Result, SourceMap, decode_slice};
 use sourcemap_test_support::results::{again, box_result};
 use sourcemap_test_support::writers::NarrowWriter;
@@ -76,17 +76,12 @@ pub static WRITTEN: [Row; 11] = [
     ),
 ];
 
-fn record(alloc: Global, text: &str) -> Result<RawSourceMap> {
-    RawSourceMap::from_owned(alloc, Value::from_str(alloc, text)?)
-}
-
 /// A map that is decoded from this JSON text.
 pub fn regular(alloc: Global, text: &str) -> Made {
     let record = record(alloc, text)?;
     box_result(alloc, decode_regular(alloc, record))
 }
 
-// A map of any kind.
 fn decode_boxed(alloc: Global, text: &str) -> Result<Box<DecodedMap>> {
     box_result(alloc, decode_slice(alloc, text.as_bytes()))
 }
@@ -263,7 +258,7 @@ fn encode_again<M: Encodable>(alloc: Global, map: &M, writer: &mut NarrowWriter)
     outcome_text(alloc, writer.held.as_slice(), outcome)
 }
 
-fn encoded<M: Encodable>(alloc: Global, map: &M, capacity: usize) -> Result<String> {
+fn encoded_text<M: Encodable>(alloc: Global, map: &M, capacity: usize) -> Result<String> {
     let mut writer = NarrowWriter {
         held: Vec::with_capacity(alloc, capacity)?,
         left: None,
@@ -272,11 +267,11 @@ fn encoded<M: Encodable>(alloc: Global, map: &M, capacity: usize) -> Result<Stri
 }
 
 fn regular_encoded(alloc: Global, text: &str, capacity: usize) -> Result<String> {
-    encoded(alloc, &*regular(alloc, text)?, capacity)
+    encoded_text(alloc, &*regular(alloc, text)?, capacity)
 }
 
 fn any_encoded(alloc: Global, text: &str, capacity: usize) -> Result<String> {
-    encoded(alloc, &*decode_boxed(alloc, text)?, capacity)
+    encoded_text(alloc, &*decode_boxed(alloc, text)?, capacity)
 }
 
 #[test]

@@ -11,7 +11,7 @@ use std::io::ErrorKind;
 use std::test::Fail;
 
 // A writer that accepts `left` calls of `write` and `flush`, or all calls if `left` is `None`.
-fn narrow(rt: &HostRuntime, left: Option<usize>) -> NarrowWriter {
+fn narrow_writer(rt: &HostRuntime, left: Option<usize>) -> NarrowWriter {
     NarrowWriter {
         held: Vec::new(rt.alloc()),
         left,
@@ -19,7 +19,7 @@ fn narrow(rt: &HostRuntime, left: Option<usize>) -> NarrowWriter {
 }
 
 // A writer that is interrupted before each byte and takes nothing after `left` bytes.
-fn halting(rt: &HostRuntime, left: Option<usize>) -> HaltingWriter {
+fn halting_writer(rt: &HostRuntime, left: Option<usize>) -> HaltingWriter {
     HaltingWriter {
         held: Vec::new(rt.alloc()),
         left,
@@ -28,7 +28,7 @@ fn halting(rt: &HostRuntime, left: Option<usize>) -> HaltingWriter {
 }
 
 // A reader of the map that fails after `left` bytes.
-fn slow(left: Option<usize>) -> NarrowReader<'static> {
+fn narrow_reader(left: Option<usize>) -> NarrowReader<'static> {
     NarrowReader {
         rest: MAP.as_bytes(),
         left,
@@ -40,7 +40,13 @@ fn slow(left: Option<usize>) -> NarrowReader<'static> {
 // fails after `left` bytes.
 fn is_refused(rt: &HostRuntime, words: &[String], left: usize) -> Result<bool, Fail> {
     let mut output = Vec::new(rt.alloc());
-    let status = run(rt, rt.alloc(), words, &mut slow(Some(left)), &mut output)?;
+    let status = run(
+        rt,
+        rt.alloc(),
+        words,
+        &mut narrow_reader(Some(left)),
+        &mut output,
+    )?;
     unless_out(status, output.as_slice())?;
     Ok(status == 1 && output.as_slice() == "broken pipe\n".as_bytes())
 }
@@ -59,7 +65,7 @@ fn a_run_on_a_reader_that_fails_is_refused(rt: HostRuntime) -> Result<(), Fail> 
 
 // Whether `decode` returns an `Io` error for a reader that fails after `left` bytes.
 fn is_read_error(rt: &HostRuntime, left: usize) -> Result<bool, Error> {
-    match decode(rt.alloc(), slow(Some(left))) {
+    match decode(rt.alloc(), narrow_reader(Some(left))) {
         Err(Error::OutOfMemory) => Err(Error::OutOfMemory),
         decoded => Ok(matches!(decoded, Err(Error::Io(_)))),
     }
@@ -78,13 +84,13 @@ fn a_reader_that_fails_is_not_decoded(rt: HostRuntime) -> Result<(), Fail> {
 // `flush`. A further run must return `Io` and write exactly the first `left` bytes of `want`.
 // Returns whether all runs do so. The only error of `is_written` is out of memory.
 fn is_written(rt: &HostRuntime, words: &[String], want: &[u8]) -> Result<bool, Fail> {
-    let mut output = narrow(rt, None);
-    let status = run(rt, rt.alloc(), words, &mut slow(None), &mut output)?;
+    let mut output = narrow_writer(rt, None);
+    let status = run(rt, rt.alloc(), words, &mut narrow_reader(None), &mut output)?;
     unless_out(status, output.held.as_slice())?;
     let mut is_so = output.held.as_slice() == want;
     for left in 0..=want.len() {
-        let mut output = narrow(rt, Some(left));
-        let ended = run(rt, rt.alloc(), words, &mut slow(None), &mut output);
+        let mut output = narrow_writer(rt, Some(left));
+        let ended = run(rt, rt.alloc(), words, &mut narrow_reader(None), &mut output);
         unless_cut_out(&ended, output.held.as_slice())?;
         is_so &= matches!(ended, Err(Error::Io(_))) & (output.held.as_slice() == &want[..left]);
     }
@@ -106,8 +112,8 @@ const LOOKED_UP: &[u8] = b"coolstuff.js:0:4 name=x\n";
 // Whether a run prints `LOOKED_UP` and ends with status 0. The writer is interrupted before each
 // byte.
 fn is_written_when_interrupted(rt: &HostRuntime, words: &[String]) -> Result<bool, Fail> {
-    let mut output = halting(rt, None);
-    let status = run(rt, rt.alloc(), words, &mut slow(None), &mut output)?;
+    let mut output = halting_writer(rt, None);
+    let status = run(rt, rt.alloc(), words, &mut narrow_reader(None), &mut output)?;
     unless_out(status, output.held.as_slice())?;
     Ok(status == 0 && output.held.as_slice() == LOOKED_UP)
 }
@@ -121,8 +127,8 @@ fn is_write_zero(error: &Error) -> bool {
 // Whether a run writes exactly the first `left` bytes of `LOOKED_UP` and then returns `Io` of kind
 // `WriteZero`. The writer takes only `left` bytes.
 fn is_cut_off(rt: &HostRuntime, words: &[String], left: usize) -> Result<bool, Fail> {
-    let mut output = halting(rt, Some(left));
-    let ended = run(rt, rt.alloc(), words, &mut slow(None), &mut output);
+    let mut output = halting_writer(rt, Some(left));
+    let ended = run(rt, rt.alloc(), words, &mut narrow_reader(None), &mut output);
     unless_cut_out(&ended, output.held.as_slice())?;
     let is_failed = matches!(&ended, Err(error) if is_write_zero(error));
     Ok(is_failed && LOOKED_UP.get(..left) == Some(output.held.as_slice()))
@@ -145,11 +151,11 @@ fn a_writer_that_takes_nothing_ends_the_run(rt: HostRuntime) -> Result<(), Fail>
 // call uses a writer that accepts `left` bytes. This call must write exactly the first `left` bytes
 // of `want` and return an error.
 fn is_reported_as(rt: &HostRuntime, error: &Error, want: &[u8]) -> Result<bool, Fail> {
-    let mut output = narrow(rt, None);
+    let mut output = narrow_writer(rt, None);
     report_error(error, &mut output)?;
     let mut is_so = output.held.as_slice() == want;
     for left in 0..want.len() {
-        let mut output = narrow(rt, Some(left));
+        let mut output = narrow_writer(rt, Some(left));
         let reported = report_error(error, &mut output);
         if matches!(reported, Err(Error::OutOfMemory)) {
             return Err(Error::OutOfMemory.into());
@@ -171,7 +177,7 @@ fn errors_are_reported_unless_the_reader_is_gone(rt: HostRuntime) -> Result<(), 
 
 const FULL: &[u8] = b"no storage space\n";
 
-// Whether `report_error` writes exactly `want` to the writer `halting(rt, left)`. If `report_error`
+// Whether `report_error` writes exactly `want` to `halting_writer(rt, left)`. If `report_error`
 // returns an error, the result is this error.
 fn is_reported_when_interrupted(
     rt: &HostRuntime,
@@ -179,7 +185,7 @@ fn is_reported_when_interrupted(
     left: Option<usize>,
     want: &[u8],
 ) -> Result<bool, Fail> {
-    let mut output = halting(rt, left);
+    let mut output = halting_writer(rt, left);
     report_error(error, &mut output)?;
     Ok(output.held.as_slice() == want)
 }
@@ -187,7 +193,7 @@ fn is_reported_when_interrupted(
 // Whether `report_error` writes exactly the first `left` bytes of `FULL` and then returns `Io` of
 // kind `WriteZero`. The writer takes only `left` bytes.
 fn is_report_cut_off(rt: &HostRuntime, error: &Error, left: usize) -> Result<bool, Fail> {
-    let mut output = halting(rt, Some(left));
+    let mut output = halting_writer(rt, Some(left));
     match report_error(error, &mut output) {
         Err(Error::OutOfMemory) => Err(Error::OutOfMemory.into()),
         Err(other) => Ok(is_write_zero(&other) && FULL.get(..left) == Some(output.held.as_slice())),

@@ -4,6 +4,8 @@
 #[cfg(test)]
 mod applied;
 #[cfg(test)]
+mod arguments;
+#[cfg(test)]
 mod composes;
 #[cfg(test)]
 mod fake_files;
@@ -15,7 +17,5 @@ mod memory;
 mod refusals;
 #[cfg(test)]
 mod runs;
-#[cfg(test)]
-mod starts;
 #[cfg(test)]
 mod traces;

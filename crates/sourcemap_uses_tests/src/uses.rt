@@ -513,7 +513,7 @@ const INDEXED_BUNDLE: &[u8] = b"\xe5\xd1\x0b\xfb\x01\0\0\0\x02\0\0\0\x02\0\0\0\x
 const BUNDLE_MAP: &str =
     r#"{"sections":[{"offset":{"line":0,"column":0},"map":{"sources":["a.js"],"mappings":";;;;;AAAA,EAAE;AAAA"}}],"x_facebook_offsets":[5]}"#;
 
-fn traced(alloc: Global, line: u32, col: u32) -> Result<String> {
+fn trace_position(alloc: Global, line: u32, col: u32) -> Result<String> {
     let map = box_result(
         alloc,
         SourceMapIndex::from_slice(alloc, BUNDLE_MAP.as_bytes()),
@@ -524,7 +524,7 @@ fn traced(alloc: Global, line: u32, col: u32) -> Result<String> {
 
 #[test]
 fn a_position_in_a_module_is_traced(rt: HostRuntime) -> std::result::Result<(), Fail> {
-    assert_eq!(rt; traced(rt.alloc(), 0, 1)?.as_str(), "a.js:0:0");
-    assert_eq!(rt; traced(rt.alloc(), 0, 3)?.as_str(), "a.js:0:2");
+    assert_eq!(rt; trace_position(rt.alloc(), 0, 1)?.as_str(), "a.js:0:0");
+    assert_eq!(rt; trace_position(rt.alloc(), 0, 3)?.as_str(), "a.js:0:2");
     Ok(())
 }
