@@ -119,11 +119,11 @@ function isIgnored(map, source) {
 }
 
 function decodedMappings(map) {
-  return mappingsOf(map).decodedLines;
+  return mappingsOf(map).decoded;
 }
 
 function encodedMappings(map) {
-  return mappingsOf(map).encodedFields.mappings;
+  return mappingsOf(map).encoded.mappings;
 }
 
 function withMappings(map, mappings) {
@@ -136,14 +136,14 @@ function decodedMap(map) {
 }
 
 function encodedMap(map) {
-  const { mappings, rangeMappings } = mappingsOf(map).encodedFields;
+  const { mappings, rangeMappings } = mappingsOf(map).encoded;
   return withMappings(map, rangeMappings === undefined ? { mappings } : { mappings, rangeMappings });
 }
 
 function presortedDecodedMap(map, mapUrl) {
   const tracer = new TraceMap(map, mapUrl);
   checkDecoded(map.mappings);
-  mappingsOf(tracer).decodedLines = map.mappings;
+  mappingsOf(tracer).decoded = map.mappings;
   return tracer;
 }
 

@@ -52,7 +52,7 @@ function sameSources(ours, theirs, lines, columns) {
   }
 }
 
-function collectMappings(library, map) {
+function collected(library, map) {
   const seen = [];
   library.eachMapping(map, (mapping) => seen.push(mapping));
   return seen;
@@ -70,7 +70,7 @@ function asPeerKnows(map) {
 }
 
 function sameWhole(ours, theirs) {
-  same(collectMappings(sourcemap, ours), collectMappings(peer, theirs), () => 'eachMapping');
+  same(collected(sourcemap, ours), collected(peer, theirs), () => 'eachMapping');
   same(asPeerKnows(sourcemap.decodedMap(ours)), peer.decodedMap(theirs), () => 'decodedMap');
   const [written, expected] = [asPeerKnows(sourcemap.encodedMap(ours)), peer.encodedMap(theirs)];
   const lines = (map) => codec.decode(map.mappings).map(withoutRepeats);
@@ -212,7 +212,7 @@ describe('index maps beside @jridgewell/trace-mapping', { skip }, () => {
         }
       }
     }
-    const tokens = [collectMappings(sourcemap, ours), collectMappings(peer, theirs)];
+    const tokens = [collected(sourcemap, ours), collected(peer, theirs)];
     same(...tokens.map(withoutRepeats), () => 'eachMapping');
   }
 });
