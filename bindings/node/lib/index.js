@@ -119,11 +119,11 @@ function isIgnored(map, source) {
 }
 
 function decodedMappings(map) {
-  return mappingsOf(map).decoded;
+  return mappingsOf(map).decodedLines;
 }
 
 function encodedMappings(map) {
-  return mappingsOf(map).encoded.mappings;
+  return mappingsOf(map).encodedFields.mappings;
 }
 
 function withMappings(map, mappings) {
@@ -136,14 +136,14 @@ function decodedMap(map) {
 }
 
 function encodedMap(map) {
-  const { mappings, rangeMappings } = mappingsOf(map).encoded;
+  const { mappings, rangeMappings } = mappingsOf(map).encodedFields;
   return withMappings(map, rangeMappings === undefined ? { mappings } : { mappings, rangeMappings });
 }
 
 function presortedDecodedMap(map, mapUrl) {
   const tracer = new TraceMap(map, mapUrl);
   checkDecoded(map.mappings);
-  mappingsOf(tracer).decoded = map.mappings;
+  mappingsOf(tracer).decodedLines = map.mappings;
   return tracer;
 }
 

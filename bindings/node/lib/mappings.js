@@ -104,7 +104,7 @@ class Mappings {
   }
 
   /** The mappings as lines of segments. */
-  get decoded() {
+  get decodedLines() {
     if (this.#decoded === null && Array.isArray(this.#given) && this.#given.length > 0 && isSorted(this.#given)) {
       this.#decoded = this.#given;
     }
@@ -117,7 +117,7 @@ class Mappings {
   }
 
   /** Sets the lines of segments, unchanged and unchecked. */
-  set decoded(lines) {
+  set decodedLines(lines) {
     this.#decoded = lines;
   }
 
@@ -125,7 +125,7 @@ class Mappings {
    * `mappings` as text, and `rangeMappings`. If `mappings` was given as text, both are as
    * they were given. Else there is `rangeMappings` only if a token is a range.
    */
-  get encoded() {
+  get encodedFields() {
     if (this.#encoded === null) {
       const missing = Math.max(this.#lineCount() - Math.max(this.tokens.lineCount, 1), 0);
       const { mappings, rangeMappings } = JSON.parse(native.write(this.handle));

@@ -13,7 +13,7 @@ function partsOf(reference) {
  * The path without `.`, `..` and empty segments, and without a slash at its
  * beginning. A relative path keeps each `..` that leads above its beginning.
  */
-function normalized(path, isAbsolute) {
+function normalize(path, isAbsolute) {
   const kept = [];
   let isFolder = false;
   for (const segment of path.split('/')) {
@@ -32,7 +32,7 @@ function normalized(path, isAbsolute) {
  * or `.` if `rest` is empty.
  */
 function relative(path, rest, first) {
-  const whole = normalized(path, false);
+  const whole = normalize(path, false);
   if (whole === '') return rest || '.';
   const isDotted = /^[.?#]/.test(first) && !whole.startsWith('.');
   return (isDotted ? './' : '') + whole + rest;
@@ -43,11 +43,11 @@ function resolve(reference, folder) {
   if (reference === '' && folder === '') return '';
   const base = partsOf(folder === '' || folder.endsWith('/') ? folder : `${folder}/`);
   const { scheme, authority, path, rest } = partsOf(reference);
-  if (authority !== '') return `${scheme || base.scheme}${authority}/${normalized(path, true)}${rest}`;
-  if (path.startsWith('/')) return `${base.origin}/${normalized(path, true)}${rest}`;
+  if (authority !== '') return `${scheme || base.scheme}${authority}/${normalize(path, true)}${rest}`;
+  if (path.startsWith('/')) return `${base.origin}/${normalize(path, true)}${rest}`;
   const joined = base.path.replace(/[^/]*$/, '') + path;
   if (base.origin === '' && !base.path.startsWith('/')) return relative(joined, rest, folder || reference);
-  return `${base.origin}/${normalized(joined, true)}${rest}`;
+  return `${base.origin}/${normalize(joined, true)}${rest}`;
 }
 
 /**

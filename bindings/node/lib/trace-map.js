@@ -103,7 +103,7 @@ function flattenable(map, mapUrl) {
   }
   checkMappings(fields);
   const isText = typeof fields.mappings === 'string';
-  const { mappings, rangeMappings } = isText ? fields : mappingsOf(new TraceMap(fields)).encoded;
+  const { mappings, rangeMappings } = isText ? fields : mappingsOf(new TraceMap(fields)).encodedFields;
   const { sources = [], sourceRoot, sourcesContent, names } = fields;
   return {
     version: 3,
@@ -129,7 +129,7 @@ function FlattenMap(map, mapUrl) {
     names: native.names(handle),
     sources: native.sources(handle),
     sourcesContent: native.contents(handle),
-    ignoreList: native.ignored(handle),
+    ignoreList: native.ignoreList(handle),
   };
   return new TraceMap(flat, undefined, handle);
 }

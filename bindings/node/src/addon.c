@@ -375,7 +375,7 @@ static napi_value contents(napi_env env, napi_callback_info info) {
     return read_texts(env, held, counts.sources, sm_contents);
 }
 
-static napi_value ignored(napi_env env, napi_callback_info info) {
+static napi_value ignore_list(napi_env env, napi_callback_info info) {
     napi_value handle, array;
     held_map *held = NULL;
     uint32_t ids[CHUNK], at = 0;
@@ -526,7 +526,7 @@ NAPI_MODULE_INIT() {
     } calls[] = {
         {"init", init},         {"open", open_json},    {"build", build},
         {"tokens", tokens},     {"sources", sources},   {"names", names},
-        {"contents", contents}, {"ignored", ignored},   {"write", write_json},
+        {"contents", contents}, {"ignoreList", ignore_list}, {"write", write_json},
         {"lookup", lookup},     {"lookupMany", lookup_many}, {"openCount", open_count},
     };
     if (sm_interface() != SM_INTERFACE) {

@@ -52,7 +52,7 @@ function sameSources(ours, theirs, lines, columns) {
   }
 }
 
-function collected(library, map) {
+function collectMappings(library, map) {
   const seen = [];
   library.eachMapping(map, (mapping) => seen.push(mapping));
   return seen;
@@ -70,7 +70,7 @@ function asPeerKnows(map) {
 }
 
 function sameWhole(ours, theirs) {
-  same(collected(sourcemap, ours), collected(peer, theirs), () => 'eachMapping');
+  same(collectMappings(sourcemap, ours), collectMappings(peer, theirs), () => 'eachMapping');
   same(asPeerKnows(sourcemap.decodedMap(ours)), peer.decodedMap(theirs), () => 'decodedMap');
   const [written, expected] = [asPeerKnows(sourcemap.encodedMap(ours)), peer.encodedMap(theirs)];
   const lines = (map) => codec.decode(map.mappings).map(withoutRepeats);
@@ -212,7 +212,7 @@ describe('index maps beside @jridgewell/trace-mapping', { skip }, () => {
         }
       }
     }
-    const tokens = [collected(sourcemap, ours), collected(peer, theirs)];
+    const tokens = [collectMappings(sourcemap, ours), collectMappings(peer, theirs)];
     same(...tokens.map(withoutRepeats), () => 'eachMapping');
   }
 });

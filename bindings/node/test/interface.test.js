@@ -242,15 +242,15 @@ describe('TraceMap', () => {
   test('is resolved against the URL of the map', () => {
     const sources = ['a.js', '../b.js', '/c.js', 'https://other.example/d.js', null];
     const map = { version: 3, names: [], sources, mappings: 'AAAA' };
-    const resolved = (url, sourceRoot) => new TraceMap({ ...map, sourceRoot }, url).resolvedSources;
-    assert.deepEqual(resolved('https://one.example/js/out.js.map'), [
+    const resolve = (url, sourceRoot) => new TraceMap({ ...map, sourceRoot }, url).resolvedSources;
+    assert.deepEqual(resolve('https://one.example/js/out.js.map'), [
       'https://one.example/js/a.js', 'https://one.example/b.js', 'https://one.example/c.js',
       'https://other.example/d.js', 'https://one.example/js/',
     ]);
-    assert.deepEqual(resolved('js/out.js.map', 'src'), [
+    assert.deepEqual(resolve('js/out.js.map', 'src'), [
       'js/src/a.js', 'js/b.js', '/c.js', 'https://other.example/d.js', 'js/src/',
     ]);
-    assert.deepEqual(resolved(null, undefined), ['a.js', '../b.js', '/c.js', 'https://other.example/d.js', '']);
+    assert.deepEqual(resolve(null, undefined), ['a.js', '../b.js', '/c.js', 'https://other.example/d.js', '']);
   });
 });
 

@@ -8,7 +8,7 @@ from typing import Iterable, NamedTuple, Optional
 
 from . import _library as library
 from . import errors
-from ._handle import HandleOwner, array_of, debug_id_of, encoded, optional, pointer_to, run, uint32
+from ._handle import HandleOwner, array_of, debug_id_of, encode_texts, optional, pointer_to, run, uint32
 from ._map import Map
 from ._tokens import TOKEN
 
@@ -97,7 +97,7 @@ class Builder(HandleOwner):
         >>> builder.finish().sources
         ['a.js', '/xy/b.js']
         """
-        texts = encoded('prefixes', prefixes)
+        texts = encode_texts('prefixes', prefixes)
         self._run(library.builder_strip_prefixes, array_of(texts), len(texts))
 
     def set_contents(self, source_id: int, text: Optional[str]) -> None:
@@ -132,7 +132,7 @@ class Builder(HandleOwner):
         [0, 2, 4]
         """
         rest = iter(tokens)
-        while block := b''.join(map(_packed, islice(rest, _BLOCK))):
+        while block := b''.join(map(_pack, islice(rest, _BLOCK))):
             self._add_block(block)
 
     def _add_block(self, block: bytes) -> None:
@@ -148,13 +148,13 @@ class Builder(HandleOwner):
         """The map that was built. This closes the builder."""
         made = Map._empty()
         self._run(library.builder_finish, made._at)
-        return made._opened()
+        return made._refresh()
 
     def __repr__(self) -> str:
         return f'<sourcemap.Builder{": closed" if self.closed else ""}>'
 
 
-def _packed(token: NewToken) -> bytes:
+def _pack(token: NewToken) -> bytes:
     generated_line, generated_column, line, column, source_id, name_id, is_range = token
     return TOKEN.pack(uint32('generated_line', generated_line), uint32('generated_column', generated_column),
                       _or_none('line', line), _or_none('column', column), _or_none('source_id', source_id),

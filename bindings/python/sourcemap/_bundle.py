@@ -9,7 +9,7 @@ from typing import Iterator, List, NamedTuple, Optional, Sequence, Type, TypeVar
 
 from . import _library as library
 from . import errors
-from ._handle import Data, HandleOwner, copied, empty_text, pointer_to, run
+from ._handle import Data, HandleOwner, copy_text, empty_text, pointer_to, run
 from ._map import Map
 from ._texts import position_in
 
@@ -76,7 +76,7 @@ class Bundle(HandleOwner, Sequence[Optional[bytes]]):
                 self._run_locked(call, *arguments, byref(text))
             except errors.Absent:
                 return None
-            return copied(text)
+            return copy_text(text)
 
     def split(self, index: Map) -> Split:
         """The modules of the bundle, each with its name, its text and its map; `index` is the index map of the bundle.
@@ -128,9 +128,9 @@ class Split(HandleOwner, Sequence[Module]):
         made = Map._empty()
         with self._lock:
             self._run_locked(library.split_item, number, byref(name), byref(text))
-            texts = copied(name).decode(), copied(text).decode()
+            texts = copy_text(name).decode(), copy_text(text).decode()
             self._run_locked(library.split_map, number, made._at)
-        return Module(*texts, made._opened())
+        return Module(*texts, made._refresh())
 
     def __repr__(self) -> str:
         return '<sourcemap.Split: closed>' if self.closed else f'<sourcemap.Split: {len(self)} modules>'

@@ -56,7 +56,7 @@ class Frame:
         """The identifier of the function, as the engine printed it; None if there is none."""
         return None if self.name is None else self.text[self.name.start : self.name.end]
 
-    def rewritten(self, location: str, function: Optional[str]) -> str:
+    def rewrite(self, location: str, function: Optional[str]) -> str:
         """The line with another location, and another name of the function unless `function` or `name` is None."""
         edits = [(self.location, location)]
         if self.name is not None and function is not None:
@@ -102,13 +102,13 @@ def _parse_at(text: str, at: re.Match[str]) -> Optional[Frame]:
         start, end = at.span('bare')
         if text.startswith('async ', start):
             start += len('async ')
-        return _located(text, Span(start, end), None)
+        return _frame_at(text, Span(start, end), None)
     name, inside = Span(*at.span('name')), Span(*at.span('inside'))
     evaluated = _EVAL.fullmatch(text, inside.start, inside.end)
     if evaluated is None:
-        return _located(text, inside, name)
+        return _frame_at(text, inside, name)
     own = _evaluated_script(evaluated)
-    return _located(text, own, name) if own is not None else _eval_caller(text, evaluated)
+    return _frame_at(text, own, name) if own is not None else _eval_caller(text, evaluated)
 
 
 def _evaluated_script(evaluated: re.Match[str]) -> Optional[Span]:
@@ -124,7 +124,7 @@ def _eval_caller(text: str, evaluated: re.Match[str]) -> Optional[Frame]:
         name, inside = Span(*evaluated.span('name')), Span(*evaluated.span('inside'))
         outer = _EVAL.fullmatch(text, inside.start, inside.end)
         if outer is None:
-            return _located(text, inside, name)
+            return _frame_at(text, inside, name)
         evaluated = outer
 
 
@@ -134,7 +134,7 @@ def _parse_marked(text: str, mark: int) -> Optional[Frame]:
     name = Span(mark - len(text[:mark].lstrip()), mark)
     evaluated = _EVAL_LINE.fullmatch(text, start, end)
     if evaluated is None:
-        return _located(text, Span(start, end), name)
+        return _frame_at(text, Span(start, end), name)
     location = Span(start, evaluated.end('line'))
     return Frame(text, evaluated['file'], int(evaluated['line']), None, location, None)
 
@@ -142,11 +142,11 @@ def _parse_marked(text: str, mark: int) -> Optional[Frame]:
 def _parse_bare(text: str) -> Optional[Frame]:
     """A frame of JavaScriptCore without a name: a location alone."""
     span = Span(len(text) - len(text.lstrip()), len(text.rstrip()))
-    frame = _located(text, span, None)
+    frame = _frame_at(text, span, None)
     return None if frame is None or frame.column is None else frame
 
 
-def _located(text: str, span: Span, name: Optional[Span]) -> Optional[Frame]:
+def _frame_at(text: str, span: Span, name: Optional[Span]) -> Optional[Frame]:
     """The frame with its location at `span`. None if the text at `span` is no file with a line, or the file is a script
     of the engine itself."""
     numbers = _NUMBERS.search(text[span.start : span.end])

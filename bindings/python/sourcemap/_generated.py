@@ -45,14 +45,14 @@ def find_map(path: Path, text: bytes, root: Optional[Path] = None) -> Optional[M
     if reference is not None and reference.url.startswith('data:'):
         return _flat(Map.from_data_url(reference.url))
     if reference is not None:
-        target = _referenced(reference.url, path, root)
+        target = _target_of(reference.url, path, root)
         if target is not None:
             return open_map(target)
     beside = map_beside(path)
     return open_map(beside) if os.path.isfile(beside) else None
 
 
-def _referenced(url: str, path: Path, root: Optional[Path]) -> Optional[Path]:
+def _target_of(url: str, path: Path, root: Optional[Path]) -> Optional[Path]:
     target = resolve_path(url, str(path.absolute()))
     if target is not None and os.path.isfile(target) and (root is None or _is_below(target, root)):
         return Path(target)

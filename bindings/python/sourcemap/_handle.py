@@ -62,7 +62,7 @@ def empty_text() -> library.Text:
     return library.Text(addressof(_EMPTY), 0)
 
 
-def encoded(what: str, texts: Iterable[str]) -> List[bytes]:
+def encode_texts(what: str, texts: Iterable[str]) -> List[bytes]:
     """The UTF-8 bytes of each text. A single `str` is refused, since it would be read as a list of its characters."""
     if isinstance(texts, str):
         raise TypeError(f'{what} is a list of texts, not a text')
@@ -84,7 +84,7 @@ def pointer_to_words(words: memoryview) -> Any:
     return pointer
 
 
-def copied(text: library.Text) -> bytes:
+def copy_text(text: library.Text) -> bytes:
     return string_at(text.at, text.length)
 
 
@@ -96,7 +96,7 @@ def read_text(call: library.Call, *arguments: Any) -> Optional[bytes]:
         return None
     if code:
         raise errors.of_code(code)
-    return copied(text)
+    return copy_text(text)
 
 
 def run(call: library.Call, *arguments: Any) -> None:

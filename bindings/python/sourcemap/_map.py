@@ -10,7 +10,7 @@ from typing import Any, Dict, Iterable, Iterator, List, Literal, Optional, Seque
 
 from . import _library as library
 from . import errors
-from ._handle import (Data, HandleOwner, MadeText, array_of, debug_id_of, encoded, optional, pointer_to,
+from ._handle import (Data, HandleOwner, MadeText, array_of, debug_id_of, encode_texts, optional, pointer_to,
                       pointer_to_words, read_text, run, uint32)
 from ._texts import LazySequence
 from ._tokens import BLOCK, FOUND, POSITION, TOKEN, Answers, Positions, Token, make_token, words_of
@@ -71,7 +71,7 @@ class Section:
         if self.has_map and self._map is None:
             copied = Map._empty()
             self._index._run(library.section, self._id, copied._at)
-            self._map = copied._opened()
+            self._map = copied._refresh()
         return self._map
 
     def __repr__(self) -> str:
@@ -98,7 +98,7 @@ class Map(HandleOwner):
         self._begin()
         pointer, length = pointer_to(data)
         run(library.open_bytes, self._at, pointer, length)
-        self._opened()
+        self._refresh()
 
     @classmethod
     def load(cls: Type[AnyMap], path: Union[str, 'os.PathLike[str]']) -> AnyMap:
@@ -134,7 +134,7 @@ class Map(HandleOwner):
         made = cls._empty()
         pointer, length = pointer_to(url)
         run(library.open_url, made._at, pointer, length)
-        return made._opened()
+        return made._refresh()
 
     def _begin(self) -> None:
         super()._begin()
@@ -144,7 +144,7 @@ class Map(HandleOwner):
         self._found = bytearray(FOUND.size)
         self._found_at = byref((c_char * FOUND.size).from_buffer(self._found))
 
-    def _opened(self: AnyMap) -> AnyMap:
+    def _refresh(self: AnyMap) -> AnyMap:
         """Reads the kind and drops the cached texts, after the handle was filled or its map changed."""
         self._kind = _KINDS[library.kind(self._at)]
         self._sources = _Cached(library.source, self._at)
@@ -156,7 +156,7 @@ class Map(HandleOwner):
         by the other: the first change copies what they share. `copy.copy` and `copy.deepcopy` do the same."""
         other = self._empty()
         self._run(library.share, other._at)
-        return other._opened()
+        return other._refresh()
 
     def __copy__(self: AnyMap) -> AnyMap:
         return self.share()
@@ -188,7 +188,7 @@ class Map(HandleOwner):
         self._read(library.count, byref(counts))
         return counts
 
-    def _counted(self, what: str) -> int:
+    def _count_of(self, what: str) -> int:
         """How many of these the map has; `WrongKind` of an index map."""
         counts = self._counts()
         if self._kind == 'index':
@@ -239,26 +239,26 @@ class Map(HandleOwner):
         An index map has no sources, names, contents, ignore list and tokens of its own: to read them raises
         `WrongKind`. Look at its sections, or flatten it.
         """
-        return LazySequence(lambda: self._counted('sources'), self._source)
+        return LazySequence(lambda: self._count_of('sources'), self._source)
 
     @property
     def names(self) -> Sequence[str]:
         """The names by id. Each is read when it is used."""
-        return LazySequence(lambda: self._counted('names'), self._name)
+        return LazySequence(lambda: self._count_of('names'), self._name)
 
     @property
     def contents(self) -> Sequence[Optional[str]]:
         """The contents of each source, by its id; None for a source without contents. Each is read when it is used."""
-        return LazySequence(lambda: self._counted('sources'), lambda id: self._text(library.contents, id))
+        return LazySequence(lambda: self._count_of('sources'), lambda id: self._text(library.contents, id))
 
     def _source(self, id: int) -> str:
-        return self._known(self._text(library.source, id), id)
+        return self._require(self._text(library.source, id), id)
 
     def _name(self, id: int) -> str:
-        return self._known(self._text(library.name, id), id)
+        return self._require(self._text(library.name, id), id)
 
     @staticmethod
-    def _known(text: Optional[str], id: int) -> str:
+    def _require(text: Optional[str], id: int) -> str:
         if text is None:
             raise IndexError(f'the map was changed: nothing has the number {id} any more')
         return text
@@ -266,7 +266,7 @@ class Map(HandleOwner):
     @property
     def ignore_list(self) -> Tuple[int, ...]:
         """The ids on the ignore list, in rising order. An id may name no source. `ignore_source` adds one."""
-        count = self._counted('ignored')
+        count = self._count_of('ignored')
         ids = (c_uint32 * max(count, 1))()
         with self._lock:
             written = library.ignore_list(self._at, 0, ids, count)
@@ -303,7 +303,7 @@ class Map(HandleOwner):
 
     def __len__(self) -> int:
         """How many tokens the map has."""
-        return self._counted('tokens')
+        return self._count_of('tokens')
 
     def __bool__(self) -> bool:
         """True, also of a map without tokens."""
@@ -326,7 +326,7 @@ class Map(HandleOwner):
     def tokens(self) -> Iterator[Token]:
         """An iterator over the tokens in order. It has those of the map at the time of the call: a later change or
         `close` does not matter."""
-        self._counted('tokens')
+        self._count_of('tokens')
         return self._read_tokens(self.share())
 
     @staticmethod
@@ -444,7 +444,7 @@ class Map(HandleOwner):
             shared = self._empty()
             run(library.share, self._at, shared._at)
             library.lookup_many(self._at, pointer_to_words(words), count, at, count)
-        return Answers(shared._opened(), copied, memoryview(found)[:count * FOUND.size])
+        return Answers(shared._refresh(), copied, memoryview(found)[:count * FOUND.size])
 
     def trace(self, positions: str) -> str:
         """The answers to a list of positions, LINE:COLUMN on each line. Both count from 0 and are at most 4294967295.
@@ -487,7 +487,7 @@ class Map(HandleOwner):
     def _change(self, call: library.Call, *arguments: Any) -> None:
         with self._lock:
             self._run_locked(call, *arguments)
-            self._opened()
+            self._refresh()
 
     def rewrite(self, *, names: bool = True, contents: bool = True, strip_prefixes: Iterable[str] = ()) -> None:
         """Keeps only the sources and names that tokens use, in the order of their first use, and the contents of these
@@ -505,7 +505,7 @@ class Map(HandleOwner):
         >>> map.sources
         ['b.js']
         """
-        prefixes = encoded('strip_prefixes', strip_prefixes)
+        prefixes = encode_texts('strip_prefixes', strip_prefixes)
         self._change(library.rewrite, names, contents, array_of(prefixes), len(prefixes))
 
     def flatten(self) -> None:
@@ -558,7 +558,7 @@ class Map(HandleOwner):
 
     # Writing
 
-    def _written(self, call: library.Call) -> bytes:
+    def _write(self, call: library.Call) -> bytes:
         with MadeText() as text:
             self._run(call, text._at)
             return text.read()
@@ -569,7 +569,7 @@ class Map(HandleOwner):
         A token on line L is written after L bytes of `;`, up to 4 GB: look at the last token before you write an
         untrusted map.
         """
-        return self._written(library.write)
+        return self._write(library.write)
 
     def dump(self, path: Union[str, 'os.PathLike[str]']) -> None:
         """Writes the map as JSON to a file."""
@@ -579,4 +579,4 @@ class Map(HandleOwner):
 
     def to_data_url(self) -> str:
         """The map as a `data:` URL."""
-        return self._written(library.write_url).decode()
+        return self._write(library.write_url).decode()

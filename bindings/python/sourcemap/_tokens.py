@@ -79,7 +79,7 @@ def words_of(positions: Positions) -> memoryview:
     try:
         view = memoryview(positions)  # type: ignore[arg-type]
     except TypeError:
-        return memoryview(_packed(cast(Iterable[Position], positions)))
+        return memoryview(_pack(cast(Iterable[Position], positions)))
     order = '@=' + ('<' if sys.byteorder == 'little' else '>')
     if view.itemsize != 4 or view.format.lstrip(order) not in ('I', 'L'):
         raise TypeError(f'a buffer of positions has items of uint32, not of format {view.format!r}')
@@ -88,7 +88,7 @@ def words_of(positions: Positions) -> memoryview:
     return view
 
 
-def _packed(positions: Iterable[Position]) -> 'array[int]':
+def _pack(positions: Iterable[Position]) -> 'array[int]':
     words = array('I')
     append = words.append
     try:

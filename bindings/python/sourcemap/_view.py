@@ -98,7 +98,7 @@ def resolve(url: str, base: str) -> Optional[str]:
     >>> sourcemap.resolve('../m/a.js.map', 'http://localhost/x/y/a.js')
     'http://localhost/x/m/a.js.map'
     """
-    return _resolved(library.resolve, url, base)
+    return _resolve(library.resolve, url, base)
 
 
 def resolve_path(url: str, path: str) -> Optional[str]:
@@ -110,7 +110,7 @@ def resolve_path(url: str, path: str) -> Optional[str]:
     >>> sourcemap.resolve_path('../m/a.js.map', '/x/y/a.js')
     '/x/m/a.js.map'
     """
-    return _resolved(library.resolve_path, url, path)
+    return _resolve(library.resolve_path, url, path)
 
 
 def relative_path(base: str, target: str) -> str:
@@ -122,17 +122,17 @@ def relative_path(base: str, target: str) -> str:
     >>> sourcemap.relative_path('/foo/bar/baz.js', '/foo/baz.map')
     '../baz.map'
     """
-    return _made_of(library.relative_path, base, target)
+    return _make_text_of(library.relative_path, base, target)
 
 
-def _resolved(call: library.Call, url: str, base: str) -> Optional[str]:
+def _resolve(call: library.Call, url: str, base: str) -> Optional[str]:
     try:
-        return _made_of(call, url, base)
+        return _make_text_of(call, url, base)
     except errors.Absent:
         return None
 
 
-def _made_of(call: library.Call, one: str, other: str) -> str:
+def _make_text_of(call: library.Call, one: str, other: str) -> str:
     with MadeText() as result:
         run(call, *pointer_to(one), *pointer_to(other), result._at)
         return result.read().decode()

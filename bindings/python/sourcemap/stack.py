@@ -68,7 +68,7 @@ class Translator:
         if original is None:
             return [frame.text]
         function = None if column is None else original_function(frame, generated, line, column)
-        text = frame.rewritten(original.location(), None if function is None else printable(function))
+        text = frame.rewrite(original.location(), None if function is None else printable(function))
         return [text, *self._excerpt(frame, generated.map, original)]
 
     def _position(self, frame: Frame) -> Optional[Tuple[int, Optional[int]]]:
@@ -142,13 +142,13 @@ def excerpt(view: View, line: int, column: Optional[int], context: int) -> List[
     lines = []
     for number in numbers:
         mark = '>' if number == line else ' '
-        lines.append(f'{mark} {number + 1:{width}} | {shortened(view[number], start)}'.rstrip())
+        lines.append(f'{mark} {number + 1:{width}} | {shorten(view[number], start)}'.rstrip())
         if number == line and before is not None:
-            lines.append(f'  {"":{width}} | {"":{len(shortened(before, start))}}^')
+            lines.append(f'  {"":{width}} | {"":{len(shorten(before, start))}}^')
     return lines
 
 
-def shortened(line: str, start: int) -> str:
+def shorten(line: str, start: int) -> str:
     """The piece of a source line from `start` on that is printed, with spaces for tabs."""
     return printable(line[start : start + LONGEST_LINE].expandtabs(4))
 

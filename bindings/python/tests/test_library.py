@@ -23,7 +23,7 @@ STRUCTS = {'sm_handle': _library.Handle, 'sm_text': _library.Text, 'sm_error': _
            'sm_debug_id': _library.DebugId, 'sm_section_start': _library.SectionStart}
 
 
-def declared():
+def header_functions():
     """The functions of the header: their names, with the type that they return and those of their arguments."""
     return {name: (TYPES[result], [ctypes.c_void_p if '*' in kind else TYPES[kind.strip()] for kind, _ in parameters])
             for name, result, parameters in declared_functions()}
@@ -38,7 +38,7 @@ def functions():
 
 class Declared(unittest.TestCase):
     def test_functions(self):
-        header = declared()
+        header = header_functions()
         # the package does not use sm_lookup: one position is looked up by sm_lookup_many
         self.assertEqual(set(header) - {'sm_lookup'}, {name for name, _ in functions()})
         for name, types in functions():

@@ -203,7 +203,7 @@ class LargeMap(unittest.TestCase):
         cls.starts = starts
         cls.positions = [(drawn.randrange(5001), drawn.randrange(2001)) for _ in range(20_000)]
 
-    def expected(self, position):
+    def expected_answer(self, position):
         at = bisect_right(self.starts, position)
         return self.due(self.tokens[at - 1]) if at else None
 
@@ -219,16 +219,16 @@ class LargeMap(unittest.TestCase):
 
     def test_one_position(self):
         for position in self.positions[:5000]:
-            self.assertEqual(self.map.lookup(*position), self.expected(position))
+            self.assertEqual(self.map.lookup(*position), self.expected_answer(position))
 
     def test_many_positions(self):
-        expected = [self.expected(position) for position in self.positions]
+        expected = [self.expected_answer(position) for position in self.positions]
         answers = self.map.lookup_many(array('I', chain(*self.positions)))
         self.assertEqual(list(answers), expected)
         self.assertEqual(answers.lines.tolist(), [token.line if token else 0 for token in expected])
 
     def test_texts(self):
-        expected = [self.expected(position) for position in self.positions[:300]]
+        expected = [self.expected_answer(position) for position in self.positions[:300]]
         for position, token in zip(self.positions, expected):
             self.assertEqual(self.map.lookup_text(*position), None if token is None else str(token))
         answers = self.map.trace(''.join(f'{line}:{column}\n' for line, column in self.positions[:300]))

@@ -60,10 +60,10 @@ class Program(unittest.TestCase):
                 self.assertEqual(run(*words), ('', 1, f'sourcemap: {file}: {reason}\n'))
 
     def test_stack_without_a_frame(self):
-        said = 'sourcemap: standard input has no stack frame that names a file and a line\n'
+        message = 'sourcemap: standard input has no stack frame that names a file and a line\n'
         for data in '', 'Error: boom\n', '    at native\n[native code]':
             with self.subTest(data):
-                self.assertEqual(run('stack', data=data), (data, 0, said))
+                self.assertEqual(run('stack', data=data), (data, 0, message))
         for data in '    at f (/none.js:1:1)\n', 'Error: boom\nf@https://h/none.js:1:1\n':
             with self.subTest(data):
                 self.assertEqual(run('stack', data=data), (data, 0, ''))

@@ -12,7 +12,7 @@ def text_at(map, line, column):
     return 'none' if token is None else str(token)
 
 
-def mapped(tokens):
+def map_of(tokens):
     """A regular map of tokens, each with its generated and its original position."""
     with Builder() as builder:
         source = builder.add_source('a.js')
@@ -114,8 +114,8 @@ class Written(unittest.TestCase):
 
 class Composed(unittest.TestCase):
     def compose(self, originals, adjustments):
-        map = mapped(originals)
-        map.compose(mapped(adjustments))
+        map = map_of(originals)
+        map.compose(map_of(adjustments))
         return pairs(map)
 
     def test_stretches(self):
@@ -129,10 +129,10 @@ class Composed(unittest.TestCase):
 
     def test_last_column(self):
         last = [((0, 4294967295), (0, 0))]
-        map = mapped([((0, 0), (7, 7)), ((0, 1), (8, 8))])
+        map = map_of([((0, 0), (7, 7)), ((0, 1), (8, 8))])
         before = map.dumps()
         with self.assertRaises(errors.IncompatibleSourceMap):
-            map.compose(mapped(last))
+            map.compose(map_of(last))
         self.assertEqual(map.dumps(), before)
         self.assertEqual(self.compose([((0, 0), (7, 7))], last), [((0, 4294967295), (7, 7))])
 

@@ -183,7 +183,7 @@ class Lines(unittest.TestCase):
             with self.subTest(line):
                 frame = parse_frame(line)
                 assert frame is not None
-                self.assertEqual(frame.rewritten('src/x.js:5:6', 'read'), expected)
+                self.assertEqual(frame.rewrite('src/x.js:5:6', 'read'), expected)
 
     def test_path_parts(self) -> None:
         for file, expected in PATHS:
@@ -201,57 +201,57 @@ class Traces(unittest.TestCase):
         self.generated = example.write(self.root)
         self.map = self.generated.with_name('app.min.js.map')
 
-    def translated(self, trace: str, *, map: Optional[Map] = None, columns_from: int = 1, context: int = 0) -> str:
+    def translate(self, trace: str, *, map: Optional[Map] = None, columns_from: int = 1, context: int = 0) -> str:
         """The trace with original positions; without context it has no lines of the sources."""
         translator = stack.Translator(Finder(self.root, map), columns_from, context)
         lines = ''.join(stack.translate_lines(trace.splitlines(keepends=True), translator))
         return lines if context else ''.join(line for line in lines.splitlines(keepends=True) if ' | ' not in line)
 
     def test_v8(self) -> None:
-        self.assertEqual(self.translated(V8_TRACE, context=1), V8_ORIGINAL)
+        self.assertEqual(self.translate(V8_TRACE, context=1), V8_ORIGINAL)
 
     def test_spidermonkey(self) -> None:
-        self.assertEqual(self.translated(SPIDERMONKEY_TRACE), SPIDERMONKEY_ORIGINAL)
+        self.assertEqual(self.translate(SPIDERMONKEY_TRACE), SPIDERMONKEY_ORIGINAL)
 
     def test_javascriptcore(self) -> None:
-        self.assertEqual(self.translated(JAVASCRIPTCORE_TRACE), JAVASCRIPTCORE_ORIGINAL)
+        self.assertEqual(self.translate(JAVASCRIPTCORE_TRACE), JAVASCRIPTCORE_ORIGINAL)
 
     def test_columns_from_0(self) -> None:
         rows = [(0, 20, '2:9'), (1, 20, '2:3'), (0, 0, '1:1'), (1, 1, '1:1')]
         for columns_from, column, expected in rows:
             with self.subTest(columns_from=columns_from, column=column):
                 trace = f'@dist/app.min.js:1:{column}\n'
-                self.assertEqual(self.translated(trace, columns_from=columns_from), f'@../src/app.js:{expected}\n')
+                self.assertEqual(self.translate(trace, columns_from=columns_from), f'@../src/app.js:{expected}\n')
 
     def test_positions_that_are_not_there(self) -> None:
         for position in ('1:0', '0:1', '2:1', '9999999999:1', '1:9999999999', '3'):
             with self.subTest(position):
                 trace = f'a@dist/app.min.js:{position}\n'
-                self.assertEqual(self.translated(trace), trace)
+                self.assertEqual(self.translate(trace), trace)
 
     def test_eval(self) -> None:
         trace = '    at eval (eval at n (/srv/dist/app.min.js:1:62), <anonymous>:1:1)\n'
         expected = '    at eval (eval at main (../src/app.js:6:3), <anonymous>:1:1)\n'
-        self.assertEqual(self.translated(trace), expected)
+        self.assertEqual(self.translate(trace), expected)
 
     def test_crlf_and_no_end(self) -> None:
         trace = 'Error: boom\r\n    at a (dist/app.min.js:1:21)\r\n    at n (dist/app.min.js:1:62)'
         expected = 'Error: boom\r\n    at readAll (../src/app.js:2:9)\r\n    at main (../src/app.js:6:3)'
-        self.assertEqual(self.translated(trace).rstrip('\n'), expected)
-        added = self.translated(trace, context=1).split('\r\n')
+        self.assertEqual(self.translate(trace).rstrip('\n'), expected)
+        added = self.translate(trace, context=1).split('\r\n')
         self.assertEqual(added[3], "        > 2 |   throw new Error('cannot read ' + path);")
 
     def test_names_need_the_generated_text(self) -> None:
         self.generated.unlink()
         trace = '    at a (dist/app.min.js:1:21)\n    at n (dist/app.min.js:1:62)\n'
         expected = '    at a (../src/app.js:2:9)\n    at n (../src/app.js:6:3)\n'
-        self.assertEqual(self.translated(trace), expected)
+        self.assertEqual(self.translate(trace), expected)
 
     def test_one_map_for_all_frames(self) -> None:
         map = Map.load(self.map)
         trace = 'a@elsewhere.js:1:21\n    at Module.load (node:internal/modules/cjs/loader:1:21)\nb@[native code]\n'
         expected = trace.replace('elsewhere.js:1:21', '../src/app.js:2:9')
-        self.assertEqual(self.translated(trace, map=map), expected)
+        self.assertEqual(self.translate(trace, map=map), expected)
 
     def test_without_a_column(self) -> None:
         """The line alone determines the original line only if all of its tokens agree."""
@@ -263,8 +263,8 @@ class Traces(unittest.TestCase):
         rows = [('1', 'x.js:8'), ('2', 'dist/lines.js:2'), ('3', 'dist/lines.js:3'), ('1:5', 'x.js:8:10')]
         for position, expected in rows:
             with self.subTest(position):
-                self.assertEqual(self.translated(f'f@dist/lines.js:{position}\n'), f'f@{expected}\n')
-        self.assertEqual(self.translated('@dist/lines.js line 1 > eval:1:1\n'), '@x.js:8 > eval:1:1\n')
+                self.assertEqual(self.translate(f'f@dist/lines.js:{position}\n'), f'f@{expected}\n')
+        self.assertEqual(self.translate('@dist/lines.js line 1 > eval:1:1\n'), '@x.js:8 > eval:1:1\n')
 
     def test_references(self) -> None:
         """A reference as a path, a path on a server, a `data:` URL, a URL, and two that lead nowhere."""
@@ -284,7 +284,7 @@ class Traces(unittest.TestCase):
             with self.subTest(reference[:40]):
                 self.refer(reference)
                 expected = 'readAll@../src/app.js:2:9\n' if is_found else 'a@dist/app.min.js:1:21\n'
-                self.assertEqual(self.translated('a@dist/app.min.js:1:21\n'), expected)
+                self.assertEqual(self.translate('a@dist/app.min.js:1:21\n'), expected)
 
     def refer(self, reference: str) -> None:
         code = example.GENERATED.partition('\n')[0]
@@ -331,15 +331,15 @@ class Traces(unittest.TestCase):
 
     def test_map_beside_a_text_without_reference(self) -> None:
         self.generated.write_text(example.GENERATED.partition('\n')[0], 'utf-8')
-        self.assertEqual(self.translated('n@app.min.js:1:62\n'), 'n@app.min.js:1:62\n')
-        self.assertEqual(self.translated('n@dist/app.min.js:1:62\n'), 'main@../src/app.js:6:3\n')
+        self.assertEqual(self.translate('n@app.min.js:1:62\n'), 'n@app.min.js:1:62\n')
+        self.assertEqual(self.translate('n@dist/app.min.js:1:62\n'), 'main@../src/app.js:6:3\n')
 
     def test_faulty_map(self) -> None:
         """It is reported once, and the frames are printed unchanged."""
         self.map.write_text('{"version":3', 'utf-8')
         errors = io.StringIO()
         with contextlib.redirect_stderr(errors):
-            trace = self.translated(SPIDERMONKEY_TRACE)
+            trace = self.translate(SPIDERMONKEY_TRACE)
         self.assertEqual(trace, SPIDERMONKEY_TRACE)
         self.assertEqual(errors.getvalue().count('bad json'), 1)
 
@@ -347,7 +347,7 @@ class Traces(unittest.TestCase):
         refused = PermissionError(errno.EACCES, 'Permission denied', str(self.map))
         errors = io.StringIO()
         with contextlib.redirect_stderr(errors), mock.patch('sourcemap._generated.open_map', side_effect=refused):
-            trace = self.translated(SPIDERMONKEY_TRACE)
+            trace = self.translate(SPIDERMONKEY_TRACE)
         self.assertEqual(trace, SPIDERMONKEY_TRACE)
         self.assertEqual(errors.getvalue(), f'sourcemap: the map of {self.generated}: {self.map}: Permission denied\n')
 
@@ -367,7 +367,7 @@ class Traces(unittest.TestCase):
     def test_index_map(self) -> None:
         section = {'offset': {'line': 0, 'column': 0}, 'map': json.loads(example.MAP)}
         self.map.write_text(json.dumps({'version': 3, 'sections': [section]}), 'utf-8')
-        self.assertEqual(self.translated(V8_TRACE, context=1), V8_ORIGINAL)
+        self.assertEqual(self.translate(V8_TRACE, context=1), V8_ORIGINAL)
 
     def test_excerpt_of_a_long_line(self) -> None:
         """The column stays in view, tabs become spaces, and characters that may command a terminal are replaced."""
@@ -406,7 +406,7 @@ class Traces(unittest.TestCase):
         """A trace that the installed Node prints."""
         done = subprocess.run(['node', str(self.generated)], stderr=subprocess.PIPE, text=True, check=False)
         self.assertIn('app.min.js:1:21)', done.stderr)
-        lines = self.translated(done.stderr).splitlines()
+        lines = self.translate(done.stderr).splitlines()
         first = lines.index('Error: cannot read data.txt') + 1
         self.assertEqual(lines[first : first + 3], [
             '    at readAll (../src/app.js:2:9)',
