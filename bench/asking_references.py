@@ -142,7 +142,7 @@ fn put_loaded<F: Files, W: io::Write>(rt: &F, alloc: Global, question: &Value, o
     Ok(write!(output, "]")?)
 }
 
-fn rewritten<F: Files>(rt: &F, alloc: Global, question: &Value) -> Result<SourceMap> {
+fn rewrite_map<F: Files>(rt: &F, alloc: Global, question: &Value) -> Result<SourceMap> {
     let mut options = RewriteOptions::default();
     match text_at(question, 0) {
         "cut" => options.strip_prefixes = &["~"],
@@ -187,7 +187,7 @@ fn put_answer<F: Files, W: io::Write>(rt: &F, alloc: Global, question: &Value, o
             Ok(write!(output, "[{slice},{reader}]")?)
         }
         "load" => put_loaded(rt, alloc, question, output),
-        "rewrite" | "cut" => put_sources(alloc, rewritten(rt, alloc, question), output),
+        "rewrite" | "cut" => put_sources(alloc, rewrite_map(rt, alloc, question), output),
         _ => Ok(()),
     }
 }

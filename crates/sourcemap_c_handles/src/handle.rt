@@ -20,7 +20,7 @@ pub struct Handle {
 
 impl Drop for Handle {
     fn drop(self) {
-        drop(self.into_held());
+        drop(self.into_option());
     }
 }
 
@@ -53,10 +53,10 @@ impl Handle {
         ensures value { option_map (λ held. held.value) result ≡ held_in self.old }
         ensures empty { held_in self.new ≡ None }
     {
-        mem::replace(self, Handle::empty(alloc)).into_held()
+        mem::replace(self, Handle::empty(alloc)).into_option()
     }
 
-    fn into_held(self) -> Option<Box<Held>>
+    fn into_option(self) -> Option<Box<Held>>
         ensures { option_map (λ held. held.value) result ≡ held_in self }
     {
         let Handle { sealed, full } = self;

@@ -15,7 +15,7 @@ use Rattle.sourcemap_map_rewrite.specs.Kept.{kept_once, number_in}
 use Rattle.sourcemap_map_rewrite.specs.Numbering.{IsListedIfAny}
 use Rattle.sourcemap_interning.proofs.ItemLemmas.{slice_get-set_same, slice_get-set_other}
 use Rattle.sourcemap_map_rewrite.proofs.NumberingLemmas.{option_or-None, id_of-fold, id_of-added, distinct-kept_once}
-use Rattle.sourcemap_index_flatten.specs.Table.{TextEntry, texts_entered, contents_entered, entries_kept, numbers_among, are_too_many, put_at, entry_value, entry_values, IsTable, IsEntered, AreEntered}
+use Rattle.sourcemap_index_flatten.specs.Table.{TextEntry, texts_entered, contents_entered, entries_kept, numbers_among, are_too_many, with_entry, entry_value, entry_values, IsTable, IsEntered, AreEntered}
 use Rattle.sourcemap_index_flatten.specs.declared.table.Entry.{Entry}
 use Rattle.sourcemap_index_flatten.specs.declared.table.Table.{Table}
 
@@ -195,14 +195,14 @@ module _ (before : List TextEntry) (e : TextEntry) where
     kept_there : id_of e.0 T ≡ None → map (with_contents after) T ≡ entries_kept before
     kept_there new = kept-same (λ k text at. rw (apart-from_new (texts_entered before) e.0 new k text at distinct) refl)
 
-    put-new : id_of e.0 T ≡ None → put_at n e (entries_kept before) ≡ entries_kept after
+    put-new : id_of e.0 T ≡ None → with_entry n e (entries_kept before) ≡ entries_kept after
     put-new new =
         let texts : texts_entered after ≡ T ++ e.0 ∷ [] = one_more ∙ rw new refl in
         let last : id_of e.0 (T ++ e.0 ∷ []) ≡ Some (length T) = id_of-last T e.0 (length T) refl new in
         let here : Some n ≡ Some (length T) = sym found ∙ ap (id_of e.0) texts ∙ last in
         let same : n ≡ length T = cc in
         let appended : nat_lt n (length (entries_kept before)) ≡ false = not_lt n (length (entries_kept before)) (λ less. omega (arith, less, many, same)) in
-        let put : put_at n e (entries_kept before) ≡ entries_kept before ++ e ∷ [] = rw appended refl in
+        let put : with_entry n e (entries_kept before) ≡ entries_kept before ++ e ∷ [] = rw appended refl in
         let kept : map (with_contents after) T ≡ entries_kept before = kept_there new in
         let it : with_contents after e.0 ≡ e = λ i. (e.0, contents-here new i) in
         put ∙ sym (ap (map (with_contents after)) texts ∙ map_push (with_contents after) T e.0 ∙ (λ i. kept i ++ it i ∷ []))
@@ -256,7 +256,7 @@ module _ (before : List TextEntry) (e : TextEntry) where
     by_contents at within (Some c) is =
         ap (λ o. cond (is_some o) (slice_set (entries_kept before) n e) (entries_kept before)) is ∙ set-numbered at within c is
 
-    put-numbered : (m : ℕ) → id_of e.0 T ≡ Some m → put_at n e (entries_kept before) ≡ entries_kept after
+    put-numbered : (m : ℕ) → id_of e.0 T ≡ Some m → with_entry n e (entries_kept before) ≡ entries_kept after
     put-numbered m numbered =
         let texts : texts_entered after ≡ T = one_more ∙ rw numbered refl in
         let here : Some n ≡ Some m = sym found ∙ ap (id_of e.0) texts ∙ numbered in
@@ -264,13 +264,13 @@ module _ (before : List TextEntry) (e : TextEntry) where
         let at : slice_get T n ≡ Some e.0 = slice_get-id_of e.0 T n (numbered ∙ ap Some (sym same)) in
         let within : n < length T = slice_get_within T n e.0 at in
         let inside : nat_lt n (length (entries_kept before)) ≡ true = lt-ltb n (length (entries_kept before)) (subst (λ k. n < k) (sym many) within) in
-        let put : put_at n e (entries_kept before) ≡ cond (is_some e.1) (slice_set (entries_kept before) n e) (entries_kept before) = rw inside refl in
+        let put : with_entry n e (entries_kept before) ≡ cond (is_some e.1) (slice_set (entries_kept before) n e) (entries_kept before) = rw inside refl in
         put ∙ by_contents at within e.1 refl ∙ sym (ap (map (with_contents after)) texts)
 
-    put-entered : put_at n e (entries_kept before) ≡ entries_kept after
+    put-entered : with_entry n e (entries_kept before) ≡ entries_kept after
     put-entered = by_case (id_of e.0 T) refl
       where
-        by_case : (o : Option ℕ) → id_of e.0 T ≡ o → put_at n e (entries_kept before) ≡ entries_kept after
+        by_case : (o : Option ℕ) → id_of e.0 T ≡ o → with_entry n e (entries_kept before) ≡ entries_kept after
         by_case None new = put-new new
         by_case (Some m) numbered = put-numbered m numbered
 
@@ -280,13 +280,13 @@ pub table-none : (t : Table) → t.ids ≡ [] → entry_values t.entries.items �
 table-none t index none = record { index = index; kept = none; few = omega arith }
 
 -- let `old` be the table after `before` was entered, and let `number` be the id of the text of `e` in `new`. If
--- `with_text` and `put_at number` make `new` from `old`, then `new` is the table after `before` and `e` were entered.
+-- `with_text` and `with_entry number` make `new` from `old`, then `new` is the table after `before` and `e` were entered.
 -- If the text of `e` is new, `old` must have fewer than 4294967295 texts
 pub entered-more : (before : List TextEntry) (e : TextEntry) (number : ℕ) (old new : Table) → IsTable before old
     → (id_of e.0 old.ids ≡ None → length old.ids < 4294967295)
     → id_of e.0 new.ids ≡ Some number
     → new.ids ≡ with_text old.ids e.0
-    → entry_values new.entries.items ≡ put_at number e (entry_values old.entries.items)
+    → entry_values new.entries.items ≡ with_entry number e (entry_values old.entries.items)
     → IsEntered (before ++ e ∷ []) e.0 number new
 entered-more before e number old new is free found index put =
     let texts = texts-push before e in
@@ -295,7 +295,7 @@ entered-more before e number old new is free found index put =
     record {
       table = record {
         index = indexed;
-        kept = put ∙ ap (put_at number e) is.kept ∙ put-entered before e number text_id;
+        kept = put ∙ ap (with_entry number e) is.kept ∙ put-entered before e number text_id;
         few = subst (λ texts. length texts ≤ 4294967295) (sym texts) (few (id_of e.0 (texts_entered before)) refl);
       };
       text_id = text_id;
@@ -357,7 +357,7 @@ module _ (entries : List Entry) (number : ℕ) (e : Entry) where
   many_values : length (entry_values entries) ≡ length entries
   many_values = length-map entries entry_value
 
-  pub put-appended : (put : List Entry) → length entries ≤ number → put ≡ entries ++ e ∷ [] → entry_values put ≡ put_at number (entry_value e) (entry_values entries)
+  pub put-appended : (put : List Entry) → length entries ≤ number → put ≡ entries ++ e ∷ [] → entry_values put ≡ with_entry number (entry_value e) (entry_values entries)
   put-appended put past is =
       let no : nat_lt number (length (entry_values entries)) ≡ false = not_lt number (length (entry_values entries)) (λ less. omega (arith, less, many_values, past)) in
       ap entry_values is ∙ map_push entry_value entries e ∙ sym (rw no refl)
@@ -365,11 +365,11 @@ module _ (entries : List Entry) (number : ℕ) (e : Entry) where
   inside : number < length entries → nat_lt number (length (entry_values entries)) ≡ true
   inside within = lt-ltb number (length (entry_values entries)) (omega (arith, within, many_values))
 
-  pub put-over : (put : List Entry) → number < length entries → is_some e.contents ≡ true → put ≡ slice_set entries number e → entry_values put ≡ put_at number (entry_value e) (entry_values entries)
+  pub put-over : (put : List Entry) → number < length entries → is_some e.contents ≡ true → put ≡ slice_set entries number e → entry_values put ≡ with_entry number (entry_value e) (entry_values entries)
   put-over put within some is =
       ap entry_values is ∙ map-set entry_value entries number e ∙ sym (rw (inside within, is_some-copied e, some) refl)
 
-  pub put-kept : (put : List Entry) → number < length entries → is_some e.contents ≡ false → put ≡ entries → entry_values put ≡ put_at number (entry_value e) (entry_values entries)
+  pub put-kept : (put : List Entry) → number < length entries → is_some e.contents ≡ false → put ≡ entries → entry_values put ≡ with_entry number (entry_value e) (entry_values entries)
   put-kept put within none is = ap entry_values is ∙ sym (rw (inside within, is_some-copied e, none) refl)
 
 -- if entering the first `i + 1` of `entries` gives too many texts, entering all of `entries` gives too many texts

@@ -58,8 +58,8 @@ pub record AreEntered (entered entries : List TextEntry) (numbers : List ℕ) (t
 
 -- `entries` after `e` was entered. If `number` is not an index of `entries`, `e` is appended. Otherwise, if `e` has
 -- contents, `e` replaces the entry at the index `number`. If `e` has no contents, that entry stays
-abbrev pub put_at : ℕ → TextEntry → List TextEntry → List TextEntry
-put_at number e entries =
+abbrev pub with_entry : ℕ → TextEntry → List TextEntry → List TextEntry
+with_entry number e entries =
     cond (nat_lt number (length entries))
     (cond (is_some e.1) (slice_set entries number e) entries)
     (entries ++ e ∷ [])

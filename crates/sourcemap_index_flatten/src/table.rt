@@ -3,7 +3,7 @@ ghost use Rattle.std.specs.Prelude.{◌≡◌, ◌<◌, ◌++◌, ◌∷◌, [],
 ghost use Rattle.sourcemap_interning.specs.Interner.{id_of, with_text};
 ghost use Rattle.sourcemap_errors.specs.declared.errors.Error.TheVariants.{OutOfMemory};
 ghost use Rattle.sourcemap_index_flatten.specs.Errors.{RefusesBy};
-ghost use Rattle.sourcemap_index_flatten.specs.Table.{AreEntered, IsEntered, IsTable, TextEntry, are_too_many, entry_value, entry_values, put_at, texts_entered};
+ghost use Rattle.sourcemap_index_flatten.specs.Table.{AreEntered, IsEntered, IsTable, TextEntry, are_too_many, entry_value, entry_values, with_entry, texts_entered};
 
 use crate::errors::too_many;
 use sourcemap_errors::errors::Result;
@@ -102,7 +102,7 @@ fn is_full(ids: &TextIndex<'_>, text: &str) -> bool
 // the index `number`, but only if `item` has contents.
 fn push_or_replace<'a>(entries: &mut Vec<Entry<'a>>, number: usize, item: Entry<'a>) -> Result<()>
     ensures ok { OnOk result (entry_values entries.new.items
-        ≡ put_at number (entry_value item.entry) (entry_values entries.old.items)) }
+        ≡ with_entry number (entry_value item.entry) (entry_values entries.old.items)) }
     ensures memory { IsOkUnless result OutOfMemory }
 {
     if number >= entries.len() {

@@ -69,11 +69,11 @@ fn owned_unless_root(alloc: Global, prefix: &str) -> Result<Option<String>>
 fn common_start<'a>(a: &'a str, b: &str) -> &'a str
     ensures { path_parts result.now ≡ common_parts (path_parts a.now) (path_parts b.now) }
 {
-    &a[..common_length(a.as_bytes(), b.as_bytes())]
+    &a[..common_parts_length(a.as_bytes(), b.as_bytes())]
 }
 
 // The length in bytes of the equal parts at the start of both paths: 2 for `/a/b` and `/a/bc`.
-fn common_length(a: &[u8], b: &[u8]) -> usize
+fn common_parts_length(a: &[u8], b: &[u8]) -> usize
     ensures parts { path_parts (take result a.now)
         ≡ common_parts (path_parts a.now) (path_parts b.now) }
     ensures within { result ≤ length a.now }

@@ -1,8 +1,8 @@
 use Rattle.std.proofs.Common.{◌≡◌, ◌+◌, ◌∙◌, cond, sym, subst, take, get_or}
 use Rattle.sourcemap_texts.specs.Paths.{path_parts, common_parts, is_separator}
 use Rattle.sourcemap_texts.proofs.PathsLemmas.{shared, IsWalk, IsWalk-start, IsWalk-step, IsWalk-cut, IsWalk-kept, path_parts-shared, IsCut, IsCut-shared}
-use Rattle.sourcemap_texts.proofs.paths.common_length.Goals as goal
-use Rattle.sourcemap_texts.proofs.paths.common_length.Goals.{then-is_separator, else-is_separator}
+use Rattle.sourcemap_texts.proofs.paths.common_parts_length.Goals as goal
+use Rattle.sourcemap_texts.proofs.paths.common_parts_length.Goals.{then-is_separator, else-is_separator}
 
 pub loop-kept-init : goal.loop-kept-init
 loop-kept-init c = IsWalk-start c.args.a.now c.args.b.now
