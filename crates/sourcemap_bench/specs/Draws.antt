@@ -10,7 +10,7 @@ step = 11400714819323198485
 abbrev pub stirred : ℕ → ℕ → ℕ → ℕ
 stirred shift factor n = (bit_xor n (n / 2 ^ shift) * factor) % 2 ^ 64
 
--- the output of the generator splitmix64 for the state of 64 bits after `step` is added
+-- the output of the generator splitmix64 for the state `n` of 64 bits, to which `step` has already been added
 abbrev pub scrambled : ℕ → ℕ
 scrambled n =
     let m = stirred 27 10723151780598845931 (stirred 30 13787848793156543929 n) in

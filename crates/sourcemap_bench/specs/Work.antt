@@ -38,8 +38,8 @@ SizeOfFlat t old new = (m : MapValue) × FlatAnswer t (Ok m) × (new ≡ counted
 abbrev pub SizeOfAdjusted : MapValue → MapValue → ℕ → ℕ → Type 0
 SizeOfAdjusted m n old new = (c : MapValue) × (adjusted m n ≡ Ok c) × (new ≡ counted old (length c.tokens))
 
--- a round changes the checksum from `old` to `new`. For a `Lookup` in an index map whose sections are not sorted by
--- offset at every level, `new` may be any checksum
+-- a round changes the checksum from `old` to `new`. For a `Lookup` in an index map, `new` may be any checksum unless
+-- the sections are sorted by offset at every level
 abbrev pub RoundGives : Work → ℕ → ℕ → Type 0
 RoundGives (Decode bytes) old new = SizeOfDecoded bytes.items old new
 RoundGives (DecodeReader bytes) old new = SizeOfDecoded bytes.items old new

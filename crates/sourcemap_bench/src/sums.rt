@@ -42,8 +42,8 @@ fn add_lookup(map: &DecodedMap, sum: u32, position: (u32, u32)) -> u32
 }
 
 /// Looks up each of these generated positions with `lookup_token`, in order. Adds `worth` of each
-/// result to the checksum `start`, and returns the new checksum. If the sections of an index map
-/// are not sorted by offset at every level, the checksum may be wrong.
+/// result to the checksum `start`, and returns the new checksum. For an index map, the checksum may
+/// be wrong unless the sections are sorted by offset at every level.
 pub fn lookup_sum(map: &DecodedMap, positions: &[(u32, u32)], start: u32) -> u32
     ensures { IsInOrder (map_tree map.now)
         → result ≡ lookup_sum (map_tree map.now) positions.now start }

@@ -96,8 +96,8 @@ fn index_and_text(alloc: Global, bytes: &[u8]) -> Result<(SourceMapIndex, &str)>
     Ok((index, text))
 }
 
-// Sets the file name to each line after the first, in turn. Returns the byte count of the file name
-// that the index map then has, 0 if it has none.
+// Sets the file name of the index map to each line after the first, in turn. Returns the byte count
+// of the resulting file name, 0 if there is no file name.
 fn set_file(alloc: Global, bytes: &[u8]) -> Result<usize> {
     let (mut index, text) = index_and_text(alloc, bytes)?;
     for line in text.lines() {

@@ -1,4 +1,5 @@
-//! Makes one call on the bytes of standard input, so that its time and memory can be measured.
+//! Makes one call on the bytes of standard input, so that the time and the memory of this call can
+//! be measured.
 #![tactic(auto)]
 
 mod builders;

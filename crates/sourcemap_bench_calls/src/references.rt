@@ -35,7 +35,7 @@ pub fn locate_by_view(alloc: Global, bytes: &[u8]) -> Result<usize> {
 }
 
 /// The byte count of the URL that the reference in a text resolves to. 0 if there is no reference,
-/// or if it resolves to no URL.
+/// or if the reference resolves to no URL.
 pub fn resolve_reference(alloc: Global, bytes: &[u8]) -> Result<usize> {
     match locate_sourcemap_reference_slice(alloc, bytes)? {
         Some(reference) => {
@@ -47,7 +47,7 @@ pub fn resolve_reference(alloc: Global, bytes: &[u8]) -> Result<usize> {
 }
 
 /// The byte count of the path that the reference in a text resolves to. 0 if there is no reference,
-/// or if it resolves to no path.
+/// or if the reference resolves to no path.
 pub fn resolve_reference_path(alloc: Global, bytes: &[u8]) -> Result<usize> {
     match locate_sourcemap_reference_slice(alloc, bytes)? {
         Some(reference) => {

@@ -6,8 +6,10 @@ use crate::lines::{contents_size, number_in, source_size, split_first_line};
 use sourcemap::{Result, SourceMap};
 use std::alloc::Global;
 
-/// Decodes the map on the first line of `bytes`, and changes it with the values on the other lines,
-/// as `Setter` says. Returns a size of the changed map.
+/// Decodes the map on the first line of `bytes`, and changes the map with the values on the other
+/// lines, as `Setter` says. Returns a byte count of the changed map: of all sources (`Root`,
+/// `Sources`), of all contents (`Contents`), or of the file name (`File`). `Ignore` returns the
+/// length of the ignore list.
 pub fn size_of(alloc: Global, setter: Setter, bytes: &[u8]) -> Result<usize> {
     let (line, text) = split_first_line(bytes)?;
     let map = SourceMap::from_slice(alloc, line.as_bytes())?;

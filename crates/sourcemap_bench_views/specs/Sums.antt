@@ -12,14 +12,14 @@ mixed sum number = (31 * sum + number) % 2 ^ 32
 abbrev pub counted : ℕ → ℕ → ℕ
 counted sum count = mixed sum (min count 4294967295)
 
--- the result of adding the byte count of each of these lines to the checksum `sum`, in order. A byte count above
+-- the new checksum after the byte counts of `lines` are added to the checksum `sum`, in order. A byte count above
 -- 4294967295 is taken as 4294967295
 abbrev pub with_lengths : ℕ → List (List ℕ) → ℕ
 with_lengths sum lines = fold (λ sum line. counted sum (length line)) sum lines
 
--- the result of adding the byte count of each line of the text `source` to the checksum `start`, in order. Lines after
--- the first 4294967296 lines are ignored. Line terminators are not counted. A byte count above 4294967295 is taken as
--- 4294967295
+-- the new checksum after the byte counts of the lines in the text `source` are added to the checksum `start`, in order.
+-- Lines after the first 4294967296 lines are ignored. Line terminators are not counted. A byte count above 4294967295
+-- is taken as 4294967295
 abbrev pub line_sum : List ℕ → ℕ → ℕ
 line_sum source start = with_lengths start (take 4294967296 (line_bodies source))
 
@@ -33,9 +33,10 @@ abbrev pub name_worth : Option (List ℕ) → ℕ
 name_worth None = 0
 name_worth (Some name) = min (length name + 1) 4294967295
 
--- the result of adding one number to the checksum `start` for each of these generated positions, in order. At each
--- position, `function_name` guesses the original name of the function with the minified name `absent_name` in the
--- generated text `source`. The number is the `name_worth` of the guessed name, or 0 if no name is guessed
+-- the new checksum after one number for each generated position in `positions` is added to the checksum `start`, in
+-- order. At each position, `function_name` tries to guess the original name of the function that is called
+-- `absent_name` in the generated text `source`. The number for the position is the `name_worth` of the guessed name, or
+-- 0 if no name is guessed
 abbrev pub name_sum : MapValue → (source : List ℕ) → List (ℕ × ℕ) → ℕ → ℕ
 name_sum m source positions start =
     fold (λ sum p. mixed sum (name_worth (function_name m source absent_name p))) start positions

@@ -27,7 +27,7 @@ fn line_rounds(alloc: Global, text: &str, rounds: u32) -> Result<u32>
     Ok(sum)
 }
 
-// Each round guesses names at all of these positions.
+// Each round tries to guess a name at each position in `starts`.
 fn name_rounds(map: &SourceMap, view: &SourceView, starts: &[(u32, u32)], rounds: u32) -> u32
     ensures { result ≡ rounds_sum (name_sum map.now view.now starts.now) rounds }
 {

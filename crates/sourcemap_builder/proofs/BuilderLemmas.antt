@@ -36,8 +36,8 @@ with_changes-set (c ∷ cs) [] i x h = refl
 with_changes-set (c ∷ cs) (t ∷ ts) zero x h = refl
 with_changes-set (c ∷ cs) (t ∷ ts) (suc i) x h = ap (λ rest. unwrap_or c t ∷ rest) (with_changes-set cs ts i x (omega arith))
 
--- setting the change at an index `i` of `ts` to `x` sets the changed text at `i` to `x`. The list of changes is first
--- cut or filled to the length of `ts`
+-- let `i` be an index of `ts`. If the list of changes `cs` is cut or filled to the length of `ts`, and the change at
+-- `i` is then set to `x`, the changed texts are `with_changes cs ts` with the text at `i` set to `x`
 pub with_changes-put : (cs : List (Option (List ℕ))) (ts : List (List ℕ)) (i : ℕ) (x : List ℕ) → i < length ts → length (fitted (length ts) cs) ≡ length ts
     → with_changes (slice_set (fitted (length ts) cs) i (Some x)) ts ≡ slice_set (with_changes cs ts) i x
 with_changes-put cs ts i x h full =

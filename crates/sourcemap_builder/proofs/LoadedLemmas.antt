@@ -8,8 +8,8 @@ use Rattle.sourcemap_map_parts.proofs.ContentsLemmas.{slice_get-fitted}
 use Rattle.sourcemap_source_files.specs.Loading.{newly, Fills, IsNoFolder}
 use Rattle.sourcemap_builder.specs.Builder.{BuilderValue, Loads}
 
--- if `n` is at most `count`, cutting or filling the old contents to `count` items does not change how many of the first
--- `n` are new
+-- let `n` be at most `count`. Cutting or filling `before` to `count` items does not change the number of ids below `n`
+-- for which `after` has an item and `before` has none
 newly-fitted : (n count : ℕ) (before after : List (Option (List ℕ))) → n ≤ count → newly n (fitted count before) after ≡ newly n before after
 newly-fitted zero count before after h = refl
 newly-fitted (suc n) count before after h =

@@ -164,9 +164,9 @@ impl SourceMapBuilder {
         self.names.add(name)
     }
 
-    /// Replaces the source with this id. There must be a source with this id. `add_source` still
-    /// returns this id for the text with which the source was added. The only error is
-    /// `OutOfMemory`.
+    /// Changes the source with the id `id` to `source`. The builder must have a source with this
+    /// id. `add_source` still returns this id for the text with which the source was added. The
+    /// only error is `OutOfMemory`.
     pub fn set_source(&mut self, id: u32, source: &str) -> Result<()>
         requires { id < length self.old.sources }
         ensures { Changes result self.old self.new
@@ -253,9 +253,9 @@ impl SourceMapBuilder {
     /// folder. A `base_path` that is not absolute is joined to `current_dir`. Without a `base_path`
     /// the folder is `current_dir`. `sourceRoot` is not used. A source is skipped if it does not
     /// resolve to the path of a file, or if its file does not exist, cannot be read or is not
-    /// UTF-8. A source may also be skipped if the source and the URL of the folder, including each
-    /// `..`, together have 2^28 bytes or more. On success, the list of contents has one item for
-    /// each source.
+    /// UTF-8. A source may also be skipped if the URL of the folder, before `..` is resolved, and
+    /// the source together have 2^28 bytes or more. On success, the list of contents has one item
+    /// for each source.
     ///
     /// The error is `Io` of kind `InvalidInput` if neither `base_path` nor `current_dir` is
     /// absolute. Then the builder is unchanged. Any other error is `OutOfMemory`. Then contents
@@ -429,7 +429,7 @@ impl SourceMapBuilder {
             → IfOk result IsWellFormed }
     {
         let alloc = *self.tokens.allocator();
-        // prover: there are at most 4294967295 names and sources
+        // prover: there are at most 4294967295 names, and at most 4294967295 sources
         let _ = self.names.len();
         let _ = self.interned.len();
         let SourceMapBuilder {

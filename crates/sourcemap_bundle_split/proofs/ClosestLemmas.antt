@@ -6,8 +6,9 @@ use Rattle.std.specs.Ordering.{is_lt, is_eq}
 use Rattle.std.specs.declared.cmp.Ordering.{Ordering}
 use Rattle.sourcemap_tokens.specs.Search.{find_last, closest_item}
 
--- If a filter keeps the item that `find_last` finds, `find_last` finds the same item in the filtered list. If a filter
--- keeps every item that passes the test, `find` finds the same item in the filtered list.
+-- If a filter keeps every item that passes the test, `find` has the same result in the filtered list as in the whole
+-- list. If a filter keeps the item that `find_last` finds in the whole list, `find_last` finds this item in the
+-- filtered list too. If `find_last` finds nothing in the whole list, `find_last` finds nothing in the filtered list.
 
 find-filter : {X : Type 0} (test keep : X → Bool) (xs : List X) → ((x : X) → test x ≡ true → keep x ≡ true)
     → find test (filter keep xs) ≡ find test xs
@@ -105,7 +106,9 @@ module _ {X K : Type 0} (key : X → K) (cmp : K → K → Ordering) (p : K) whe
           let here : Some z ≡ Some y = (rw at at found) in find-among (λ x. is_eq (cmp (key x) p)) xs y (at ∙ here)
       by_cases None at = find_last-among (λ x. is_lt (cmp (key x) p)) xs y (rw at at found)
 
--- `f` changes each item. If each test has the same outcome as before, a search that found `x` now finds `f x`.
+-- For each item `x` of `xs`, let `f x` pass `test'` exactly if `x` passes `test`. If `find test` finds an item `x` in
+-- `xs`, `find test'` finds `f x` in `map f xs`. If `find test` finds nothing, `find test'` finds nothing. The same
+-- holds for `find_last`.
 
 find-map : {X Y : Type 0} (f : X → Y) (test : X → Bool) (test' : Y → Bool) (xs : List X)
     → AllByRecursion (λ x. test' (f x) ≡ test x) xs → find test' (map f xs) ≡ option_map f (find test xs)

@@ -121,7 +121,7 @@ pub in_order-moved : (line : ℕ) (sources names : List ℕ) (tokens : List RawT
 in_order-moved line sources names tokens later up =
     sorted_from_Rises stands_less (map (moved_by line sources names) tokens) (rises-moved line sources names tokens later (rising tokens up))
 
--- tokens that are not before the start of a line are on it or later
+-- the tokens that are not before the start of `line` are on `line` or on a later line
 pub later-from : (line : ℕ) (tokens : List RawToken) → All (λ t. line ≤ t.dst_line) (filter (λ t. not (stands_before (line, 0) t)) tokens)
 later-from line tokens =
     All-weaker (λ (t : RawToken). not (stands_before (line, 0) t) ≡ true) (λ (t : RawToken). line ≤ t.dst_line)

@@ -5,7 +5,7 @@ use Rattle.std.proofs.lemmas.Bool.Decides.{nat_tests}
 use Rattle.sourcemap_tokens.specs.Tokens.{position_cmp}
 use Rattle.sourcemap_bundle_split.specs.ModuleMap.{is_in}
 
--- a position that is in a range is on its first line or later
+-- a position in a range (`is_in`) is on the first line of the range or on a later line
 pub in-later : (line : ℕ) (end p : ℕ × ℕ) → is_in line end p ≡ true → line ≤ p.0
 in-later line end p inside = by_cases (nat_lt p.0 line) refl
   where
@@ -22,7 +22,7 @@ same-relative_position a b line la lb = grind (arith, nat_tests)
 pub cmp-relative_position : (a b line : ℕ) → line ≤ a → line ≤ b → nat_cmp (a - line) (b - line) ≡ nat_cmp a b
 cmp-relative_position a b line la lb = rw (less-relative_position a b line la lb, same-relative_position a b line la lb) refl
 
--- a position that is not before the start of a line is on it or later
+-- a position that is not before the start of `line` is on `line` or on a later line
 pub not_before-line : (line : ℕ) (p : ℕ × ℕ) → not (is_lt (position_cmp p (line, 0))) ≡ true → line ≤ p.0
 not_before-line line p passes = by_cases (nat_lt p.0 line) refl
   where

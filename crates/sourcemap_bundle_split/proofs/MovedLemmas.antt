@@ -13,7 +13,8 @@ use Rattle.sourcemap_bundle_split.proofs.TableLemmas.{number_past}
 pub used-more : (count : ℕ) (ids : List ℕ) (id : ℕ) → used_ids count (ids ++ id ∷ []) ≡ with_id count (used_ids count ids) id
 used-more count ids id = fold-append (with_id count) [] ids (id ∷ [])
 
--- one more token: `with_id` adds the id of the token at `i` to the used ids of the first `i` tokens
+-- let `i` be an index of `tokens`. For the used ids of the first `i` tokens and the id of the token at `i`, `with_id`
+-- returns the used ids of the first `i + 1` tokens
 pub used-step : (count : ℕ) (of : RawToken → ℕ) (tokens : List RawToken) (i : ℕ) (d : RawToken) → i < length tokens
     → used_ids count (map of (take (i + 1) tokens)) ≡ with_id count (used_ids count (map of (take i tokens))) (of (get_or tokens i d))
 used-step count of tokens i d inside =
@@ -21,7 +22,8 @@ used-step count of tokens i d inside =
     ∙ ap (used_ids count) (map-append of (take i tokens) (get_or tokens i d ∷ []))
     ∙ used-more count (map of (take i tokens)) (of (get_or tokens i d))
 
--- if `id` is in `ids`, `number_of` gives the same result for `id` before and after `with_id` adds `new`
+-- if `id` is in `ids`, applying `with_id` to `used_ids count ids` and `new` does not change the result of `number_of`
+-- for `id`
 same_number : (count : ℕ) (ids : List ℕ) (k id new : ℕ) → slice_get ids k ≡ Some id
     → number_of (with_id count (used_ids count ids) new) id ≡ number_of (used_ids count ids) id
 same_number count ids k id new at =
@@ -56,7 +58,8 @@ module _ (line sources names : ℕ) (done : List RawToken) (t : RawToken) where
       (slice_get-map (λ (t : RawToken). t.name_id) done k ∙ ap (option_map (λ (t : RawToken). t.name_id)) at) in
       rw (source, name) refl
 
-  -- the tokens so far keep their numbers when one more token gets its own
+  -- `with_id` may add the ids of the next token `t` to the used ids of `done`. The tokens in `done` then keep their
+  -- source numbers and name numbers
   pub moved-more : map (moved_by line (with_id sources (source_ids done) t.src_id) (with_id names (name_ids done) t.name_id)) (done ++ t ∷ [])
       ≡ map (moved_by line (source_ids done) (name_ids done)) done
       ++ moved_by line (with_id sources (source_ids done) t.src_id) (with_id names (name_ids done) t.name_id) t ∷ []

@@ -158,9 +158,9 @@ any-number (x ∷ ids) id n found = by_cases (x == id) (number_of ids id) refl r
     by_cases false (Some m) b is rest =
         let same : nat_eq id x ≡ false = grind (arith, nat_tests, b) in rw same (rest m is)
 
--- `texts` has at most 4294967295 texts, and `id` is in `ids`. The new list has the texts of the used ids. If `texts`
--- has a text at `id`, the new list has this text at the number of `id`. Otherwise `id` has no number, and the new list
--- has no text at `no_id`
+-- let `texts` have at most 4294967295 texts, let `id` be in `ids`, and let the new list have the texts of the used ids
+-- in their order. If `texts` has a text at `id`, the new list has this text at the number of `id`. Otherwise `id` has
+-- no number, and the new list has no text at `no_id`
 pub text_by_number : (texts : List (List ℕ)) (ids : List ℕ) (k id : ℕ) → length texts ≤ 4294967295 → slice_get ids k ≡ Some id
     → slice_get (texts_at texts (used_ids (length texts) ids)) (unwrap_or (number_of (used_ids (length texts) ids) id) no_id) ≡ slice_get texts id
 text_by_number texts ids k id few at = by_index (slice_get_cases texts id).1

@@ -47,14 +47,14 @@ number_none numbers order id stand apart = by_cases (number_of order id) refl
         let same : get_or numbers id 0 ≡ m = stand m id back in
         absurd (apart (subst (λ n. slice_get order n ≡ Some id) (sym same) back))
 
--- `Stand` holds, `numbers` has `n` at index `id`, and `ids` equals `order`. If `ids` does not have `id` at index `n`,
--- then `id` has no number
+-- let `Stand numbers order` hold, let `numbers` have `n` at index `id`, and let `ids` equal `order`. If `ids` does not
+-- have `id` at index `n`, then `id` has no number in `order`
 pub number_none_read : (numbers order ids : List ℕ) (id n default : ℕ) → Stand numbers order → id < length numbers
     → n ≡ get_or numbers id default → ids ≡ order → slice_get ids n ≢ Some id → number_of order id ≡ None
 number_none_read numbers order ids id n default stand inside read same apart =
     number_none numbers order id stand (λ at. apart (ap (λ list. slice_get list n) same ∙ ap (slice_get order) (read ∙ get_or_default numbers id default 0 inside) ∙ at))
 
--- an id that names no item has no number
+-- if each id in `order` is below `count`, an id that is not below `count` has no number in `order`
 pub number_past : (count : ℕ) (order : List ℕ) (id : ℕ) → AreBelow count order → count ≤ id → number_of order id ≡ None
 number_past count order id below past = by_cases (number_of order id) refl
   where

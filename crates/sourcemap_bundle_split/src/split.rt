@@ -39,11 +39,11 @@ pub struct SplitRamBundleModuleIter<'a> {
 /// tokens use, with their contents, and the names that these tokens use, both in the order of first
 /// use. Generated lines of the map count from the module's first line.
 ///
-/// A module whose offset is null gives no item, unless reading the module from the bundle fails.
-/// The item of a module is `InvalidRamBundleEntry` in four cases: reading the module from the
-/// bundle fails, its number is past the end of `x_facebook_offsets`, its text is not UTF-8, or the
-/// flattened map has no token at or before the first column of the module's first line. An item may
-/// be `OutOfMemory`; then only that module is lost.
+/// If the offset of a module is null and reading the module from the bundle succeeds, the module
+/// gives no item. The item of a module is `InvalidRamBundleEntry` in four cases: reading the module
+/// from the bundle fails, its number is past the end of `x_facebook_offsets`, its text is not
+/// UTF-8, or the flattened map has no token at or before the first column of the module's first
+/// line. An item may be `OutOfMemory`; then only that module is lost.
 pub fn split_ram_bundle<'a>(
     alloc: Global,
     bundle: &'a RamBundle<'a>,

@@ -1,10 +1,12 @@
--- The list of modules that `modules_from` returns: its first item and the rest, when it is empty, and its length.
+-- The list of modules that `modules_from` returns: its first item, the items that follow, the cases in which the list
+-- is empty, and a bound on its length.
 use Rattle.std.proofs.Common.{◌≡◌, ℕ, zero, suc, ◌+◌, ◌-◌, ◌<◌, ◌≤◌, List, [], ◌∷◌, length, ◌⊎◌, inl, inr, Option, None, Some, Result, Ok, Err, refl, ap, ◌∙◌, arith}
 use Rattle.std.proofs.lemmas.Bool.{cases_lt}
 use Rattle.sourcemap_errors.specs.declared.errors.Error.{Error}
 use Rattle.sourcemap_bundles.specs.Modules.{BundleValue, FilesValue, ModuleValue, bundle_module, file_module, files, modules_from, with_item}
 
--- for `id` below `end`, the items from `id` on are the module or error of `id`, if any, then the items from `id + 1` on
+-- let `id` be below `end`. If `id` has a module or an error, the items from `id` on are this module or error, followed
+-- by the items from `id + 1` on. Otherwise the items from `id` on are the items from `id + 1` on
 pub modules_next : (bundle : BundleValue) (id end : ℕ) → id < end
     → modules_from bundle (end - id) id ≡ with_item (bundle_module bundle id) (modules_from bundle (end - (id + 1)) (id + 1))
 modules_next bundle id end below = let left : end - id ≡ suc (end - (id + 1)) = omega arith in rw left refl

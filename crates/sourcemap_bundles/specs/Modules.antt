@@ -39,17 +39,17 @@ abbrev pub indexed_bundle : List ℕ → Result BundleValue Error
 indexed_bundle bytes = then_make (λ header.
     if header.magic == bundle_magic then Ok (indexed header bytes) else Err InvalidRamBundleMagic) (header_of bytes)
 
--- the offset of the end of the table of modules, in bytes. The startup code begins there, and offsets of modules count
--- from there
+-- the offset, in bytes, at which the table of modules ends. The startup code begins at this offset, and the offsets of
+-- modules are relative to this offset
 abbrev pub code_start : RamBundleHeader → ℕ
 code_start header = 12 + 8 * header.module_count
 
 abbrev pub indexed_startup : RamBundleHeader → List ℕ → Result (List ℕ) Error
 indexed_startup header bytes = range_of bytes (code_start header) header.startup_code_size
 
--- the module of an entry, without its last byte, which should be zero but is not checked; `None` if the offset and
--- length of the entry are 0; `InvalidRamBundleEntry` if only the length is 0; `Scroll` if the module without its last
--- byte passes the end of the bytes
+-- the module that `entry` describes. The text of the module is one byte shorter than `entry.length`, because the last
+-- byte is left out. The last byte should be zero, but is not checked. `None` if `entry.offset` and `entry.length` are
+-- both 0; `InvalidRamBundleEntry` if only `entry.length` is 0; `Scroll` if the text ends after the end of `bytes`
 abbrev pub module_of_entry : RamBundleHeader → List ℕ → ℕ → ModuleEntry → Result (Option ModuleValue) Error
 module_of_entry header bytes id entry =
     if entry.length == 0 then (if entry.offset == 0 then Ok None else Err InvalidRamBundleEntry)

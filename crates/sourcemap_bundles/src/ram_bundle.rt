@@ -97,9 +97,9 @@ impl<'a> RamBundle<'a> {
     ///
     /// Returns `NotARamBundle` if `is_unbundle_path` is false for `path`. Otherwise, the error is
     /// `Io` if the startup code or the folder cannot be read, or if any name in the folder is not
-    /// UTF-8. Then the module files are read in the order of the bytes of their names, and the
-    /// first error is returned: `InvalidRamBundleIndex` if the name is not a valid `N.js`, or `Io`
-    /// if the file cannot be read. `OutOfMemory` can come at any time.
+    /// UTF-8. If no such error occurs, the call reads the module files in the byte order of their
+    /// names, and returns the first error: `InvalidRamBundleIndex` if the name of a file is not a
+    /// valid `N.js`, or `Io` if the file cannot be read. `OutOfMemory` can come at any time.
     pub fn parse_unbundle_from_path<F: Files>(rt: &F, alloc: Global, path: &str) -> Result<Self>
         ensures files { IfOk result IsFileBundle }
         ensures refused { IfErr result IsFileError }
@@ -208,7 +208,8 @@ impl<'a> Iterator for RamBundleModuleIter<'a> {
     fn next(&mut self) -> Option<Result<RamBundleModule<'a>>> {
         let bundle = self.bundle;
         let end = self.end;
-        // The numbers of files may be far apart, so not every number is looked up.
+        // In a file bundle, the module numbers may be far apart, so the iterator does not look up
+        // every number.
         if let RamBundleImpl::Unbundle(files) = &bundle.repr {
             let found = files.module_from(self.next)?;
             if found.id() >= end {

@@ -76,7 +76,8 @@ no_failure Absent P none = absurd none
 no_failure WrongKind P none = absurd none
 no_failure PastLimit P none = absurd none
 
--- if out of memory is the only error, `Does` holds with any `Due'`, and with any `Done'` that follows from `Done`
+-- let `Does` hold with `Done`, and with `OfLibrary NoError`, so that out of memory is the only allowed failure. Then
+-- `Does` also holds with any `Done'` that follows from `Done`, and with any `Due'`
 pub weaker_put : {T : Type 0} (result : Result T Failure) (Done Done' : Type 0) (Due' : Failure → Type 0) (Kept : Type 0)
     → (Done → Done') → Does result Done (OfLibrary NoError) Kept → Does result Done' Due' Kept
 weaker_put result Done Done' Due' Kept done does =

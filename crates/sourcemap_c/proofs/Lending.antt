@@ -131,7 +131,8 @@ module _ {l : ℕ} (os : List (Outlives l)) (ps : List (Slot l)) (ks : Kepts ps)
     Answers = triple_of 𝓛 code_ended.signature (closing 𝓛 code_ended c)
 
     module _ (x : Answers.Ghost) {Γ : List (Item 𝓤)} {E : Env 𝓤 H} {C : Calls 𝓤 H} {Λ : Loops 𝓤 H} {f : Callee} {xs : List Operand} {d : Place} {body : Body} {q : Post 𝓤 H} where
-      -- a call turns its precondition into [the lifetime tokens; the last values; the code; what the contract ensures]
+      -- a call turns its precondition into [the lifetime tokens; the last values of the parameters; the code; what the
+      -- contract ensures]
       pub answers : FmC 𝓤 H 𝓛.laws C → Triple 𝓤 (C f) Answers → Opds (Go {0}) 𝓛 (raw (Answers.pre x) ∷ Γ) E xs (Answers.args x)
           → ((w : Val) (code : ℕ) (ws : Lasts code_ended x.0.0 x.0.3) → Typed u32.mir (w ∷ [])
           → Seq (Go {0}) 𝓛 (raw (alive 𝓛 code_ended.signature x.0.0 x.0.1) ∷ ‵ (lasts code_ended x.0.0 x.0.3 ws) ∷ ‵ (u32.own_val code (w ∷ []))
@@ -302,8 +303,8 @@ module _ (γ : Getter) where
 
         module _ {Γ : List (Item 𝓤)} {E : Env 𝓤 H} {f : Callee} {xs : List Operand} {d : Place} {body : Body} {q : Post 𝓤 H} where
           -- a call of the second function turns [how the handle ends; what was found; the token of the handle's
-          -- lifetime; the other parameters; the other lifetime tokens] into [the lifetime tokens; the last values; the
-          -- code; how the handle ends]
+          -- lifetime; the other parameters; the other lifetime tokens] into [the lifetime tokens; the last values of
+          -- the other parameters; the code; how the handle ends]
           puts : (r : (Found κs.0).Denot) (v : Val) → Triple 𝓤 (𝓣.C f) Puts
               → Opds (Go {0}) 𝓛 (raw (Puts.pre (put_entry r v)) ∷ ‵ (EndsAsBefore a.0) ∷ Γ) E xs (Puts.args (put_entry r v))
               → ((w : Val) (code : ℕ) (ws : Fins κs (rest n) (all yes (rest n)) a.1) → Typed u32.mir (w ∷ []) → is_put r code ws

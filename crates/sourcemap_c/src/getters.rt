@@ -18,10 +18,10 @@ use sourcemap::{DecodedMap, RawToken, SourceMap, SourceMapIndex};
 use sourcemap_c_handles::Handle;
 use sourcemap_c_handles::layout::{Counts, IdBytes, MapToken};
 
-/// Writes how many tokens, sources, names, ids on the ignore list and sections the map has. An id
-/// on the ignore list counts even if no source has it. For an index map, all counts but the
-/// sections are 0. For other maps, the count of sections is 0. A count above 4294967295 is written
-/// as 4294967295. Returns `SM_WRONG_KIND` if the handle holds no map.
+/// Writes how many tokens, sources, names and sections the map has, and how many ids its ignore
+/// list has. An id on the ignore list counts even if no source has this id. For an index map, all
+/// counts except the count of sections are 0. For other maps, the count of sections is 0. A count
+/// above 4294967295 is written as 4294967295. Returns `SM_WRONG_KIND` if the handle holds no map.
 #[unsafe(no_mangle)]
 pub extern "C" fn sm_count(map: &mut Handle, counts: &mut Counts) -> u32
     ensures counts { ReturnsValue (option_map (λ t. Some (counts_of t)) (tree_in (held_in map.old)))
@@ -239,7 +239,7 @@ fn contents_in(map: &DecodedMap, id: u32) -> Option<&str>
 }
 
 /// Writes the ids of the ignore list from index `first` on, as many as fit. Returns the number of
-/// ids written, which is 0 for an index map, and if the handle holds no map.
+/// ids written, or 0 if the handle holds an index map or no map.
 #[unsafe(no_mangle)]
 pub extern "C" fn sm_ignore_list(map: &mut Handle, first: u32, ids: &mut [u32]) -> usize
     ensures count { result ≡ unwrap_or (option_map (λ t. unwrap_or (option_map
@@ -270,7 +270,7 @@ fn put_ids(map: &DecodedMap, first: usize, ids: &mut [u32]) -> usize
 }
 
 /// Writes the tokens from index `first` on, as many as fit. Returns the number of tokens written,
-/// which is 0 for an index map, and if the handle holds no map.
+/// or 0 if the handle holds an index map or no map.
 #[unsafe(no_mangle)]
 pub extern "C" fn sm_tokens(map: &mut Handle, first: u32, tokens: &mut [MapToken]) -> usize
     ensures count { result ≡ unwrap_or (option_map (λ t. unwrap_or (option_map

@@ -159,8 +159,8 @@ fn put_another(alloc: Global, map: &Arc<DecodedMap>, other: &mut Handle) -> Outc
 }
 
 /// Writes to `answer` whether the bytes are a source map, by the rules of `is_sourcemap_slice`. The
-/// call checks which keys are present and not null, but no value except `version`. So `sm_open` may
-/// still refuse the bytes.
+/// call checks which keys are present and not null. The only value that the call checks is that of
+/// `version`. So `sm_open` may still refuse the bytes.
 #[unsafe(no_mangle)]
 pub extern "C" fn sm_is_source_map(
     alloc: Global,

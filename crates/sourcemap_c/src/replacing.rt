@@ -166,9 +166,10 @@ fn compose_copy(map: &SourceMap, adjustment: &SourceMap) -> Result<SourceMap>
 
 /// Rewrites the map. Removes the sources and names that no token uses, and the contents of the
 /// removed sources. The other sources are resolved against `sourceRoot`. Sources that resolve to
-/// the same text become one source. It keeps the contents of one of them: the first that has
-/// contents, in the order of the tokens. Removes `sourceRoot` and the ignore list. If `with_names`
-/// is false, removes all names. If `with_contents` is false, removes all contents.
+/// the same text become one new source. The new source gets its contents from one of these sources:
+/// among those that have contents, the one that a token uses first. Removes `sourceRoot` and the
+/// ignore list. If `with_names` is false, removes all names. If `with_contents` is false, removes
+/// all contents.
 ///
 /// Removes from each source the first of `prefixes` that the source starts with. If a prefix does
 /// not end with `/`, the call adds `/` to the prefix beforehand: `a` turns `a/b` into `b`. The
@@ -177,8 +178,8 @@ fn compose_copy(map: &SourceMap, adjustment: &SourceMap) -> Result<SourceMap>
 /// against `sourceRoot`. Unused sources count too. The common prefix is tried last. If the common
 /// prefix is empty or `/`, the call ignores `~`.
 ///
-/// The error is `SM_UTF8` if a prefix is not UTF-8. The error is `SM_WRONG_KIND` if `map` holds an
-/// index map or no map. The only other error is `SM_OUT_OF_MEMORY`.
+/// The error is `SM_UTF8` if a prefix is not UTF-8. Otherwise, the error is `SM_WRONG_KIND` if
+/// `map` holds an index map or no map. The only other error is `SM_OUT_OF_MEMORY`.
 #[unsafe(no_mangle)]
 pub extern "C" fn sm_rewrite(
     alloc: Global,

@@ -355,7 +355,8 @@ shift_alike rows parts ss a b (inr (past, is)) (inr (past', is')) = alike a b (i
 shift_alike rows parts ss a b (inl (left, p)) (inr (past, is)) = absurd (past left)
 shift_alike rows parts ss a b (inr (past, is)) (inl (left, q)) = absurd (past left)
 
--- if the resulting map is determined, so is its JSON line
+-- let `Next` print a regular map as a JSON line. If any two results of `First` print alike, any two results of `Then
+-- First Next` print alike
 prints_alike : (First : Result MapValue Error → Type 0) → ((a b : Result MapValue Error) → First a → First b → PrintAlike a b)
     → (a b : Result (List ℕ) Error) → Then First (λ m a. PrintsMap (leaf (regular m)) a) a
     → Then First (λ m a. PrintsMap (leaf (regular m)) a) b → PrintAlike a b
@@ -456,7 +457,8 @@ some_bytes (Some xs) = (xs, refl)
 pub out_of_memory : (words : List (List ℕ)) (e : Error) → e ≡ OutOfMemory → IsCutShort words e
 out_of_memory words e is = no_memory e _ is
 
--- if `words` ask for a command, a run may have the read error `e` instead of a reply (`IsCutShort`)
+-- if `words` ask for a command, and the error `e` says that a read failed or that memory ran out, a run may have the
+-- error `e` instead of a reply (`IsCutShort`)
 pub reading_failed : (words : List (List ℕ)) (command : Command) (e : Error) → AskFor words command → UnlessReadFails e ⊥ → IsCutShort words e
 reading_failed words command e asked h = UnlessMemory-from e (command, asked, h)
 

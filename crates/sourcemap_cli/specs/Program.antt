@@ -197,8 +197,8 @@ abbrev pub IsCutShort : List (List ℕ) → Error → Type 0
 IsCutShort words e = UnlessMemory e ((command : Command) × AskFor words command × UnlessReadFails e ⊥)
 
 -- a run of the program with these words may have this ending: `Ends` allows the ending, or the ending is an error that
--- `IsCutShort` allows. `bytes` holds the bytes of standard input. `file` is the result of reading the file that the
--- words name, if they name one
+-- `IsCutShort` allows. `bytes` holds the bytes of standard input. If the words name a file, `file` is the result of
+-- reading this file
 abbrev pub MayEnd : List (List ℕ) → (bytes : List ℕ) → (file : Result (List ℕ) Error) → Ending → Type 0
 MayEnd words bytes file (answered (Err e)) = Ends words bytes file (answered (Err e)) ⊎ IsCutShort words e
 MayEnd words bytes file ending = Ends words bytes file ending

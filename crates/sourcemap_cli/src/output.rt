@@ -133,9 +133,10 @@ pub fn adjusted_json(alloc: Global, map: DecodedMap, adjustment: DecodedMap) -> 
 /// - `Lookup`: the `Display` text of the closest token, for example `a.js:3:4 name=f`, or `none` if
 ///   there is no such token. A newline follows. If the sections of an index map are unsorted at
 ///   some level, the text is that of some token of the map, or `none`.
-/// - `Tokens`: a text for each token, for example `0:8 a.js:3:4 name=f range`, with a newline after
-///   it. The text has the generated position, the `Display` text of the token, and ` range` for a
-///   range token. It has more than one line if its source or its name has a newline.
+/// - `Tokens`: a text for each token, for example `0:8 a.js:3:4 name=f range`, and a newline after
+///   each text. The text has the generated position, the `Display` text of the token, and ` range`
+///   for a range token. The text has more than one line if the source or the name of the token has
+///   a newline.
 /// - `Rewrite`, `Flatten`, `Compose`, `Shift`: compact JSON and a newline. `Rewrite`: the map
 ///   rewritten with default options. For a Hermes map, the JSON has the function scopes too.
 ///   `Flatten`: the flattened index map. `Compose`: the map adjusted by `adjustment`. `Shift`: the

@@ -138,7 +138,7 @@ pub fn reply_to<F: Files>(
         (IsReplyTo (map string_bytes words.now) bytes.items (file_read file))
         (λ e. e ≡ OutOfMemory) }
     // `answer`: the reply has the text and the status of some ending that `Ends` allows. `only`:
-    // the reply has the text and the status of every ending that `Ends` allows.
+    // for each ending that `Ends` allows, the reply has the text and the status of this ending.
     ensures only { IfOk result (λ reply. (due : Ending)
         → Ends (map string_bytes words.now) bytes.items (file_read file) due
         → IsReply due reply) }
@@ -226,7 +226,8 @@ fn print_reply<W: Write>(alloc: Global, reply: Result<Reply>, output: &mut W) ->
 /// The map is read from `input`, but only if the words are a command. The file of `Compose` or
 /// `Trace` is opened after the input is decoded. If the input or the file cannot be read, or if
 /// memory runs out, the text of the error and a newline are printed, and the status is 1. The whole
-/// output is in memory before its first byte is written. The only error is one of the writer.
+/// output is in memory before its first byte is written. The call returns only errors of the
+/// writer.
 pub fn run<F: Files, R: Read, W: Write>(
     rt: &F,
     alloc: Global,

@@ -29,9 +29,9 @@ fn is_reader_gone(error: &Error) -> bool
     matches!(error, Error::Io(cause) if cause.kind() == ErrorKind::BrokenPipe)
 }
 
-/// Writes the text of an error and a newline. Writes nothing and returns `Ok` if the error is `Io`
-/// of kind `BrokenPipe`, because the reader of the output is gone then. The only error is one of
-/// the writer.
+/// Writes the text of `error` and a newline. If `error` is `Io` of kind `BrokenPipe`, the call
+/// assumes that the reader of the output is gone, writes nothing and returns `Ok`. The call returns
+/// only errors of the writer.
 pub fn report_error<W: Write>(error: &Error, output: &mut W) -> Result<()>
     ensures printed { OnOk result (¬ IsReaderGone error.now
         → IsErrorPrinted error.now (W.contents output.old) (W.contents output.new)) }

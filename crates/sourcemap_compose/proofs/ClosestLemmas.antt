@@ -1,4 +1,4 @@
--- The token of a sorted list that is closest to a position: a sufficient condition and a necessary one.
+-- A sufficient condition and a necessary condition for a token of a sorted list to be the closest to a position.
 use Rattle.std.proofs.Common.{◌≡◌, refl, sym, ap, subst, ◌∙◌, ℕ, zero, suc, ◌<◌, List, [], ◌∷◌, length, Bool, true, false, cond, Some, None, Option, find, arith, inl, inr, ◌⊎◌}
 use Rattle.std.specs.List.{AllByRecursion, Contains, slice_index_or}
 use Rattle.std.specs.Option.{option_or, IfSome}
@@ -132,7 +132,8 @@ cases_Option None = inl refl
 cases_Option (Some x) = inr (x, refl)
 
 module _ (q : ℕ × ℕ) where
-  -- in a list in order, x is the last token before `q` if no other token before `q` is at x or after it
+  -- let `x` be before `q`, and let no token of `ys` be before `x`. If each token of `ys` that is before `q` equals `x`,
+  -- then `x` is the last token of `x ∷ ys` that is before `q`
   last-here : (x : RawToken) (ys : List RawToken)
       → AllByRecursion (λ y. is_before (destination y) (destination x) ≡ false) ys
       → AllByRecursion (λ y. is_before (destination y) q ≡ true → is_before (destination y) (destination x) ≡ false → y ≡ x) ys

@@ -17,7 +17,7 @@ bare_range dst_line dst_col = record { dst_line = dst_line; dst_col = dst_col; s
 two_parts : composition (at 8 28 102 35 ∷ at 8 40 102 50 ∷ []) (at 17 23 8 30 ∷ []) ≡ Ok (at 17 23 102 35 ∷ at 17 33 102 50 ∷ [])
 two_parts = refl
 
--- the adjustment ends with its line
+-- the adjustment covers line 8 from column 30 to the end of the line, so the original on line 9 gives no token
 line_end : composition (at 8 28 102 35 ∷ at 8 40 102 50 ∷ at 9 10 103 12 ∷ []) (at 17 23 8 30 ∷ []) ≡ Ok (at 17 23 102 35 ∷ at 17 33 102 50 ∷ [])
 line_end = refl
 

@@ -1,4 +1,5 @@
--- A moved position has the same origin as before.
+-- Under the premises of the law `moved_positions_answer_as_before`, the composition gives a moved position the origin
+-- that the original gives the position before the move.
 use Rattle.std.proofs.Common.{◌≡◌, refl, sym, ap, subst, ◌∙◌, ℕ, suc, ◌+◌, ◌-◌, ◌<◌, ◌≤◌, min, List, [], ◌∷◌, ◌++◌, Bool, true, false, cond, not, ◌&&◌, if◌then◌else◌, Some, slice_get, Result, Ok, Err, ◌==◌, arith, inl, inr}
 use Rattle.std.specs.List.{AllByRecursion, Contains, flat_map, list_any}
 use Rattle.std.proofs.lemmas.Bool.{cases_Bool, and_from, and_parts, eq-eqb, eqb-true, false≢true}
@@ -178,7 +179,9 @@ later-least : (a o : Stretch) (P : ℕ × ℕ → Type 0) → P a.start → P o.
 later-least a o P at_a at_o =
     elim (is_before a.start o.start) as (λ b. P (cond b o.start a.start)) [ true ↦ at_o | false ↦ at_a ]
 
--- a column moved twice is moved by the sum
+-- let `from` equal `dst_col`, let `from ≤ at ≤ to`, and let `c ≤ at`. Adding `at - from` to a column, and then `to -
+-- at`, has the same result as adding `to - from` at once. The lemma writes `to - at` as the difference of the moved
+-- columns `to - c + d` and `at - c + d`. A sum above 4294967295 becomes 4294967295
 parts_add_up : (col c d from dst_col at to : ℕ) → from ≡ dst_col → c ≤ at → from ≤ at → at ≤ to
     → min (min (col + (at - from)) 4294967295 + (to - c + d - (at - c + d))) 4294967295 ≡ min (col + (to - dst_col)) 4294967295
 parts_add_up col c d from dst_col at to same one two three = omega arith

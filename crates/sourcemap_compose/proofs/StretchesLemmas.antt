@@ -155,7 +155,8 @@ at_index lt xs i x r e =
     let rest : Rises lt (x ∷ drop (suc i) xs) = subst (Rises lt) here (Rises-drop lt i xs r) in
     record { here = rw add-one here; later = rw add-one rest.0 }
 
--- the stretch at an index of a sorted list is sound, and later ones start at its end or after it
+-- the stretch `s` at index `i` is sound. If `tokens` are sorted by `position`, no stretch at a later index starts
+-- before the end of `s`
 module _ (position : RawToken → ℕ × ℕ) (tokens : List RawToken) (i : ℕ) (s : Stretch) where
   pub sound_at : slice_get (stretches position tokens) i ≡ Some s → IsSound position s
   sound_at here = All-at (IsSound position) (stretches position tokens) i s here (stretches-sound position tokens)

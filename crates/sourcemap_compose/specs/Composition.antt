@@ -18,7 +18,8 @@ overlap a o = is_before a.start o.end && is_before o.start a.end
 abbrev pub later_start : Stretch → Stretch → ℕ × ℕ
 later_start a o = cond (is_before a.start o.start) o.start a.start
 
--- the position to which a stretch of the adjustment moves a position that lies in the stretch
+-- let the position `p` lie in the stretch `a` of the adjustment. Then `moved a p` is the position to which `a` moves
+-- `p`
 abbrev pub moved : Stretch → ℕ × ℕ → ℕ × ℕ
 moved a p = (a.token.dst_line, p.1 - a.token.src_col + a.token.dst_col)
 
@@ -40,12 +41,12 @@ part_from start a o = record o.token {
 abbrev pub composed : Stretch → Stretch → RawToken
 composed a o = part_from (later_start a o) a o
 
--- the token of a pair of stretches, if they overlap
+-- if the stretches `a` and `o` overlap, a list with their composed token; otherwise the empty list
 abbrev pub pair : Stretch → Stretch → List RawToken
 pair a o = cond (overlap a o) (composed a o ∷ []) []
 
--- the tokens of all overlapping pairs, in the order of the adjustments, and for each adjustment in the order of the
--- originals
+-- the tokens of all overlapping pairs. The pairs are in the order of `adjustments`. Pairs with the same stretch of
+-- `adjustments` are in the order of `originals`
 abbrev pub composed_all : (adjustments originals : List Stretch) → List RawToken
 composed_all adjustments originals = flat_map (λ a. flat_map (pair a) originals) adjustments
 

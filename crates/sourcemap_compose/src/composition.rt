@@ -85,7 +85,8 @@ fn walk(alloc: Global, adjustments: &[RawToken], originals: &[RawToken]) -> Resu
             at_adjustment += 1;
             adjustment = stretch_at(Side::Adjustment, adjustments, at_adjustment);
         } else {
-            // the usual case: both end together, and each next stretch starts there or later
+            // the usual case: `a` and `o` end at the same position. In each list, the next stretch
+            // starts at this position or later
             at_adjustment += 1;
             at_original += 1;
             adjustment = stretch_at(Side::Adjustment, adjustments, at_adjustment);

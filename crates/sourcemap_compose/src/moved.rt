@@ -6,8 +6,8 @@ ghost use Rattle.sourcemap_compose.specs.declared.stretches.Stretch.{Stretch};
 ghost use Rattle.sourcemap_compose.specs.Composition.{composition, moved};
 ghost use Rattle.sourcemap_compose.specs.Moved.{IsMovedAlone, origin};
 
-/// A law: if the tokens of the original are within some counts of sources and names, so are the
-/// composed tokens.
+/// A law: if the composition has no error, and the tokens of the original are within some counts of
+/// sources and names (see `AllWithin`), the composed tokens are within the same counts.
 pub fn composed_tokens_stay_within()
     ensures { (sources names : ℕ) (original adjustment new : List RawToken)
         → AllWithin sources names original → composition original adjustment ≡ Ok new

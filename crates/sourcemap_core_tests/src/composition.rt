@@ -131,8 +131,9 @@ static COMPOSED: [(&str, &[Way], &[Way], &str); 21] = [
     ("none at all", &[], &[], ""),
 ];
 
-// Label, an original token, and the adjusted token. The adjustment is one token. It moves column 10
-// of line 0 to column 0 of line 5, and the later columns of line 0 along with it.
+// Label, an original token, and the adjusted token. The adjustment is one token. This token moves
+// the part of line 0 that starts at column 10. After the move, this part starts at column 0 of line
+// 5.
 static CUT: [(&str, Row, Row); 5] = [
     (
         "ten columns of a range token fall away",

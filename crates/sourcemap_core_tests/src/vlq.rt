@@ -120,8 +120,8 @@ fn writes_bits(rt: HostRuntime) {
     }
 }
 
-// A text, the indexes of the set bits among twenty bits, and the text with the shortest encoding of
-// all twenty bits appended.
+// A text, the indexes of the set bits among twenty bits, and the result of `push_bits`: the text,
+// followed by the shortest encoding of all twenty bits.
 static APPENDED: [(&str, &[usize], &str); 3] = [
     (";", &[12], ";AAB"),
     ("", &[5], "g"),

@@ -12,7 +12,8 @@ pub UnlessMemory-from : (e : Error) {P : Type 0} → P → UnlessMemory e P
 UnlessMemory-from OutOfMemory h = tt
 UnlessMemory-from _ h = h
 
--- if `Answers` allows only `answer`, then an allowed `result`, mapped by `view`, is `answer`, unless memory ran out
+-- let `answer` be the only result that `Answers` allows. If `IsAnswer view Answers result` holds, then `result` is the
+-- error `OutOfMemory`, or `result`, mapped by `view`, is `answer` (`Gives`)
 pub Gives-only : {X Y : Type 0} (view : X → Y) (Answers : Result Y Error → Type 0)
     → ((a b : Result Y Error) → Answers a → Answers b → a ≡ b)
     → (result : Result X Error) → IsAnswer view Answers result

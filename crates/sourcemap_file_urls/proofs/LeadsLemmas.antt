@@ -79,7 +79,7 @@ parts-steps (a ∷ above) text = ap (λ later. codes ".." ∷ later) (parts-step
 
 -- ---- where parts lead
 
--- if `ys` is not empty, `xs ++ ys` without the last item is `xs`, then `ys` without the last item
+-- if `ys` is not empty, removing the last item of `xs ++ ys` gives `xs ++ zs`, where `zs` is `ys` without its last item
 but_last-append : (xs ys : List (List ℕ)) → 0 < length ys → take (length (xs ++ ys) - 1) (xs ++ ys) ≡ xs ++ take (length ys - 1) ys
 but_last-append [] ys l = refl
 but_last-append (x ∷ xs) ys l =
@@ -87,7 +87,8 @@ but_last-append (x ∷ xs) ys l =
     let size : length (x ∷ (xs ++ ys)) - 1 ≡ suc (length (xs ++ ys) - 1) = omega arith in
     ap (λ n. take n (x ∷ (xs ++ ys))) size ∙ ap (λ later. x ∷ later) (but_last-append xs ys l)
 
--- one `..` for each of the last parts drops these parts
+-- let `ks` and `ys` have the same length. From the folder `xs ++ ys`, one `..` for each item of `ks` leads to `xs`, and
+-- `rest` is then followed from `xs`
 followed-up : (ks ys xs rest : List (List ℕ)) → length ks ≡ length ys → followed (xs ++ ys) (map (λ part. codes "..") ks ++ rest) ≡ followed xs rest
 followed-up [] [] xs rest e = ap (λ from. followed from rest) (append-nil xs)
 followed-up [] (y ∷ ys) xs rest e = absurd (omega arith)

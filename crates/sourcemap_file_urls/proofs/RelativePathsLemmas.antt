@@ -13,8 +13,9 @@ use Rattle.sourcemap_file_urls.specs.RelativePaths.{is_separator, is_nonempty, p
 
 -- ---- a path is split at its first separator
 
--- the parts of `path` are the text before the first separator, unless this text is empty, and then the parts of the
--- text after the separator
+-- let `first` be the text of `path` before the first separator, and `rest` the text after this separator. If there is
+-- no separator, `first` is `path`, and `rest` is empty. If `first` is empty, the parts of `path` are the parts of
+-- `rest`. Otherwise they are `first`, followed by the parts of `rest`
 pub parts-cut : (path : List ℕ) → parts path ≡ filter is_nonempty (before_first is_separator path ∷ []) ++ parts (after_first is_separator path)
 parts-cut path =
     elim (cases_lt (position_or_len is_separator path) (length path)) [
@@ -39,7 +40,8 @@ parts-next path part later before after e =
     ∙ ap (λ empty. cond (not empty) (part ∷ []) [] ++ parts (after_first is_separator path)) e
     ∙ ap (λ rest. part ∷ parts rest) (sym after)
 
--- if a path has a separator, the first one is at the index found
+-- let `at` be the index of the first separator of `path`, or the length of `path` if there is no separator
+-- (`position_or_len`). If `at` is not this length, `at` is less than this length, and the byte at `at` is a separator
 pub separator-first : (path : List ℕ) (at : ℕ) → at ≡ position_or_len is_separator path → at ≢ length path → (at < length path) × (is_separator (get_or path at 0) ≡ true)
 separator-first path at e differ =
     let le : position_or_len is_separator path ≤ length path = prefix_len-le-length _ path in

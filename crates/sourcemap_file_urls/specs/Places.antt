@@ -58,8 +58,8 @@ path_of url = if bytes_eq url.scheme (codes "file") && not (has_host url) then t
 abbrev pub named_path : Parts → List ℕ → Option (List ℕ)
 named_path base reference = option_and_then path_of (result_ok (parse_url (Some base) reference))
 
--- the result is `named_path`, or out of memory; if the base and the reference together are long, the result may also be
--- `None`
+-- the result is `named_path`, or the error `OutOfMemory`. If the texts of the base and the reference together are long
+-- (`IsLong`), the result may also be `None`
 abbrev pub NamesPath : Parts → List ℕ → Result (Option (List ℕ)) Error → Type 0
 NamesPath base reference (Ok None) = (named_path base reference ≡ None) ⊎ IsLong (length (serialize base) + length reference)
 NamesPath base reference (Ok (Some path)) = named_path base reference ≡ Some path

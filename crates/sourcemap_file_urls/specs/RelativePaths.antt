@@ -17,7 +17,7 @@ parts path = filter is_nonempty (slice_split is_separator path)
 abbrev pub folder_parts : List ℕ → List (List ℕ)
 folder_parts path = take (length (parts path) - 1) (parts path)
 
--- two lists, without the items with which both start
+-- both lists without their longest common prefix
 abbrev pub after_common : List (List ℕ) → List (List ℕ) → List (List ℕ) × List (List ℕ)
 after_common [] ys = ([], ys)
 after_common (a ∷ xs) [] = (a ∷ xs, [])

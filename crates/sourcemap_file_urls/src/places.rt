@@ -26,8 +26,8 @@ pub const ESCAPED: AsciiSet = ascii_set!(
 /// are escaped, empty ones and `.` are dropped, and `..` is resolved. If `folder` is true, the URL
 /// ends with `/`.
 ///
-/// Also returns `None` if the `url` crate rejects the URL. May return `None` if the URL, including
-/// each `..`, has 2^28 bytes or more. The only error is `OutOfMemory`.
+/// Also returns `None` if the `url` crate rejects the URL. May return `None` if the text of the URL
+/// has 2^28 bytes or more before `..` is resolved. The only error is `OutOfMemory`.
 pub fn path_url(alloc: Global, path: &str, folder: bool) -> Result<Option<Url>>
     ensures { PathUrl path.now folder result }
 {

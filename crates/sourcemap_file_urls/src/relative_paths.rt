@@ -29,10 +29,10 @@ pub fn make_relative_path(alloc: Global, base: &str, target: &str) -> Result<Str
     Ok(path)
 }
 
-/// A law: if no part of `target` is `.` or `..`, the parts of the relative path, followed from the
-/// parts of the folder of `base`, lead to the parts of `target`. Here `.` changes nothing, `..`
-/// drops the last part, even if that part is `.` or `..`, and any other part is appended. Whether a
-/// path starts with a separator does not count.
+/// A law: let no part of `target` be `.` or `..`. Start with the parts of the folder of `base`, and
+/// apply the parts of the relative path in order: `.` changes nothing, `..` drops the last part,
+/// even if the dropped part is `.` or `..`, and any other part is appended. The result is the parts
+/// of `target`. Whether a path starts with a separator does not count.
 pub fn relative_paths_lead_to_their_targets(base: &str, target: &str)
     ensures { list_all is_plain (parts target.now) ≡ true
         → followed (folder_parts base.now) (parts (relative_path base.now target.now))

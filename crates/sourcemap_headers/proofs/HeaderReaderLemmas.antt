@@ -47,9 +47,9 @@ outputs_junk state after_return old new chunk consumes junk xs known =
     let k = consumed old new chunk consumes xs known in
     (k.0, k.1, ap (remaining_in state) k.2 ∙ junk k.0 ∙ none_before _)
 
--- the inner reader had the bytes `xs` and returned `chunk`. The junk ends in `chunk`, or `chunk` is the first chunk and
--- there is no header. Then the reader returns `output`, which is `chunk` without the junk, and after `output` the bytes
--- that the inner reader still has (`ys`)
+-- let the inner reader have the bytes `xs` and return `chunk`. Let the junk end in `chunk`, or let `chunk` be the first
+-- chunk and begin without a header. Then the outer reader returns `output`, which is `chunk` without its `junk_len`
+-- bytes of junk. After `output`, the outer reader returns the bytes that the inner reader still has (`ys`)
 pub outputs_end : (state : HeaderState) (old new : Option (List ℕ)) (chunk output : List ℕ) (junk_len : ℕ) → Consumes old new chunk
     → ((later : List ℕ) → remaining_in state (chunk ++ later) ≡ Some (drop junk_len chunk ++ later)) → drop junk_len chunk ≡ output
     → (xs : List ℕ) → old ≡ Some xs

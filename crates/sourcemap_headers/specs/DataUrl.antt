@@ -1,5 +1,5 @@
--- Data URLs of source maps: `data:application/json`, then `;charset=utf-8`, `;charset=utf8` or nothing, then `;base64,`
--- and base64.
+-- Data URLs of source maps. Such a URL starts with `data:application/json`. Then `;charset=utf-8` or `;charset=utf8`
+-- may follow. The rest is `;base64,` and base64 text.
 use Rattle.std.specs.Prelude.{◌≡◌, ℕ, List, ◌++◌, drop, length, codes, nat_eq, Option, Some, None, option_and_then, unwrap_or, if◌then◌else◌, Result, Ok, Err}
 use Rattle.std.specs.List.{starts_with}
 use Rattle.std.specs.Option.{option_or}
@@ -12,7 +12,7 @@ use Rattle.sourcemap_errors.specs.declared.errors.Error.TheVariants.{InvalidData
 abbrev pub after_front : List ℕ → List ℕ → Option (List ℕ)
 after_front front text = if starts_with nat_eq text front then Some (drop (length front) text) else None
 
--- a text without `;charset=utf-8` or `;charset=utf8` at its front, or the whole text if it starts with neither
+-- if the text starts with `;charset=utf-8` or `;charset=utf8`, the rest of the text; otherwise the whole text
 abbrev pub without_charset : List ℕ → List ℕ
 without_charset text = unwrap_or (option_or (after_front (codes ";charset=utf-8") text) (after_front (codes ";charset=utf8") text)) text
 

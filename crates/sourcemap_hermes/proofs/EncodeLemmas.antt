@@ -1,5 +1,5 @@
--- A record of the regular map, with the scopes added, is a record of the Hermes map. It reads back if the
--- Hermes map is well-formed.
+-- A record of the regular map, with the scopes added, is a record of the Hermes map. If the Hermes map is well-formed,
+-- the record with the scopes reads back.
 use Rattle.std.proofs.Common.{◌≡◌, List, Result, Ok, sym, ap, subst, ◌∙◌, refl}
 use Rattle.sourcemap_errors.specs.declared.errors.Error.{Error}
 use Rattle.sourcemap_records.specs.Jsontypes.{Fields, Tree, plain, indexed, flat, AreInRange, IsFine}

@@ -10,7 +10,7 @@ use Rattle.sourcemap_hermes_scopes.specs.SourceScopes.{SourceScopesValue, scope_
 use Rattle.sourcemap_hermes.specs.Encode.{Restores}
 use Rattle.sourcemap_hermes.specs.Map.{HermesValue, function_name, token_scope}
 
--- the scope of a token, looked up at a position
+-- the function name (`scope_at`) at the original position that the token `t` gives to the generated position `p`
 abbrev scope_of : SourceScopesValue → ℕ × ℕ → RawToken → Option (List ℕ)
 scope_of scopes p t = scope_at scopes t.src_id (t.src_line, column_after t.src_col (distance t p))
 

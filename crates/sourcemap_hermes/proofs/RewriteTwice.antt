@@ -1,5 +1,5 @@
--- Rewriting a Hermes map twice with default options gives the same map as once, if it has at most 4294967295
--- sources and at most 4294967295 names.
+-- If a Hermes map has at most 4294967295 sources and at most 4294967295 names, rewriting the map twice with default
+-- options gives the same map as rewriting the map once.
 use Rattle.std.proofs.Common.{◌≡◌, refl, sym, ap, subst, ◌∙◌, ℕ, ◌+◌, suc, ◌≤◌, List, [], ◌∷◌, ◌++◌, append_assoc, length, map, Some, None, Option, arith, slice_get}
 use Rattle.std.proofs.lemmas.List.{length-map}
 use Rattle.sourcemap_interning.specs.Interner.{id_of}

@@ -1,5 +1,5 @@
--- The text of a Hermes map's record has few levels, no fraction and no junk header. So it reads back if the
--- map is well-formed.
+-- The record of a Hermes map has few levels, and no number in it has a fraction. The text of the record has no junk
+-- header. So if the map is well-formed, the text reads back.
 use Rattle.std.proofs.Common.{◌≡◌, inl, ℕ, ◌≤◌, List, [], ◌∷◌, codes, Option, Some, Ok, ap, ◌∙◌, sym, subst, arith}
 use Rattle.serde_json.specs.Data.{Data, depth, string}
 use Rattle.serde_json.specs.Read.{max_depth}

@@ -17,7 +17,8 @@ abbrev pub hermes_value : SourceMapHermes → HermesValue
 hermes_value h = record { map = h.sm; scopes = h.scopes }
 
 -- the regular map is well-formed, there are at most 4294967295 entries of scopes, and each source with an entry has the
--- function map that the entry encodes, or none if it encodes none
+-- function map that the entry encodes. A source has no function map if it has no entry, or if its entry encodes no
+-- function map
 pub record IsWellFormed (h : HermesValue) : Type 0 where
   pub map : IsWellFormedRegular h.map
   pub few : AreFewScopes h.scopes.entries

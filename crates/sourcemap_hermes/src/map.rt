@@ -46,10 +46,11 @@ impl SourceMapHermes {
 
     /// The name of the function at a bytecode offset. The offset is a column of generated line 0.
     /// Returns the result of `get_scope_for_token` for the token that `lookup_token` returns for
-    /// this column: the first token at this column, or else the last token before this column. If
-    /// it is a range token, the lookup adds the columns from the token to the offset. `None` if
-    /// there is no such token. If the functions of the token's source are not sorted by start
-    /// position, the result may be wrong.
+    /// this column: the first token at this column, or else the last token before this column.
+    /// `None` if `lookup_token` returns no token. If the token is a range token, the lookup
+    /// increases the token's original column by the number of columns between the token and the
+    /// offset, but to at most 4294967295. If the functions of the token's source are not sorted by
+    /// start position, the result may be wrong.
     pub fn get_original_function_name(&self, bytecode_offset: u32) -> Option<&str>
         ensures { IfSome (lookup (hermes_value self.now).map (0, bytecode_offset))
             (λ t. IsInOrderAt (hermes_value self.now).scopes t.raw.src_id)

@@ -10,7 +10,8 @@ use Rattle.sourcemap_tokens.proofs.DecidesLemmas.{decides_both}
 use Rattle.sourcemap_hermes_scopes.specs.declared.offsets.HermesScopeOffset.{HermesScopeOffset}
 use Rattle.sourcemap_hermes_scopes.specs.FunctionMap.{offset_position, closest_offset, same_offset, same_offsets}
 
--- if `found` is the search result for `p`, its offset has the name index of the offset `closest_offset offsets p`
+-- let `found` be the result of the search for `p` in `offsets`. If `found` has an offset, this offset has the same name
+-- index as `closest_offset offsets p`. If `found` is `None`, `closest_offset offsets p` is `None` too
 pub name_found : (offsets : List HermesScopeOffset) (p : ℕ × ℕ) (found : Option (ℕ × HermesScopeOffset))
     → found ≡ closest offset_position position_cmp offsets (p.0 + 1, p.1)
     → option_map (λ (e : ℕ × HermesScopeOffset). e.1.name_index) found ≡ option_map (λ (o : HermesScopeOffset). o.name_index) (closest_offset offsets p)

@@ -7,7 +7,7 @@ use Rattle.sourcemap_hermes_scopes.specs.declared.offsets.HermesScopeOffset.{Her
 use Rattle.sourcemap_hermes_scopes.specs.Offsets.{segment_offset, line_offsets, offsets_of_lines, SegmentsRead, ScopeLinesRead}
 use Rattle.sourcemap_hermes_scopes.specs.OffsetsSteps.{IsLastOffset, AddsOffsets}
 
--- Some item of `x ∷ xs` has a property: `x` itself, or an item of `xs`.
+-- If `x` or an item of `xs` has a property, an item of `x ∷ xs` has the property.
 
 pub Any-here : {A : Type 0} (P : A → Type 0) (x : A) (xs : List A) → P x → Any P (x ∷ xs)
 Any-here P x xs p = (0, x, (omega arith), refl, p)
@@ -31,7 +31,8 @@ AddsOffsets-segment before here part numbers old new next some reads is items = 
   is_last = is;
 }
 
--- an empty part: it reads as no numbers, and appends no offset
+-- let `part` read as no numbers, so that `part` is empty. Then `part` appends no offset, and `IsLastOffset` still holds
+-- for `last`
 pub AddsOffsets-none : (before here : List Segment) (part : List ℕ) (numbers : List ℤ) (old : List HermesScopeOffset) (last : HermesScopeOffset)
     → length numbers ≡ 0 → Reads part numbers → IsLastOffset before here last → AddsOffsets before here (part ∷ []) old old last
 AddsOffsets-none before here [] numbers old last none reads is = record {
@@ -75,7 +76,8 @@ PartsSoFar-none before all old last is = record {
   is_last = is;
 }
 
--- `PartsSoFar` stays true: after `part` is decoded (`AddsOffsets`), only `parts` are left
+-- let `PartsSoFar` hold with the parts `part ∷ parts` left to decode, and let `part` append its offsets
+-- (`AddsOffsets`). Then `PartsSoFar` holds with the parts `parts` left to decode
 pub PartsSoFar-more : (before : List Segment) (all : List (List ℕ)) (part : List ℕ) (parts : List (List ℕ)) (old middle new : List HermesScopeOffset) (last next : HermesScopeOffset)
     → (so_far : PartsSoFar before all (part ∷ parts) old middle last) → AddsOffsets before so_far.here (part ∷ []) middle new next
     → PartsSoFar before all parts old new next
@@ -129,7 +131,8 @@ turned before here last is =
     ap (λ (o : HermesScopeOffset). record o { column = 0 }) is
     ∙ ap (λ all. segment_offset [] all) (sym (append-nil (before ++ here)))
 
--- `LinesSoFar` stays true: after `line` is decoded (`AddsOffsets`), only the lines `left` remain
+-- let `LinesSoFar` hold with the lines `line ∷ left` left to decode, and let the parts of `line` append their offsets
+-- (`AddsOffsets`). Then `LinesSoFar` holds with the lines `left` left to decode
 pub LinesSoFar-more : (all : List (List ℕ)) (line : List ℕ) (left : List (List ℕ)) (old new : List HermesScopeOffset) (last next : HermesScopeOffset)
     → (so_far : LinesSoFar all (line ∷ left) old last) → AddsOffsets so_far.before [] (parts_of line) old new next
     → LinesSoFar all left new next

@@ -6,7 +6,7 @@ use Rattle.std.proofs.lemmas.List.{map-set}
 use Rattle.sourcemap_tokens.specs.Items.{item_at}
 use Rattle.sourcemap_hermes_scopes.specs.Picks.{items_at, moved_items}
 
--- Distinct ids: moving the items out gives the same items as copying them.
+-- If the ids are distinct, moving the items out gives the same items as copying the items.
 
 slice_get-other : {X : Type 0} (xs : List X) (i j : ℕ) (x : X) → i ≢ j → slice_get (slice_set xs i x) j ≡ slice_get xs j
 slice_get-other [] i j x ne = refl
@@ -47,7 +47,8 @@ moved-map f xs [] = refl
 moved-map f xs (id ∷ ids) =
     ap₂ ◌∷◌ (item_at-map f xs id) (ap (λ ys. moved_items ys ids) (sym (map-set (option_map f) xs id None)) ∙ moved-map f (slice_set xs id None) ids)
 
--- One more item is taken.
+-- Let `whole` be `done` followed by the items that the ids `id ∷ rest` move out of `items`. Then `whole` is also `done`
+-- with item `id` appended, followed by the items that `rest` moves out of `items` once item `id` is `None`.
 pub moved-more : {X : Type 0} (whole done items : List (Option X)) (id : ℕ) (rest : List ℕ) → whole ≡ done ++ moved_items items (id ∷ rest)
     → whole ≡ (done ++ item_at items id ∷ []) ++ moved_items (slice_set items id None) rest
 moved-more whole done items id rest is = is ∙ sym (append_assoc done (item_at items id ∷ []) (moved_items (slice_set items id None) rest))

@@ -18,7 +18,7 @@ use Rattle.sourcemap_hermes_scopes.proofs.FunctionMapLemmas.{offsets_decide}
 use Rattle.sourcemap_hermes_scopes.proofs.PicksLemmas.{moved-distinct, moved-length, moved-map}
 use Rattle.sourcemap_hermes_scopes.proofs.OffsetsAnswers.{StandsFor-same}
 
--- Entries have at most one list of function maps.
+-- Equal lists of entries encode equal lists of function maps.
 
 ScopesStandFor-same : (scopes : Option Scopes) (a b : Option (List HermesScopeOffset)) → ScopesStandFor scopes a → ScopesStandFor scopes b → a ≡ b
 ScopesStandFor-same None a b h k = h ∙ sym k

@@ -48,7 +48,7 @@ ScopeLinesRead [] decoded_lines = decoded_lines ≡ []
 ScopeLinesRead (line ∷ lines) [] = ⊥
 ScopeLinesRead (line ∷ lines) (segments ∷ decoded_lines) = SegmentsRead (parts_of line) segments × ScopeLinesRead lines decoded_lines
 
--- a part whose digits are invalid
+-- a part that is not empty and that decodes to an error (`HasError`)
 abbrev pub IsUnreadable : List ℕ → Type 0
 IsUnreadable part = (part ≢ []) × ((e : Error) × HasError part e)
 

@@ -6,8 +6,8 @@ use Rattle.sourcemap_hermes_scopes.specs.Offsets.{segment_offset, line_offsets, 
 
 -- The next segment of the current line is relative to `last`. `before` are all segments of earlier lines, and `here`
 -- are the segments of the current line so far. If `here` is not empty, `last` is the offset of the last segment of
--- `here`. If `here` is empty, `last` is the offset of the last segment of `before` with column 0. If both lists are
--- empty, `last` has line 1, column 0 and name index 0
+-- `here`. If `here` is empty and `before` is not, `last` has the line and the name index of the last segment of
+-- `before`, and column 0. If both lists are empty, `last` has line 1, column 0 and name index 0
 abbrev pub IsLastOffset : (before here : List Segment) → HermesScopeOffset → Type 0
 IsLastOffset before here last = last ≡ segment_offset here (before ++ here)
 

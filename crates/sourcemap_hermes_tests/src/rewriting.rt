@@ -109,8 +109,8 @@ fn functions_follow_their_sources(rt: HostRuntime) {
     }
 }
 
-// A map, prefixes to strip, and the rewritten map. Sources that resolve to different texts are not
-// merged if they are stripped to the same text. They keep their scopes.
+// A map, prefixes to strip, and the rewritten map. Used sources that resolve to different texts
+// stay separate and keep their scopes, even if stripping makes their texts equal.
 static CUT: [(&str, &[&str], &str); 2] = [
     (
         r#"{"mappings":"AAAA,CCAA","sources":["/x/a.js","/y/a.js"],"x_facebook_sources":[[{"mappings":"AAA","names":["f"]}],[{"mappings":"AAA","names":["g"]}]]}"#,

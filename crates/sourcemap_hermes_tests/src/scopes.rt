@@ -84,7 +84,8 @@ static MAPPINGS: [(&str, u32, u32, &str); 31] = [
     ("AAF", 4294967294, 0, "a"),
     // A name index out of range.
     ("AGA", 0, 0, "none"),
-    // Functions a, b and c start at column 5. A lookup finds a at column 5, and c at column 6.
+    // The functions `a`, `b` and `c` start at column 5. A lookup finds `a` at column 5, and `c` at
+    // column 6.
     ("KAA,ACA,ACA", 0, 5, "a"),
     ("KAA,ACA,ACA", 0, 6, "c"),
     // In each row except the last, one segment is invalid.

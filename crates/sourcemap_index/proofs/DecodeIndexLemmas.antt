@@ -130,7 +130,7 @@ is_some-map : {X Y : Type 0} (f : X → Y) (o : Option X) → is_some (option_ma
 is_some-map f None = refl
 is_some-map f (Some x) = refl
 
--- the tree of a record has scopes exactly if the record has
+-- the tree of a record has scopes exactly if the record has scopes
 pub scopes_there : (r : RawSourceMap) → is_some (flat (tree r)).x_facebook_sources ≡ is_some (out-RawSourceMap r).x_facebook_sources
 scopes_there r = ap (λ (fields : Fields). is_some fields.x_facebook_sources) (flat-tree r) ∙ is_some-map _ (out-RawSourceMap r).x_facebook_sources
 
@@ -198,8 +198,8 @@ parts_decoded fields ss decoded sorted (Ok i) few h up made =
 parts_decoded fields ss decoded sorted (Err e) few h up made =
     UnlessMemory-weaker e (λ (h : ◌≡◌ {A = Result IndexValue Error} (Ok (index_with (index_parts fields) sorted)) (Err e)). cc) made
 
--- if a record has no sections, each result that `LeafDecodes` allows for it is a result that `TreeDecodes` allows. The
--- field `sections` does not matter to `LeafDecodes`, so any value `left` may replace it
+-- let the record `r` have no sections. Then `TreeDecodes` allows each result for `r` that `LeafDecodes` allows. In the
+-- premise on `LeafDecodes`, the field `sections` may have any value `left`, because `LeafDecodes` ignores this field
 plain_tree : (r : RawSourceMap) → (out-RawSourceMap r).sections ≡ None → tree r ≡ plain (fields_view (out-RawSourceMap r))
 plain_tree r none = tree-out r ∙ ap (λ v. tree_with (fields_view (out-RawSourceMap r)) (option_map (λ v. sections_from (map section v.items)) v)) none
 

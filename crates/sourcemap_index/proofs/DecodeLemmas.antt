@@ -40,18 +40,21 @@ pub value_only : (d : Data) (r : Result DecodedMap Error) → IsAnswer map_tree 
     → (due : Result MapTree Error) → ValueDecodes d due → Gives map_tree r due
 value_only d r h = Gives-only map_tree (ValueDecodes d) (value_decodes_once d) r h
 
--- the same for bytes
+-- bytes have only one result: if `BytesDecode` allows `r` and `due`, then `r` is the same as `due` (`AreSame`), or
+-- memory ran out. Of two `Io` errors only the kinds are compared
 pub bytes_only : (bytes : List ℕ) (r : Result DecodedMap Error) → IsAnswer map_tree (BytesDecode bytes) r
     → (due : Result MapTree Error) → BytesDecode bytes due → IsAnswer map_tree (AreSame due) r
 bytes_only = reading.bytes_only map_tree TreeDecodes tree_decodes_once
 
--- the same for a reader whose unread bytes are known. The conclusion also allows that a read failed
+-- let the unread bytes of a reader be known. These bytes have only one result: if `BytesDecode` allows `r` and `due`
+-- for these bytes, then `r` is the same as `due` (`AreSame`), or a read failed, or memory ran out
 pub reader_only : (known : Option (List ℕ)) (bytes : List ℕ) (r : Result DecodedMap Error)
     → IfSome known (λ xs. bytes ≡ xs) → IsAnswer map_tree (BytesDecode bytes) r
     → IfSome known (λ xs. (due : Result MapTree Error) → BytesDecode xs due → IsAnswerRead map_tree (AreSame due) r)
 reader_only = reading.reader_only map_tree TreeDecodes tree_decodes_once
 
--- the same for a data URL
+-- a data URL has only one result: if `UrlDecodes` allows `r` and `due`, then `r` is the same as `due` (`AreSame`), or
+-- memory ran out
 pub url_only : (url : List ℕ) (r : Result DecodedMap Error) → IsAnswer map_tree (UrlDecodes url) r
     → (due : Result MapTree Error) → UrlDecodes url due → IsAnswer map_tree (AreSame due) r
 url_only url = answer_only map_tree (UrlDecodes url) AreSame (url_decodes_once url)

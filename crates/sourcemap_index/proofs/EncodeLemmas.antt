@@ -12,7 +12,7 @@ use Rattle.sourcemap_index_model.specs.Encode.{IsLeafAnswer, IsWrittenBy, AreWri
 use Rattle.sourcemap_index_model.specs.MapTree.{MapTree, MapSection, section_with as map_with, sections_from as maps_from}
 use Rattle.sourcemap_index.specs.Encode.{SectionIsWritten, MapWrites}
 
--- as many records as sections, and each record is that of the section at the same index
+-- as many records as sections, and each section is written as the record at the same index
 abbrev pub ArePairs : List MapSection → List Section → Type 0
 ArePairs [] [] = Unit {0}
 ArePairs (s ∷ ss) (r ∷ rs) = SectionIsWritten s r × ArePairs ss rs

@@ -23,7 +23,8 @@ index-out i = fold_out-SourceMapIndex MapTree IndexValue MapSection map_step ind
 pub index-roll : (r : SourceMapIndex-F DecodedMap SourceMapIndex SourceMapSection) → index_value (roll-SourceMapIndex r) ≡ record { parts = parts_view r; sections = map section_value r.sections.items }
 index-roll r = fold-roll-SourceMapIndex MapTree IndexValue MapSection map_step index_step section_step r
 
--- `f` of the borrowed item `i` of `xs` is item `i` of `map f xs`. If `xs` has no item `i`, both are `None`
+-- let `found` be the borrowed item `i` of `xs`, or `None` if `xs` has no item `i`. If `found` is `None`, `map f xs` has
+-- no item `i`. Otherwise `f` maps the value of `found` to item `i` of `map f xs`
 pub item_seen : {R X Y : Type 0} (now : R → X) (f : X → Y) (xs : List X) (i : ℕ) (found : Option R) → ItemBy now xs i i found → option_map (λ r. f (now r)) found ≡ slice_get (map f xs) i
 item_seen now f xs i (Some x) h = sym (slice_get-map f xs i ∙ ap (option_map f) (slice_get_read xs (length xs) i (now x) refl h.3.0 h.1))
 item_seen now f xs i None h = sym (slice_get-map f xs i ∙ ap (option_map f) (slice_get_past xs i h.3))

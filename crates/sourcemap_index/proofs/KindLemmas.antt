@@ -1,4 +1,5 @@
--- Decoding as a map of any kind gives a regular or Hermes map exactly if decoding as its own kind gives the same map.
+-- Let `m` be a regular map or a Hermes map. Decoding as a map of any kind gives `m` exactly if decoding as the kind of
+-- `m` gives `m`.
 use Rattle.std.proofs.Common.{◌≡◌, refl, sym, subst, inl, inr, ℕ, List, Bool, true, false, nat_lt, Option, Some, None, is_none, MatchOption, Result, Ok, Err, ◌↔◌}
 use Rattle.std.specs.Bool.{MatchBool}
 use Rattle.serde_json.specs.Data.{Data}

@@ -64,7 +64,8 @@ lookups-from (s ∷ ss) = by_case s.map ∙ ap (λ rest. entry s ∷ rest) (look
     by_case None = refl
     by_case (Some t) = refl
 
--- the lookup of `p`, relative to the section's offset, in the map of `found`; `None` without a section or a map
+-- the lookup in the map of the section `found`, at `p` relative to the offset of this section; `None` if `found` is
+-- `None` or the section has no map
 abbrev pub found_answer : Option MapSection → ℕ × ℕ → Option TokenValue
 found_answer found p = option_and_then (λ s. answer_of s.map (relative_position (section_offset s) p)) found
 

@@ -1,5 +1,5 @@
--- A map that is decoded from a JSON value, bytes or a data URL is well-formed. The tokens of each regular map and each
--- Hermes map are sorted.
+-- A map that is decoded from a JSON value, bytes or a data URL is well-formed. At every level of the decoded map, the
+-- tokens of each regular map and each Hermes map are sorted.
 use Rattle.std.proofs.Common.{◌≡◌, inl, inr, ℕ, List, Option, Some, None, Result, Ok, Err, MatchOption}
 use Rattle.serde_json.specs.Data.{Data}
 use Rattle.sourcemap_errors.specs.declared.errors.Error.TheVariants.{BadJson}

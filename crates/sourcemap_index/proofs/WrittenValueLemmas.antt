@@ -1,5 +1,5 @@
--- The value that a map of any kind is written as. There is at most one, and no number in it has a fraction.
--- It has few levels if index maps are not nested deep.
+-- A map of any kind is written as at most one JSON value. No number in this value has a fraction. If index maps are not
+-- nested deep, the value has few levels.
 use Rattle.std.proofs.Common.{◌≡◌, ◌∙◌, ◌+◌, ◌*◌, ◌≤◌, ◌++◌, refl, sym, ap, subst, arith, ℕ, List, [], ◌∷◌, codes, Option, Some, false}
 use Rattle.serde_json.specs.Data.{Data, null, string, array, object, Members, no_members, Items, item, depth, items_depth}
 use Rattle.serde_json.specs.Read.{max_depth}
@@ -85,7 +85,8 @@ low_leaf : (l : LeafMap) (r : Tree) → IsLeafRecord l r → IsLow 5 (written r)
 low_leaf (regular m) r is = low_more 2 5 (written r) (omega arith) (regular-low m r is)
 low_leaf (hermes h) r is = hermes-low h r is
 
--- if its sections are written with at most `n` levels, an index is written with at most `n + 2`
+-- let the sections of an index map be written with at most `n` levels and without floating-point numbers. Then the
+-- index map is written with at most `n + 2` levels and without floating-point numbers
 low_index : (n : ℕ) (parts : IndexParts) (xs : Sections) → items_depth (written_sections xs) ≤ n → items_have_float (written_sections xs) ≡ false
     → IsLow (n + 2) (object (put_if (codes "sections") (Some (array (written_sections xs))) (written_fields (index_fields parts))))
 low_index n parts xs few whole =

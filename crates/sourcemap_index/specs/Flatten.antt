@@ -46,10 +46,11 @@ IsSectionInOrder s = IfSome s.map HasTokensInOrder
 abbrev pub RewriteAnswer : RewriteOptions → MapTree → Result MapValue Error → Type 0
 RewriteAnswer options t answer = Then (FlatAnswer t) (λ m a. Rewrites options m a) answer
 
--- `t` can be flattened. The tokens of the flat map have the positions and meanings in `flat_list t`, sorted stably by
--- position. `m` has as many tokens as the flat map. The n-th token of `m` has the generated position and the meaning of
--- the flat map's n-th token, but `without_removed` changes the meaning: the source loses the first prefix in `cuts`
--- that matches the source (`without_prefix`), and the name is removed if names are not kept
+-- `t` can be flattened. The generated positions and meanings of the flat map's tokens are the list `flat_list t`,
+-- sorted stably by position. `m` has as many tokens as the flat map. The n-th token of `m` has the generated position
+-- of the flat map's n-th token. The meaning of the n-th token of `m` is the meaning of the flat map's n-th token,
+-- changed by `without_removed`: the source loses the first prefix in `cuts` that matches the source (`without_prefix`),
+-- and the name is removed if names are not kept
 abbrev pub SaysFlatLess : Removal → MapTree → MapValue → Type 0
 SaysFlatLess removal t m = (whole : MapValue) × (flat t ≡ Ok whole) × SaysFlat t whole × TokensMeanLess removal whole m
 

@@ -50,8 +50,8 @@ fn decode_owned(alloc: Global, bytes: Vec<u8>) -> Result<DecodedMap>
 }
 
 /// Decodes the JSON in these bytes to a map. A junk header before the JSON is skipped. The JSON
-/// object of a map is called a record. A record with sections is an index map, and its own
-/// `x_facebook_sources` are ignored. A record without sections is a Hermes map if it has
+/// object of a map is called a record. A record with a list of sections is an index map, and its
+/// own `x_facebook_sources` are ignored. A record without such a list is a Hermes map if it has
 /// `x_facebook_sources`, otherwise a regular map. The sections of an index map are sorted stably by
 /// offset.
 ///
@@ -59,9 +59,9 @@ fn decode_owned(alloc: Global, bytes: Vec<u8>) -> Result<DecodedMap>
 /// parse is `BadJson(Parse)` (see `JsonFault::Parse`). JSON that is not a record is
 /// `BadJson(Shape)`. Then the record is decoded. The errors for a Hermes map are those of
 /// `decode_hermes`. The errors for a regular map are those of `decode_regular`. The error for a
-/// record with more than 4294967295 sections is `IncompatibleSourceMap`. Otherwise, the maps in the
-/// sections are decoded in the order of the JSON text, and the first error is returned.
-/// `OutOfMemory` can come at any time.
+/// record with more than 4294967295 sections is `IncompatibleSourceMap`. For any other record with
+/// a list of sections, the maps in the sections are decoded in the order of the JSON text, and the
+/// first error is returned. `OutOfMemory` can come at any time.
 pub fn decode_slice(alloc: Global, bytes: &[u8]) -> Result<DecodedMap>
     ensures answer { IsAnswer map_tree (BytesDecode bytes.now) result }
     // Unless memory runs out, the bytes determine the result. If the result is an `Io` error, the
@@ -141,10 +141,10 @@ fn index_in_owned(alloc: Global, bytes: Vec<u8>) -> Result<SourceMapIndex>
 }
 
 impl SourceMapIndex {
-    /// Decodes the JSON in these bytes to an index map. A record without sections is
-    /// `IncompatibleSourceMap`, and then its other keys are not decoded. In all other cases, the
-    /// index map or the error is the same as from `decode_slice`. `OutOfMemory` can come at any
-    /// time.
+    /// Decodes the JSON in these bytes to an index map. If the JSON is a record without a list of
+    /// sections, the error is `IncompatibleSourceMap`, and the other keys of the record are not
+    /// decoded. In all other cases, the index map or the error is the same as from `decode_slice`.
+    /// `OutOfMemory` can come at any time.
     pub fn from_slice(alloc: Global, bytes: &[u8]) -> Result<Self>
         ensures answer { IsAnswer index_value (BytesHaveResult IndexDecodes bytes.now) result }
         // Unless memory runs out, the bytes determine the result. If the result is an `Io` error,

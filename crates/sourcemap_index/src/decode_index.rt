@@ -28,8 +28,8 @@ pub(crate) fn decode_map(alloc: Global, raw: RawSourceMap) -> Result<DecodedMap>
     decode_record(alloc, raw)
 }
 
-/// Decodes a record to an index map. A record without sections is `IncompatibleSourceMap`, and then
-/// its other keys are not decoded.
+/// Decodes a record to an index map. If the record has no list of sections, the error is
+/// `IncompatibleSourceMap`, and the other keys of the record are not decoded.
 pub(crate) fn only_index(alloc: Global, mut raw: RawSourceMap) -> Result<SourceMapIndex>
     ensures { IsAnswer index_value (IndexDecodes (tree raw)) result }
 {
@@ -65,8 +65,8 @@ fn decode_leaf(alloc: Global, raw: RawSourceMap) -> Result<DecodedMap>
 }
 
 // Decodes a record to an index map. `sections` are the sections of the record, and `raw` has the
-// other keys of the record. Decodes the sections in order, then sorts them stably by offset. The
-// error is `IncompatibleSourceMap` if there are more than 4294967295 sections; then no section is
+// other keys of the record. Decodes the sections in order, then sorts them stably by offset. If
+// there are more than 4294967295 sections, the error is `IncompatibleSourceMap`, and no section is
 // decoded. Otherwise the error is the first error of a section's map. The only other error is
 // `OutOfMemory`.
 #[cycle(decode)]

@@ -97,7 +97,7 @@ fn are_same_sections(a: &SourceMapSection, b: &SourceMapSection) -> bool
     offset & url & map
 }
 
-/// Sections are equal exactly if their offsets, URLs and maps are.
+/// Sections are equal exactly if their offsets, URLs and maps are equal.
 impl PartialEq for SourceMapSection {
     ghost eq = { on section_value same_section };
 

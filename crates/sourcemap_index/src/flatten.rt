@@ -22,11 +22,13 @@ use std::rt::Files;
 
 impl SourceMapIndex {
     /// Returns the index map as one regular map. This map has the tokens of all sections. Each
-    /// token is moved by the offset of its section, and the tokens are sorted stably by position.
-    /// Each resolved source and each name appears once. A source has the last contents given for
-    /// it. The ignore list has the source of each token whose source is on the ignore list of the
-    /// token's own map. A Hermes map counts as its regular map, without scopes. The file is that of
-    /// the index map; `sourceRoot` and debug id are `None`.
+    /// token moves down by the line of its section's offset. A token on line 0 of the section's map
+    /// also moves right by the column of the offset. The tokens are sorted stably by generated
+    /// position. Each resolved source and each name appears once. The contents of each source are
+    /// the last contents that the maps of the sections have for this source. If the source of a
+    /// token is on the ignore list of the token's own map, the source is also on the ignore list of
+    /// the returned map; no other source is. A Hermes map counts as its regular map, without
+    /// scopes. The file is that of the index map; `sourceRoot` and debug id are `None`.
     ///
     /// Sections are added in order, up to the first error. A section causes the error
     /// `CannotFlatten` in four cases: the section has no map; its map is an index map that cannot

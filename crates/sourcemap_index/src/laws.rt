@@ -39,9 +39,9 @@ pub fn hermes_maps_are_of_a_kind()
         → UrlHasResult RecordDecodesAsHermes url (Ok h) ↔ UrlDecodes url (Ok (leaf (hermes h))) }
 {}
 
-/// A law: a map that is decoded from a JSON value, bytes or a data URL is well-formed. The tokens
-/// of each regular map and each Hermes map are sorted. Both properties are premises of laws on
-/// flattened maps.
+/// A law: let a map be decoded from a JSON value, bytes or a data URL. Then the map is well-formed,
+/// and its tokens are sorted. In an index map, the tokens of each regular map and each Hermes map
+/// are sorted, at every level. Both properties are premises of laws on flattened maps.
 pub fn read_maps_are_well_formed()
     ensures values { (d : Data) (t : MapTree) → ValueDecodes d (Ok t)
         → IsWellFormed t × HasTokensInOrder t }
@@ -71,9 +71,9 @@ pub fn maps_of_forty_levels_are_shallow()
     ensures { (t : MapTree) → levels t ≤ 40 → IsShallow t }
 {}
 
-/// A law: if a well-formed map of any kind is encoded, the bytes decode to a map with the same
-/// meaning at every position, and so does a data URL of the bytes. `KeepsParts` says which parts of
-/// the map are kept. The law requires that the JSON has at most 127 levels (`IsShallow`).
+/// A law: let a well-formed map of any kind be encoded to JSON of at most 127 levels (`IsShallow`).
+/// Then the bytes decode to a map that has the same meaning at every position, and a data URL of
+/// the bytes decodes to such a map too. `KeepsParts` says which parts of the map are kept.
 pub fn encoded_texts_read_back()
     ensures bytes { (t : MapTree) (text : List ℕ)
         → IsEncoded (RecordAnswer t) text → IsWellFormed t → IsShallow t

@@ -122,12 +122,12 @@ impl DecodedMap {
     }
 
     /// The token closest to a generated position: the first token at the position, or else the last
-    /// token before it, on its line or on an earlier one. `None` if all tokens are after the
-    /// position. If the token is a range token on the line of the position, `get_src_col` of the
-    /// token returns the original column plus the number of columns from the token to the position,
-    /// but at most 4294967295. In an index map only the closest section is searched, as by
-    /// `SourceMapIndex::lookup_token`. This search requires sections sorted by offset at every
-    /// depth.
+    /// token before the position, on the same line or on an earlier line. `None` if all tokens are
+    /// after the position. If the token is a range token on the line of the position, `get_src_col`
+    /// of the token returns the original column plus the number of columns from the token to the
+    /// position, but at most 4294967295. In an index map only the closest section is searched, as
+    /// by `SourceMapIndex::lookup_token`. The search of an index map requires sections sorted by
+    /// offset at every depth.
     #[inline(always)]
     pub fn lookup_token(&self, line: u32, col: u32) -> Option<Token<'_>>
         ensures value { IsInOrder (map_tree self.now)

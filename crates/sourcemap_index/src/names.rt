@@ -43,12 +43,12 @@ impl DecodedMap {
     ghost use Rattle.sourcemap_index.specs.Family.{map_tree};
 
     /// The original name of the function at a generated position. In a Hermes map only line 0 has
-    /// names, and `col` is the bytecode offset; `minified_name` and `source_view` are ignored. In
-    /// any other map the name is guessed from `minified_name` and `source_view`, a view of the
-    /// generated text. The result is then `None` if `minified_name` or `source_view` is `None`. The
-    /// result may be wrong if the sections of an index map are not sorted by offset at every depth,
-    /// or if the functions of a source in a Hermes map are not sorted by start position. Allocates
-    /// no memory.
+    /// names, and `col` is the bytecode offset; `minified_name` and `source_view` are ignored. In a
+    /// regular map or an index map the name is guessed from `minified_name` and `source_view`, a
+    /// view of the generated text. For these maps the result is `None` if `minified_name` or
+    /// `source_view` is `None`. The result may be wrong if the sections of an index map are not
+    /// sorted by offset at every depth, or if the functions of a source in a Hermes map are not
+    /// sorted by start position. Allocates no memory.
     pub fn get_original_function_name(
         &self,
         line: u32,

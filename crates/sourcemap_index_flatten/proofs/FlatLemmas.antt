@@ -1,4 +1,5 @@
--- The concatenation of maps, made from the lists of a `FlatMap`: as a `Part`, and as a regular map.
+-- A `Part` or a regular map that is made from the lists of a `FlatMap` represents the concatenation of the pieces. A
+-- `Part` that is made from the lists of a map represents that map.
 use Rattle.std.proofs.Common.{◌≡◌, refl, sym, ap, subst, ◌∙◌, Bool, true, false, ℕ, suc, ◌+◌, List, [], ◌∷◌, ◌++◌, map, Some, None, Option, option_map, option_and_then, slice_get, string_bytes, arith, ◌&&◌, zero-add, Result, Ok, is_some, cond}
 use Rattle.std.specs.List.{AllByRecursion, enumerate_from}
 use Rattle.std.specs.Option.{option_or}

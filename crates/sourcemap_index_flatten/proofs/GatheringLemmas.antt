@@ -1,4 +1,4 @@
--- One more map is added to a `Gathering`: the new ids, the tokens and the errors.
+-- Lemmas for adding one more map to a `Gathering`: the new ids, the moved tokens, the ignored ids and the errors.
 use Rattle.std.proofs.Common.{◌≡◌, refl, sym, ap, subst, ◌∙◌, ℕ, ◌+◌, ◌≤◌, List, [], ◌∷◌, ◌++◌, append_assoc, length, map, fold, filter, flat_map, Bool, true, false, ◌||◌, nat_eq, codes, Some, None, Option, Ok, Err, arith, slice_get, option_map, unwrap_or}
 use Rattle.std.specs.List.{AllByRecursion, enumerate_from, list_any}
 use Rattle.std.specs.BTreeSet.{insert_key}
@@ -61,7 +61,7 @@ module _ (given : MapValue → List TextEntry) where
   abbrev number : List Piece → MapValue → ℕ → ℕ
   number pieces m id = number_in (texts_entered (entered pieces)) (text_of m id)
 
-  -- each text of a map has an id
+  -- each text in the entries of `piece` has an id among the texts in the entries of `pieces`
   abbrev HasNumber : List Piece → Piece → Type 0
   HasNumber pieces piece = (id : ℕ) → IsListedIfAny (texts_entered (entered pieces)) (text_of piece.1 id)
 
@@ -97,7 +97,8 @@ module _ (given : MapValue → List TextEntry) where
       subst (λ all. AllByRecursion (HasNumber all) (p ∷ ps)) (append_assoc front (p ∷ []) ps)
       (numbered-front (front ++ p ∷ []) ps p (numbered-last front p), numbered-appended (front ++ p ∷ []) ps)
 
-  -- each text of each piece has an id. This id stays the same when a piece is appended (`number-stays`)
+  -- each text in the entries of each piece has an id among the texts in the entries of all pieces. This id stays the
+  -- same when another piece is appended (`number-stays`)
   pub all-numbered : (pieces : List Piece) → AllByRecursion (HasNumber pieces) pieces
   all-numbered pieces = numbered-appended [] pieces
 

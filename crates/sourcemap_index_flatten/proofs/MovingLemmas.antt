@@ -29,7 +29,8 @@ is_eq-nat_cmp a b = by_case (nat_lt a b) (nat_eq a b) refl refl
     by_case false true l s = rw (l, s) refl
     by_case false false l s = rw (l, s) refl
 
--- the set's test by `nat_cmp` is a test for equality
+-- `BTreeSet::contains` tests with `nat_cmp` whether `ignored` contains `id`. The test with `nat_eq` gives the same
+-- result
 pub same_test : (id : ℕ) (ignored : List ℕ) → list_any (λ k. is_eq (nat_cmp id k)) ignored ≡ list_any (nat_eq id) ignored
 same_test id [] = refl
 same_test id (k ∷ ks) = λ i. is_eq-nat_cmp id k i || same_test id ks i

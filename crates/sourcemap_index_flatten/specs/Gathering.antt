@@ -49,7 +49,8 @@ pub record GathersMore (before : List Piece) (piece : Piece) (g : Gathering) : T
   pub gathered : Gathers (before ++ piece ∷ []) g
   pub due : with_piece before piece ≡ Ok (before ++ piece ∷ [])
 
--- `due` is `Err reason` and `e` is `CannotFlatten` with the text `reason`, unless `e` is `OutOfMemory`
+-- `e` is `OutOfMemory`, or there is a text `reason` such that `due` is `Err reason` and `e` is `CannotFlatten` with
+-- this text
 abbrev pub RefusesFor : Result (List Piece) (List ℕ) → Error → Type 0
 RefusesFor due e = UnlessMemory e ((reason : List ℕ) × (due ≡ Err reason) × GivesReason reason e)
 

@@ -1,5 +1,6 @@
--- Lookups in a list that has the position and the meaning of each token. Each position with a meaning in an orderly map
--- with sorted tokens has the same meaning in the flat list, sorted stably by position.
+-- Lookups in a list that has the position and the meaning of each token. Let a map be orderly (`IsOrderly`), and let
+-- its tokens be sorted (`HasTokensInOrder`). If a position has a meaning in the map, the position has the same meaning
+-- in the map's flat list, sorted stably by position.
 use Rattle.std.proofs.Common.{◌≡◌, refl, sym, ap, ◌∙◌, ℕ, ◌-◌, ◌==◌, if◌then◌else◌, List, [], ◌∷◌, ◌++◌, map, find, Bool, true, false, ◌&&◌, Option, Some, None, option_map, option_and_then, arith, inl, inr, ◌⊎◌}
 use Rattle.std.proofs.lemmas.Bool.{cases_Bool}
 use Rattle.std.specs.List.{AllByRecursion}
@@ -161,8 +162,9 @@ alone s p m e =
       ]
     ]
 
--- if the sections `ss` do not overlap and all of them are after `p` (`Follow`), the search for `p` can skip `ss`. If
--- `s` is before `p` and the search in `ss` finds a section, the search can skip `s` (`closest_if_reached`)
+-- if the sections `ss` do not overlap and all of them are after `p` (`Follow`), the search for `p` in `s` and `ss`
+-- gives the same result as the search in `s` alone. If the offset of `s` is before `p` and the search for `p` in `ss`
+-- alone finds a section (`IsReached`), the search in `s` and `ss` finds the same section (`closest_if_reached`)
 closest_if_followed : (s : SectionLookup) (ss : MapSections) (p : ℕ × ℕ) → Follow (spans ss) p → closest_section (s ∷ lookups ss) p ≡ closest_section (s ∷ []) p
 closest_if_followed s ss p follow = closest_before (λ (s : SectionLookup). s.0) p (s ∷ []) (lookups ss) (lookups_follow p ss follow)
 
@@ -172,7 +174,8 @@ closest_if_reached s own ss p reached =
     closest_of_later (λ (s : SectionLookup). s.0) p (s ∷ []) (lookups ss) (reached.offset, tt)
     ∙ ap (λ c. option_or c (closest_section (s ∷ []) p)) found.1 ∙ sym found.1
 
--- Each position with a meaning in an orderly map with sorted tokens has the same meaning in the sorted flat list.
+-- Let a map be orderly, and let its tokens be sorted. If a position has a meaning in the map, the position has the same
+-- meaning in the map's sorted flat list.
 
 module _ (head : SectionHead) (t : MapTree) (rest : MapSections) (apart : AreApart (spans (filled head t rest))) (p : ℕ × ℕ) (m : Meaning) where
   abbrev block : List Entry

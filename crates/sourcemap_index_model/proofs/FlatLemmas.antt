@@ -198,8 +198,9 @@ module _ (file : Option (List ℕ)) (pieces : List Piece) (few : AreFew pieces) 
       AllWithin-in_order (length (sources_in pieces)) (length (names_in pieces)) (flat_map tokens_of pieces)
       (All-flat_map (IsWithin (length (sources_in pieces)) (length (names_in pieces))) tokens_of pieces (pieces_within pieces (all_among pieces) all))
 
--- If the tokens of each map in the index map are sorted, the tokens of the flattened map have the positions and
--- meanings in the flat list, sorted stably by position.
+-- Let the tokens of a map be sorted (`HasTokensInOrder`), and let the map flatten without an error. Sorting the flat
+-- list of the map stably by position gives the position and the meaning of each token of the flattened map, in the
+-- order of the tokens.
 
 abbrev absolute_meaning : Piece → List Entry
 absolute_meaning piece = map (absolute_entry piece.0) (token_meanings piece.1)
@@ -245,7 +246,8 @@ mutual
   pieces_well (filled head t rest) pieces well (m, more, is, flat_is, made) =
       subst (AllByRecursion (λ (piece : Piece). IsWellFormedRegular piece.1)) (sym is) (flat_well t m well.0 flat_is, pieces_well rest more well.1 made)
 
--- Each position with a meaning in an orderly map with sorted tokens has the same meaning in the flattened map.
+-- Let a map be orderly, let its tokens be sorted, and let the map flatten without an error. If a position has a meaning
+-- in the map, the position has the same meaning in the flattened map.
 
 pub flat_answers : (t : MapTree) (m : MapValue) → HasTokensInOrder t → IsOrderly t → flat t ≡ Ok m → AnswersLike t m
 flat_answers t m ordered orderly e p = by_case (meaning t p) refl

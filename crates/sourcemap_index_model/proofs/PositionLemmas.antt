@@ -1,4 +1,4 @@
--- Positions relative to a section, and in the whole.
+-- Positions relative to the offset of a section, and positions in the index map.
 use Rattle.std.proofs.Common.{◌≡◌, ℕ, ◌+◌, ◌-◌, ◌≤◌, ◌==◌, if◌then◌else◌, true, false, arith}
 use Rattle.std.specs.Ordering.{is_lt, is_eq}
 use Rattle.std.proofs.lemmas.Bool.Decides.{nat_tests}
@@ -51,7 +51,9 @@ line_reached a b c d h = grind (arith, nat_tests)
 pub absolute_relative : (o p : ℕ × ℕ) → is_lt (position_cmp p o) ≡ false → absolute_position o (relative_position o p) ≡ p
 absolute_relative (a, b) (c, d) h = λ i. (absolute_line a c (line_reached a b c d h) i, absolute_column a b c d h i)
 
--- the column distance between positions of one line is the same in the section and in the whole
+-- let `p` be a position in the index map that is not before the offset `o` of a section, and let `q` be a position
+-- relative to `o`. The column distance from `q` to `p` is the same in the index map as relative to `o`. The distance
+-- counts as 0 if `q` is on another line or is after `p`
 pub distance_from_section : (o p q : ℕ × ℕ) → is_lt (position_cmp p o) ≡ false
     → (if (absolute_position o q).0 == p.0 then p.1 - (absolute_position o q).1 else 0) ≡ (if q.0 == (relative_position o p).0 then (relative_position o p).1 - q.1 else 0)
 distance_from_section (a, b) (c, d) (e, f) h = grind (arith, nat_tests)

@@ -33,8 +33,8 @@ names_in pieces = kept_once (flat_map (λ piece. piece.1.names) pieces)
 abbrev pub source_entries : MapValue → List (List ℕ × Option (List ℕ))
 source_entries m = map (λ source. (source.1, contents_of m source.0)) (enumerate_from 0 (resolved_sources m))
 
--- the contents of one source of the pieces: the last source that resolves to `text` and has contents. `None` if no
--- source resolves to `text` and has contents
+-- the contents of the last source in the pieces that resolves to `text` and has contents. `None` if there is no such
+-- source
 abbrev pub contents_in : List Piece → List ℕ → Option (List ℕ)
 contents_in pieces text =
     option_and_then (λ source. source.1)

@@ -8,8 +8,8 @@ use Rattle.sourcemap_map_regular.specs.Map.{Meaning}
 use Rattle.sourcemap_map_regular.specs.Rewrite.{token_meanings}
 use Rattle.sourcemap_index_model.specs.MapTree.{MapTree, leaf, index, held, MapSections, no_sections, hollow, filled, offset_of, AtEachLevel}
 
--- a position relative to the offset of a section, as a position in the index map; the offset's column is added on the
--- section's first line only
+-- the position `p` in the map of a section, as a position in the index map. The section starts at `offset`. The column
+-- of `offset` is added only if `p` is on line 0, the first line of the section
 abbrev pub absolute_position : (offset p : ℕ × ℕ) → ℕ × ℕ
 absolute_position offset p = (p.0 + offset.0, (if p.0 == 0 then p.1 + offset.1 else p.1))
 

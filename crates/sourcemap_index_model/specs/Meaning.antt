@@ -6,7 +6,8 @@ use Rattle.sourcemap_map_regular.specs.Map.{Meaning}
 use Rattle.sourcemap_map_regular.specs.Token.{TokenValue, says, lookup as lookup_regular}
 use Rattle.sourcemap_index_model.specs.MapTree.{MapTree, leaf, index, held, MapSections, no_sections, hollow, filled, offset_of}
 
--- a position relative to the offset of a section
+-- the position `p` in an index map, relative to `offset`, the offset of a section that starts at or before `p`. The
+-- column of `offset` is subtracted only if `p` is on the line of `offset`
 abbrev pub relative_position : (offset p : ℕ × ℕ) → ℕ × ℕ
 relative_position offset p = (p.0 - offset.0, (if p.0 == offset.0 then p.1 - offset.1 else p.1))
 

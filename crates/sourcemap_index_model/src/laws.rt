@@ -18,8 +18,8 @@ pub fn records_decode_once()
     ensures { (r : Tree) (a b : Result MapTree Error) → TreeDecodes r a → TreeDecodes r b → a ≡ b }
 {}
 
-/// A law: each decoded map is well-formed at every level. The tokens of each regular map and each
-/// Hermes map are sorted.
+/// A law: each decoded map is well-formed at every level. At every level of a decoded map, the
+/// tokens of each regular map and each Hermes map are sorted.
 pub fn decoded_maps_are_well_formed()
     ensures well_formed { (r : Tree) (t : MapTree) → TreeDecodes r (Ok t) → IsWellFormed t }
     ensures tokens { (r : Tree) (t : MapTree) → TreeDecodes r (Ok t) → HasTokensInOrder t }

@@ -55,8 +55,8 @@ fn name_at(alloc: Global, text: &str, offset: u32) -> Result<String> {
     name_copied(alloc, &*map_of(alloc, text)?, offset)
 }
 
-// A map, a bytecode offset, and the name of the function there. For an index map, this is an offset
-// in the map of its first section.
+// A map, a bytecode offset, and the name of the function at this offset, or `none`. For an index
+// map, the offset is a bytecode offset in the map of the first section.
 static NAMES: [(&str, u32, &str); 8] = [
     (TWO_FUNCTIONS, 0, "<global>"),
     (TWO_FUNCTIONS, 7, "foo"),

@@ -45,7 +45,8 @@ const MIXED: &str =
 const HERMES: &str =
     r#"{"sections":[{"offset":{"line":0,"column":0},"map":{"sources":["a.js"],"mappings":"AAAA"}},{"offset":{"line":1,"column":2},"map":{"sources":["b.js"],"mappings":"AAAO","rangeMappings":"B","x_facebook_sources":[[{"names":["f"],"mappings":"AAA"}]]}}]}"#;
 
-// An index, a line and a column, and the text of the token there.
+// An index map, a line and a column. Then the text of the token that a lookup of this position
+// finds, or `none` if the lookup finds no token.
 static POSITIONS: [(&str, u32, u32, &str); 28] = [
     (TWO, 0, 0, "a.js:0:0"),
     (TWO, 10, 3, "a.js:0:0"),

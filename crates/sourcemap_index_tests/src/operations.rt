@@ -37,7 +37,7 @@ const SHARED: &str =
 const INDENTED: &str =
     r#"{"sections":[{"offset":{"line":10,"column":4},"map":{"sources":["a.js"],"mappings":"AAAA;AAAA"}}]}"#;
 
-// Each section has an error, and that of the first section is returned.
+// Neither section can be flattened. `flatten` returns the error for the first section.
 const PAST_THE_COLUMNS: &str =
     r#"{"sections":[{"offset":{"line":0,"column":4294967295},"map":{"sources":["a.js"],"mappings":"CAAA"}},{"offset":{"line":1,"column":0}}]}"#;
 

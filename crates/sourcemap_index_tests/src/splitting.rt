@@ -259,8 +259,8 @@ static ITEMS: [&str; 3] = [
     r#"2.js [w] {"file":"2.js","mappings":"AACEA","names":["n"],"sources":["a.js"],"sourcesContent":["A"],"version":3}"#,
 ];
 
-// Whether an item is the wanted one, or its error is `OutOfMemory`. Also true if memory runs out
-// while the text of the item is made.
+// Returns true in three cases: the text of the item is `want`; the item is the error `OutOfMemory`;
+// memory runs out while the text of the item is made.
 fn is_wanted_or_out_of_memory(
     alloc: Global,
     item: Result<(String, SourceView, SourceMap)>,
@@ -288,7 +288,7 @@ fn wanted_items(alloc: Global, bundle: &RamBundle<'_>, index: &SourceMapIndex) -
 fn split_where_memory_fails(alloc: Global) -> Result<String> {
     let index = index_of(alloc, LINE_BY_LINE)?;
     let bundle = RamBundle::parse_indexed_from_slice(THREE)?;
-    // where memory runs out before the first item, the bundle is split again
+    // if memory runs out before the first item, the bundle is split again
     let count = match wanted_items(alloc, &bundle, &*index) {
         Err(Error::OutOfMemory) => wanted_items(alloc, &bundle, &*index)?,
         other => other?,

@@ -32,8 +32,7 @@ is_text-last : (texts : List (List ℕ)) (text : List ℕ) → is_text text (sli
 is_text-last [] text = bytes_eq-refl text
 is_text-last (first ∷ texts) text = is_text-last texts text
 
--- let `texts` have `text` at no index other than `found`. Then the id that `matching_id` gives, or `found` if it gives
--- `None`, is `found`
+-- let `texts` have `text` at no index other than `found`. If `matching_id` gives an id for `text`, this id is `found`
 matching_id-is : (texts : List (List ℕ)) (text : List ℕ) (id : Option ℕ) (found : ℕ) → ((n : ℕ) → slice_get texts n ≡ Some text → n ≡ found) → option_or (matching_id texts text id) (Some found) ≡ Some found
 matching_id-is texts text None found only = refl
 matching_id-is texts text (Some id) found only =

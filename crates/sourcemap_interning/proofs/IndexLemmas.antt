@@ -104,7 +104,8 @@ module _ (texts : List (List ℕ)) (mask : ℕ) (slots : List Slot) (others : Li
         before = λ j below. taken_still (begin + j) (reached.before j below);
       }
 
-      -- the text goes to the free slot
+      -- if `texts` has fewer than 4294967295 texts, the index stays valid when a new `text` goes to the first free slot
+      -- of the 32 slots that are searched for `text`
       pub index-free : IsIndex (texts ++ text ∷ []) mask after others
       index-free = record {
         few = let more = length_push texts text in omega (arith, more, below_max);

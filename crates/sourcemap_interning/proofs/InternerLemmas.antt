@@ -28,7 +28,7 @@ bytes_eq-refl text = (bytes_eq-Decides text text).1 refl
 bytes_eq-false : (a b : List ℕ) → (a ≡ b → bytes_eq a b ≡ true → ⊥) → bytes_eq a b ≡ false
 bytes_eq-false a b apart = elim (cases_Bool (bytes_eq a b)) [ inl h ↦ absurd (apart ((bytes_eq-Decides a b).0 h) h) | inr h ↦ h ]
 
--- a new string is the only one whose id changes
+-- appending a new string `text` to `texts` gives `text` the id `length texts`, and changes the id of no other string
 pub id_of-append : (texts : List (List ℕ)) (text : List ℕ) → id_of text texts ≡ None → (other : List ℕ)
     → id_of other (texts ++ text ∷ []) ≡ cond (bytes_eq text other) (Some (length texts)) (id_of other texts)
 id_of-append texts text new other =
@@ -70,8 +70,8 @@ AreDistinct-append texts text distinct new one id at =
           rw (id_of-append texts text new one, found, last) refl
     ]
 
--- if `old` gives the ids in `texts`, and `new` adds the next id for a new `text`, `new` gives the ids with `text`
--- appended
+-- let `old` give the ids in `texts`, and let `texts` not contain `text`. If `new` gives the next id for `text`, and the
+-- same result as `old` for each other string, then `new` gives the ids in `texts ++ text ∷ []`
 pub ids-append : (texts : List (List ℕ)) (text : List ℕ) (count : ℕ) (old new : List ℕ → Option ℕ) → length texts ≡ count → id_of text texts ≡ None
     → ((t : List ℕ) → old t ≡ id_of t texts) → ((t : List ℕ) → new t ≡ cond (bytes_eq text t) (Some count) (old t))
     → (t : List ℕ) → new t ≡ id_of t (texts ++ text ∷ [])

@@ -11,7 +11,7 @@ use Rattle.sourcemap_interning.specs.declared.slots.Slot.{Slot}
 use Rattle.sourcemap_interning.specs.declared.slots.Probe.{Probe}
 use Rattle.sourcemap_interning.specs.declared.slots.Probe.TheVariants.{Found, Free, Full}
 
--- the upper 32 bits of the hash of the bytes of a text
+-- the upper 32 bits of the hash that `FoldHasher` computes from the bytes of a text
 unfoldable pub hash_of : List ℕ → ℕ
 hash_of text = folding.finish (folding.write folding.initial text) / 2 ^ 32
 
@@ -67,10 +67,10 @@ abbrev pub AreTaken : List Slot → ℕ → Type 0
 AreTaken slots start = (k : ℕ) → k < 32 → IsTaken slots (start + k)
 
 -- An index of texts. There are at most 4294967295 texts, all distinct, and `mask + 33` slots. Each taken slot has the
--- number and the hash of one of the texts. A search for a text covers 32 slots, from `start_of mask (hash_of text)`
--- on. For each text of `texts`, one of two cases holds. In the first case one of these 32 slots has the number of the
--- text, and all earlier slots of the 32 are taken. In the second case all 32 slots are taken, and `others` has the
--- number of the text. If `others` has a number for any text, `texts` has the text at this number.
+-- number and the hash of one of the texts. A search for a text covers 32 slots, from `start_of mask (hash_of text)` on.
+-- For each text of `texts`, one of two cases holds. In the first case one of these 32 slots has the number of the text,
+-- and all earlier slots of the 32 are taken. In the second case all 32 slots are taken, and `others` has the number of
+-- the text. Whenever `others` has a number for a text, `texts` has this text at this number.
 pub record IsIndex (texts : List (List ℕ)) (mask : ℕ) (slots : List Slot) (others : List ℕ → Option ℕ) : Type 0 where
   pub few : length texts ≤ 4294967295
   pub distinct : AreDistinct texts

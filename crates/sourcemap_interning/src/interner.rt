@@ -67,7 +67,7 @@ impl Interner {
         // equal strings have equal ids, and `get` of the id returns the string
         ensures index { IfOk result (λ id. id_of text.now self.new ≡ Some id) }
         ensures text { IfOk result (λ id. slice_get self.new id ≡ Some text.now) }
-        // an existing string causes no error; a new string, if no id is left for it, always causes
+        // an existing string causes no error. If no id is left, a new string always causes
         // `IncompatibleSourceMap`
         ensures existing { IsSome (id_of text.now self.old) → IsOk result }
         ensures full { id_for self.old text.now ≡ Err IncompatibleSourceMap

@@ -47,8 +47,9 @@ byte_read old new text at inside plain_byte put =
 
 -- ---- escapes
 
--- if the bytes from `at` to `next` decode to `added`, and these bytes and `added` are whole characters, then appending
--- `added` is a step of decoding
+-- let the bytes from `at` to `next` decode to `added`, and let `added` be UTF-8 and not empty. If the text from `at` on
+-- is UTF-8 whenever the text from `next` on is UTF-8 (`IsUtf8UpTo`), appending `added` is a step of decoding
+-- (`IsReadUpTo`)
 pub added_read : (old new added text : List ℕ) (at next : ℕ) → IsUtf8 added → 0 < length added → IsDecodedBetween (drop at text) added (drop next text) → IsUtf8UpTo text at next → new ≡ old ++ added
     → IsReadUpTo old text at new next
 added_read old new added text at next added_is some decodes passed put =

@@ -107,7 +107,7 @@ module _ (stop : ℕ → Bool) (text : List ℕ) (at n : ℕ) (inside : at + n �
       ≡ cond (eqb (prefix_len (λ x. not (stop x)) (chunk at n text)) (length (chunk at n text))) (length (chunk at n text) + prefix_len (λ x. not (stop x)) (drop (at + n) text)) (prefix_len (λ x. not (stop x)) (chunk at n text))
   split = ap (prefix_len (λ x. not (stop x))) (chunk-drop at n text) ∙ prefix_len-append (λ x. not (stop x)) (chunk at n text) (drop (at + n) text)
 
-  -- if the mask of the chunk is 0, the run from `at` on is the whole chunk, then the run from `at + n` on
+  -- if the mask of the chunk is 0, the run from `at` on is the whole chunk, followed by the run from `at + n` on
   pub run_goes_on : mask_l (map stop (chunk at n text)) ≡ 0 → prefix_len (λ x. not (stop x)) (drop at text) ≡ n + prefix_len (λ x. not (stop x)) (drop (at + n) text)
   run_goes_on none =
       let part = chunk at n text in
@@ -144,8 +144,8 @@ copied_more out before text from at n after is =
     ap (λ xs. xs ++ take n (drop at text)) is ∙ append_assoc before (take (at - from) rest) (take n (drop at text))
     ∙ ap (λ xs. before ++ (take (at - from) rest ++ take n xs)) there ∙ ap (λ xs. before ++ xs) (sym (take-add (at - from) n rest)) ∙ ap (λ k. before ++ take k rest) count
 
--- let `all` be `out`, then the first `most` bytes of `block`, and let `n ≤ most`. Truncating `all` to `n` bytes after
--- `out` leaves `out` and the first `n` bytes of `block`
+-- let `all` be `out` followed by the first `most` bytes of `block`, and let `n ≤ most`. Truncating `all` to `length out
+-- + n` bytes leaves `out` followed by the first `n` bytes of `block`
 pub cut_back : (out block all : List ℕ) (n most : ℕ) → n ≤ most → all ≡ out ++ take most block → take (length out + n) all ≡ out ++ take n block
 cut_back out block all n most few is =
     ap (take (length out + n)) is ∙ take-append-add out (take most block) n ∙ ap (λ xs. out ++ xs) (take-take n most block few)

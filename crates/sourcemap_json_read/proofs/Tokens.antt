@@ -1,4 +1,5 @@
--- The tokens from a position on, by the byte there.
+-- The tokens from a position on. If a bracket, a key, a string or a word begins at the position and is allowed there,
+-- this gives the first token. The other tokens are those from a later position on.
 use Rattle.std.proofs.Common.{◌≡◌, ◌≢◌, ◌≤◌, ℕ, ◌+◌, true, List, ◌∷◌, drop, length, Some, sym, ap, ◌∙◌}
 use Rattle.std.proofs.lemmas.List.{drop-drop, drop_all}
 use Rattle.json.specs.Token.{Token, begin_object, end_object, begin_array, end_array, key, string}

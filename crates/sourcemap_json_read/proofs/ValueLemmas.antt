@@ -59,7 +59,7 @@ next_item depth most d ds old rest new some h more = (
 pub no_more_items : (depth most : ℕ) (old new : List Token) → length old ≤ most → old ≡ Token.end_array ∷ new → BeginsWithItems depth most old no_items new
 no_more_items depth most old new enough closed = (json.no_items, items_end (json.value depth) most old new enough (ap after_end_array closed), refl)
 
--- the values in front of the items
+-- the views of the given values, as items, followed by the items `ds`
 abbrev pub in_front : List Value → Items → Items
 in_front [] ds = ds
 in_front (v ∷ vs) ds = item (view v) (in_front vs ds)

@@ -104,9 +104,10 @@ fn store_bytes(buffer: &mut [u8], to: usize, bytes: &[u8])
     buffer[to..to + bytes.len()].copy_from_slice(bytes);
 }
 
-/// Returns the character of the `\u` escape at `at`, and the index after the escape. If two `\u`
-/// escapes there are a surrogate pair, returns the character of the pair, and the index after both.
-/// Returns `None` if no `\u` escape is at `at`, or if the escape is a lone surrogate.
+/// Returns the character of the `\u` escape at `at`, and the index after the escape. If this escape
+/// and a `\u` escape directly after it are a surrogate pair, returns the character of the pair, and
+/// the index after both escapes. Returns `None` if no `\u` escape is at `at`, or if the escape is a
+/// lone surrogate.
 fn unicode_escape(text: &[u8], at: usize) -> Option<(char, usize)>
     requires { at ≤ length text.now }
     ensures decodes { IfSome result

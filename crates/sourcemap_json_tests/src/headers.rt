@@ -80,9 +80,10 @@ fn strips_the_header(rt: HostRuntime) {
     }
 }
 
-// Each read returns one byte. When `left` bytes remain, one read fails instead, with a message. The
-// reads after it return the remaining bytes. Once a `NarrowReader` or a `HaltingReader` fails, all
-// its further uninterrupted reads fail too, and their errors have no message.
+// Each read returns one byte, or none if `rest` or the buffer is empty. When `left` bytes remain,
+// one read fails instead, with a message. The later reads return the remaining bytes. In contrast,
+// once a `NarrowReader` or a `HaltingReader` fails, each further uninterrupted read of this reader
+// fails too, and none of these errors has a message.
 #[derive(Drop)]
 struct FailsOnce<'a> {
     rest: &'a [u8],
@@ -108,8 +109,8 @@ impl Read for FailsOnce<'_> {
 }
 
 // A label, bytes, how many bytes are left where the inner reader fails, the buffer size of each
-// read, and the results of the reads. A result is the byte read, `.` for none, `?` for invalid data,
-// or `~` for the error of the inner reader.
+// read, and the results of the reads. A result is the byte read, `.` for none, `?` for invalid
+// data, or `~` for the error of the inner reader.
 static INVALID: [(&str, &[u8], Option<usize>, [usize; 4], &str); 2] = [
     (
         "an empty buffer, then the same error at each read",

@@ -1,5 +1,5 @@
 // The value that a reader returns, as compact JSON. If the reader refuses the text, the result is
-// `none`. The error is out of memory.
+// `none`. The only error is out of memory.
 use crate::checks::check;
 use serde_json::{Category, Result, Value};
 use sourcemap_json_read::values::value_from_slice;

@@ -1,5 +1,6 @@
-// Strings with escapes, mostly so far from the end of the JSON text that the reader decodes whole
-// blocks. Some strings are longer than 4096 bytes, so the reader extends its buffer more than once.
+// Strings with escapes. Most of these strings are so far from the end of the JSON text that the
+// reader decodes whole blocks. Some strings are longer than 4096 bytes, so the reader extends its
+// buffer more than once.
 use crate::answers::check_row;
 use serde_json::Result;
 use std::alloc::Global;

@@ -15,9 +15,9 @@ use std::simd::Simd;
 // The length of the longest short string, in bytes.
 const SHORT: usize = 48;
 
-/// The writer tests whether the rest of a string needs an escape. If not, it copies the rest
-/// unchanged. It makes this test only if at most `LONG` bytes are left. A step that begins earlier
-/// may also write some of the last `LONG` bytes, without this test.
+/// If at most `LONG` bytes of a string are left, the writer tests whether these bytes need an
+/// escape. If they need none, the writer copies them unchanged. A step that begins with more than
+/// `LONG` bytes left may write some or all of the last `LONG` bytes without this test.
 pub(crate) const LONG: usize = 1024;
 
 // To append a short string, `out` is first extended by these zeros, with one test of the capacity

@@ -103,7 +103,8 @@ module _ (tokens : List RawToken) (p : ℕ × ℕ) (low high index : ℕ) (up : 
   closest-at-index-inside e r still l true same back stepped a found = no_step index a (subst (λ k. SomeIff a (k ≤ index) (index - k)) stepped found) ∙ index-hit e r still l (sym same)
   closest-at-index-inside e r still l false same back stepped a found = index-miss (index-apart e r still l (sym same)) a (subst (λ k. SomeIff a (k ≤ index) (index - k)) stepped found)
 
-  -- the result is index if its token is at p. Otherwise it is index - 1, or none if index is 0
+  -- if the token at `index` is at `p`, the token closest to `p` has the index `index`. Otherwise the closest token has
+  -- the index `index - 1`, or if `index` is 0, there is no closest token
   pub closest-at-index : (e : RawToken) (n : ℕ) (r : ℕ × ℕ) → r ≡ q → (index < high → n ≡ index) → (b : Bool) → b ≡ is_eq (nat_cmp r.1 (get_or tokens n e).dst_col) → (back : ℕ) → back ≡ bool_byte (not (nat_lt index high && b))
       → (a : Option ℕ) → SomeIff a (back ≤ index) (index - back) → a ≡ option_map (λ found. found.0) (closest_token tokens p)
   closest-at-index e n r still here b same back stepped a found =
@@ -165,8 +166,10 @@ binary_digits_fewest n d small = fewest_within n n d (omega arith) small
 thirty_two_times : (d : ℕ) → 2 ^ suc (suc (suc (suc (suc d)))) ≡ 2 * (2 * (2 * (2 * (2 * 2 ^ d))))
 thirty_two_times d = rw (pow-succ' 2 (suc (suc (suc (suc d)))), pow-succ' 2 (suc (suc (suc d))), pow-succ' 2 (suc (suc d)), pow-succ' 2 (suc d), pow-succ' 2 d) refl
 
--- with samples, the bound for the search for the column is higher by five. The lines then hold at least 32 tokens on
--- average, so the bound for the search for the line is lower by five
+-- let a list with samples have fewer than `2 ^ d` tokens. The lines with tokens have at least 32 tokens on average, so
+-- there are fewer than `2 ^ (d - 5)` such lines. The search for the line, with the test whether the line was found,
+-- makes at most `d - 4` comparisons. The search for the column makes at most `d + 5`. Both searches together make at
+-- most `2 * d + 1`
 count_by_few_lines : (d count lines start found left : ℕ) → count < 2 ^ d → 0 < lines → 32 * lines ≤ count → ((e : ℕ) → lines < 2 ^ e → found ≤ start + (e + 1)) → left ≤ found + (d + 5) → left ≤ start + (2 * d + 1)
 count_by_few_lines zero count lines start found left small some few f l = absurd (omega arith)
 count_by_few_lines (suc zero) count lines start found left small some few f l = absurd (omega arith)

@@ -13,7 +13,8 @@ use Rattle.sourcemap_tokens.proofs.AllLemmas.{All-at}
 use Rattle.sourcemap_tokens.proofs.TokensLemmas.{position_cmp_total}
 use Rattle.sourcemap_line_index.specs.LineIndex.{BeginsLine, ContinuesLine, IsLineTable, IsTableOf, IsSpan, LineTable, line_at, with_row}
 
--- an index with a line is inside the list, and its token is on that line
+-- if `line_at` returns a line for the index `k`, then `k` is inside the list, and the token at `k` is on this line
+-- (`token_line`)
 pub inside_list : (tokens : List RawToken) (k line : ℕ) → line_at tokens k ≡ Some line → k < length tokens
 inside_list tokens k line at =
     elim (cases_lt k (length tokens)) [
@@ -27,7 +28,7 @@ token_line tokens k line d at =
     let same : Some (get_or tokens k d).dst_line ≡ Some line = subst (λ o. option_map (λ t. t.dst_line) o ≡ Some line) found at in
     cc
 
--- an index with a line has a token
+-- if `line_at` returns a line for the index `k`, there is a token at `k`
 token_of : (tokens : List RawToken) (k line : ℕ) → line_at tokens k ≡ Some line → (t : RawToken) × (slice_get tokens k ≡ Some t)
 token_of tokens k line at =
     let found = slice_get_cases tokens k in
@@ -224,7 +225,8 @@ module _ (old more : List RawToken) (line : ℕ) where
         let whole : length old + (length more - 1) + 1 ≡ length (old ++ more) = let many = length-append old more in omega arith in
         subst (λ n. IsLineTable (old ++ more) n (with_row table line (length old))) whole (table_of_more (with_row table line (length old)) (length more - 1) (omega arith) begun)
 
--- the tokens of a row, from index `low` on. If there is no such row, `low` is the token count
+-- let `row` be the index of a row of the table, or the row count. Let `low` be the index of the first token of row
+-- `row`, or the token count if `row` is the row count
 module _ (tokens : List RawToken) (table : LineTable) (made : IsTableOf tokens table) (row low p : ℕ) (within : row < length table.firsts → low ≡ slice_index table.firsts row) (past : length table.firsts ≤ row → low ≡ length tokens) (in_rows : row ≤ length table.lines) where
   pub inside_row : low ≤ length tokens
   inside_row =

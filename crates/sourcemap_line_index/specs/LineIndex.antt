@@ -52,8 +52,9 @@ pub record IsLineTable (tokens : List RawToken) (n : ℕ) (table : LineTable) : 
 abbrev pub IsTableOf : List RawToken → LineTable → Type 0
 IsTableOf tokens table = AreInOrder tokens × IsLineTable tokens (length tokens) table
 
--- if the tokens are sorted, those on the line are the tokens from index `low` up to, not including, `high`. If there
--- are none, both are the index of the first token on a later line, or the token count if there is no such token
+-- if the tokens are sorted, the tokens on `line` are the tokens from index `low` up to, not including, `high`. If no
+-- token is on `line`, `low` and `high` are both the index of the first token on a later line, or the token count if no
+-- token is on a later line
 pub record IsSpan (tokens : List RawToken) (line low high : ℕ) : Type 0 where
   pub ordered : low ≤ high
   pub inside : high ≤ length tokens

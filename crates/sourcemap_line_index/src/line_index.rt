@@ -33,8 +33,8 @@ impl Model for LineIndex {
 }
 
 impl LineIndex {
-    /// Builds the table of tokens that are sorted by generated position. The only error is out of
-    /// memory.
+    /// Builds the table of the lines that hold tokens. `tokens` must be sorted by generated
+    /// position. The only error is out of memory.
     pub fn new(alloc: Global, tokens: &[RawToken]) -> Result<LineIndex>
         requires { AreInOrder tokens.now }
         ensures table { IfOk result (λ table. IsTableOf tokens.now table) }
@@ -181,8 +181,9 @@ impl LineIndex {
     }
 }
 
-// As `span_of`, for tokens that are all on one line, as in most minified code. It reads no index
-// from the table, so the search that follows need not wait for such a read.
+// Returns the range that `span_of` returns for `count` tokens that are all on the line `line`, as
+// in most minified code. This function reads no index from the table, so the search that follows
+// need not wait for such a read.
 #[inline(always)]
 fn span_of_one<P: Probe>(line: u32, count: usize, probe: &mut P) -> (usize, usize)
     ensures same { (P.position probe.old).0 ≡ line → result ≡ (0, count) }

@@ -77,10 +77,10 @@ fn columns_of(alloc: Global, tokens: &[RawToken]) -> Result<Vec<u32>, AllocError
     Ok(columns)
 }
 
-// Returns the index of the first token from `first` up to, not including, `end` whose column is at
-// or after the probe's column, or `end` if there is no such token. If there are samples, and
-// `end - first` is at least `SPACING`, the samples are searched first, and then fewer than
-// `SPACING` tokens.
+// Searches the tokens from `first` up to, not including, `end`. Returns the index of the first of
+// these tokens whose column is at or after the probe's column, or `end` if there is no such token.
+// If there are samples, and `end - first` is at least `SPACING`, the samples are searched first,
+// and then fewer than `SPACING` tokens.
 #[inline(always)]
 pub(crate) fn first_by_samples<P: Probe>(
     tokens: &[RawToken],
@@ -111,8 +111,9 @@ pub(crate) fn first_by_samples<P: Probe>(
     first_linear(tokens, from, end.min(index), probe)
 }
 
-// Returns the index of the first sample from `first` up to, not including, `end` that is at or
-// after the probe's column, or `end` if there is no such sample. All these indices count samples.
+// Searches the samples from `first` up to, not including, `end`. Returns the index of the first of
+// these samples that is at or after the probe's column, or `end` if there is no such sample.
+// `first`, `end` and the result count samples, not tokens.
 fn first_sample<P: Probe>(samples: &[u32], first: usize, end: usize, probe: &mut P) -> usize
     requires ordered { first ≤ end }
     requires within { end ≤ length samples.now }
@@ -160,8 +161,9 @@ fn first_without_samples<P: Probe>(
     first_at_column(tokens, first, end, probe)
 }
 
-// Returns the index of the first token from `first` up to, not including, `end` whose column is at
-// or after the probe's column, or `end` if there is no such token. Uses a binary search.
+// Searches the tokens from `first` up to, not including, `end`, by a binary search. Returns the
+// index of the first of these tokens whose column is at or after the probe's column, or `end` if
+// there is no such token.
 #[inline(always)]
 fn first_at_column<P: Probe>(tokens: &[RawToken], first: usize, end: usize, probe: &mut P) -> usize
     requires { HasRisingColumns tokens.now first end }

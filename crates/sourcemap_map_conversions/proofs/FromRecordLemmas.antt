@@ -1,5 +1,5 @@
--- If `RecordParts` has the fields of a record (`ArePartsIn`), the map parts or the error read from `RecordParts` are a
--- result for the record (`PartsAnswer`).
+-- Let `RecordParts` have the fields of a record (`ArePartsIn`). Reading `RecordParts` gives the parts of a map, or an
+-- error. Unless the error is `OutOfMemory`, this is a result for the record (`PartsAnswer`).
 use Rattle.std.proofs.Common.{◌≡◌, List, [], ◌∷◌, ◌++◌, reverse, length, map, option_map, Result, Ok, Err, refl, sym, ap, subst, ◌∙◌, inl, inr, vec_len, string_bytes, IfOk, ◌≤◌}
 use Rattle.std.proofs.lemmas.List.{length-map, append-nil}
 use Rattle.serde_json.specs.View.{view}
@@ -111,7 +111,8 @@ module _ (r : Fields) (parts : RecordParts) (are : ArePartsIn r parts) where
       rw (sources_are tokens p same, names_are tokens p same, ← own) within
   all-within tokens within (Err e) gave = tt
 
--- all names are converted once no value is left
+-- let `all` be `done` followed by the results for the values in `left`, in reverse order. If `left` is empty, `all` is
+-- `done`
 pub none-left : {X Y Z : Type 0} (f : Y → Z) (g : X → Y) (done all : List Z) (left : List X) → length left ≡ 0
     → done ++ map f (map g (reverse left)) ≡ all → all ≡ done
 none-left f g done all [] e h = sym h ∙ append-nil done

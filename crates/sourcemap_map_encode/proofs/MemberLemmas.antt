@@ -65,7 +65,8 @@ between key o (e ∷ left) right past before =
 last : (key : List ℕ) (o : Option Data) (done : List Entry) → AllByRecursion (Past key) done → put_if key o (chain done) ≡ chain (done ++ (key, o) ∷ [])
 last key o done past = ap (λ (es : List Entry). put_if key o (chain es)) (sym (append-nil done)) ∙ between key o done [] past tt
 
--- the members of a record, inserted in the order of the table of keys, are sorted by key
+-- inserting the members of a map's record in the order of `written_fields` (`version` first, `debugId` last) gives the
+-- members sorted by key. Any member may be missing
 sorted : (v f s r c n g m i d : Option Data)
     → put_if (codes "debugId") d (put_if (codes "ignoreList") i (put_if (codes "mappings") m (put_if (codes "rangeMappings") g (put_if (codes "names") n
     (put_if (codes "sourcesContent") c (put_if (codes "sourceRoot") r (put_if (codes "sources") s (put_if (codes "file") f (put_if (codes "version") v no_members)))))))))
@@ -184,7 +185,8 @@ plain_number n small = (let p = plain_unsigned (unsigned n) n refl small in (p.0
 pub plain_numbers : (ns : List ℕ) → AllByRecursion FitsU32 ns → IsPlainValue (written_list written_number ns)
 plain_numbers = plain_list written_number FitsU32 (λ n small. plain_number n (omega arith))
 
--- the contents of a source read back
+-- the JSON value of the contents of a source, or `null` for missing contents, is plain (`IsPlainValue`): the text of
+-- this value reads back as the same value
 abbrev pub IsPlainContent : Option (List ℕ) → Type 0
 IsPlainContent c = IsPlainValue (written_or_null string c)
 

@@ -43,8 +43,8 @@ pub record Written (names : ℕ) (done : List RawToken) (previous : Option RawTo
   pub writing : Writing names done previous against text
   pub is_plain : IsPlainText text
 
--- let `t` be small (`IsSmall`), not repeat `previous`, and not be above the line of `against`. The mappings of `done`,
--- then the separators and the segment of `t`, are the mappings of `done ++ t ∷ []`
+-- let `t` be small (`IsSmall`), not repeat `previous`, and be on the line of `against` or on a later line. The mappings
+-- of `done`, followed by the separators and the segment of `t`, are the mappings of `done ++ t ∷ []`
 pub token-put : (names : ℕ) (done : List RawToken) (previous : Option RawToken) (against : RawToken) (t : RawToken) (h i j : Option (List ℕ)) (a b c : List ℕ)
     → repeats previous t ≡ false → against.dst_line ≤ t.dst_line → IsSmall t
     → GrowsBy (Written names done previous against) h a i b
@@ -123,8 +123,9 @@ none-ranged flags held gathered e =
     subst (λ (fs : List Bool). GrowsBy (Ranged 0 [] fs) held gathered held gathered) (sym e)
     ([], record { ranging = Ranging-none; is_plain = tt }, Grows-none held gathered)
 
--- let no token of `done` be after `line`, and let `n` be a later line. If the bits of `line` and `n - line` line ends
--- follow the bits of the lines before `line`, the text has the range bits of all lines before `n`
+-- let no token of `done` be after `line`, let `n` be a later line, and let the text have the range bits of all lines
+-- before `line`. If the range bits of `line` and then `n - line` semicolons are appended, the text has the range bits
+-- of all lines before `n`
 pub turn-ranged : (line n : ℕ) (done : List RawToken) (flags : List Bool) (h i j : Option (List ℕ)) (a b c : List ℕ)
     → line < n → UpTo line (without_repeats done) → GrowsBy (Ranged line done flags) h a i b → GrowsBy (IsLineOfBits flags (n - line)) i b j c
     → GrowsBy (Ranged n done []) h a j c

@@ -19,7 +19,7 @@ use Rattle.sourcemap_map_encode.specs.Segments.{IsMappingsText}
 abbrev pub Entry : Type 0
 Entry = List ℕ × Option Data
 
--- a key and a colon, after a comma if a member precedes
+-- a comma if `later` is true, then the key as a JSON string, then a colon. `later` says whether another member precedes
 abbrev pub key_text : Bool → List ℕ → List ℕ
 key_text later key = comma_if later ++ (quoted key ++ 58 ∷ [])
 

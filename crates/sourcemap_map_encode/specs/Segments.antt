@@ -18,8 +18,9 @@ abbrev pub IsPlainText : List ℕ → Type 0
 IsPlainText text = AllByRecursion IsPlainByte text
 
 -- the `mappings` text of these tokens in a map with `names` names. The text needs no escape in JSON. Let `sources` be
--- the number of sources, below 2^32, and let `AllWithin sources names tokens` hold. Then this text and the
--- `rangeMappings` text of the tokens (empty for `None`) decode to `reduced names tokens`
+-- the number of sources, below 2^32, and let `AllWithin sources names tokens` hold. Let `ranges` be the `rangeMappings`
+-- text of the tokens, or `None` if no token is a range token (`IsRangeText`). Then `text` and `ranges` decode to
+-- `reduced names tokens`, where `None` counts as the empty text
 pub record IsMappingsText (names : ℕ) (tokens : List RawToken) (text : List ℕ) : Type 0 where
   pub written : IsWritten names tokens text
   pub is_plain : IsPlainText text

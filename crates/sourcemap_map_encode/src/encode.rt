@@ -31,11 +31,12 @@ use std::io::Write;
 
 /// Writes a map as compact JSON, the same bytes as `encode_to`, to a borrowed writer.
 ///
-/// The text is written in pieces of less than 32 KB, with two exceptions. A string of the map whose
-/// JSON text has 16 KB or more is a piece of its own. The range bits of a line are never split, so
-/// a piece may have all of them in addition. So the text is never in memory as a whole, unless it
-/// is short. The errors are `OutOfMemory`, and `Io` if a write fails for another reason. After an
-/// error the writer may hold any part of the text.
+/// The text is written in pieces of less than 32 KB, with two exceptions. If the JSON text of a
+/// string in the map has 16 KB or more, the text of this string is a piece of its own. The range
+/// bits of a line are never split, so a piece may have all range bits of a line in addition to less
+/// than 32 KB of other text. So the whole text of the map is in memory at once only if the text of
+/// the map is short. The errors are `OutOfMemory`, and `Io` if a write fails for another reason.
+/// After an error the writer may hold any part of the text.
 pub fn encode_in_parts<W: Write>(alloc: Global, map: &SourceMap, writer: &mut W) -> Result<()>
     ensures written { OnOk result ((text : List ℕ) × IsEncoded (RecordAnswer map.now) text
         × Appends (W.contents writer.old) (W.contents writer.new) text) }
@@ -126,8 +127,8 @@ fn put_ids<W: Write>(
     Ok(true)
 }
 
-// Writes `mappings`, `names`, and `rangeMappings` if the map has range tokens. Members are sorted
-// by the bytes of their keys.
+// Writes `mappings` and `names`. If the map has range tokens, also writes `rangeMappings`. Members
+// are sorted by the bytes of their keys.
 fn put_tokens<W: Write>(
     alloc: Global,
     writer: &mut W,
@@ -250,7 +251,7 @@ fn has_contents(map: &SourceMap) -> bool
     false
 }
 
-// Writes `sourcesContent` if a source has contents, with one item for each source.
+// If at least one source has contents, writes `sourcesContent`, with one item for each source.
 fn put_contents<W: Write>(
     alloc: Global,
     writer: &mut W,

@@ -1,5 +1,6 @@
--- Let a well-formed map have at most 4294967295 sources, and its tokens be in order. If this map is adjusted, a
--- position that is moved (`IsMovedAlone`) keeps its meaning.
+-- Let `m` be a well-formed map with at most 4294967295 sources, and let its tokens be in order. Let `m` be adjusted by
+-- a map `n` without an error, and let the stretch `a` of `n` move the position `q` alone (`IsMovedAlone`). Then the
+-- adjusted map gives the position `moved a q` the meaning that `m` gives `q`.
 use Rattle.std.proofs.Common.{◌≡◌, refl, sym, ap, ◌∙◌, ℕ, ◌≤◌, List, length, Option, None, Some, option_map, Ok}
 use Rattle.sourcemap_tokens.specs.declared.tokens.RawToken.{RawToken}
 use Rattle.sourcemap_tokens.specs.Tokens.{AreInOrder, closest_token, destination, position_cmp}

@@ -96,7 +96,8 @@ read_contents contents i =
 few_read : (contents : List (Option (List ℕ))) → length (list_or_empty (if list_any is_some contents then Some contents else None)) ≤ length contents
 few_read contents = elim (list_any is_some contents) as (λ b. length (list_or_empty (if b then Some contents else None)) ≤ length contents) [ true ↦ omega arith | false ↦ omega arith ]
 
--- replacing an `id` without a name by 4294967295 still gives no name, since there are at most 4294967295 names
+-- let there be at most 4294967295 names, and let no name have the index `id`. If 4294967295 replaces `id`, there is
+-- still no name
 sound_name : (names : List (List ℕ)) (id : ℕ) → length names ≤ 4294967295 → slice_get names (if nat_lt id (length names) then id else 4294967295) ≡ slice_get names id
 sound_name names id few =
     elim (cases_Bool (nat_lt id (length names))) [
@@ -155,8 +156,8 @@ reads_back m mappings ranges few_names few_sources up answer =
     } in
     (back, (below_max, tokens, refl), (means_the_same back m few_names kept, kept))
 
--- A record written from the parts of a map encodes the map, if the map has at most 4294967295 names and at most
--- 4294967295 sources, and its ignored ids are strictly sorted.
+-- Let a map have at most 4294967295 names, at most 4294967295 sources, and strictly sorted ignored ids. A record
+-- written from the parts of this map then encodes this map (`RecordAnswer`).
 
 pub answered : (m : MapValue) → length m.names ≤ 4294967295 → length m.sources ≤ 4294967295 → IsStrictlySortedBy nat_cmp m.ignored
     → (t : Tree) → PartsAnswer (parts_in m) (Ok t) → RecordAnswer m (Ok t)

@@ -23,7 +23,7 @@ use Rattle.sourcemap_map_rewrite.proofs.NumberingLemmas.{used-kept, slice_get-nu
 use Rattle.sourcemap_map_regular.proofs.MapLemmas.{of_item, meaning-item}
 use Rattle.sourcemap_map_regular.proofs.RewriteLemmas.{few_used_sources, few_used_names, but_contents}
 
--- the source of the token, if any, is among the used sources, and its name, if any, among the used names
+-- the token's source, if any, is among the used sources, and the token's name, if any, is among the used names
 abbrev pub IsKept : MapValue → RawToken → Type 0
 IsKept m t = IsListedIfAny (used_sources m) (source_of m t.src_id) × IsListedIfAny (used_names m) (name_of m t.name_id)
 

@@ -1,5 +1,5 @@
--- If a map has at most 4294967295 sources and at most 4294967295 names, rewriting the map twice by default options
--- gives the same map as rewriting it once.
+-- Let a map have at most 4294967295 sources and at most 4294967295 names. Rewriting the map twice with the default
+-- options gives the same map as rewriting it once with these options.
 use Rattle.std.proofs.Common.{◌≡◌, refl, sym, ap, ◌∙◌, ℕ, ◌≤◌, List, [], ◌∷◌, length, map, Bool, true, false, cond, Some, None, Option, inl, inr, ◌⊎◌, option_map, option_and_then}
 use Rattle.std.specs.List.{AllByRecursion}
 use Rattle.std.specs.Option.{option_or}
@@ -29,7 +29,8 @@ cut-nothing None = refl
 cut-nothing (Some text) = refl
 
 -- Let `own x` be `None` for each item `x` that fails `test`, and let `o` be the first result of `own` in a list
--- (`first_some`). If each item that passes `test` has the result `o` instead, the first result is still `o`.
+-- (`first_some`). Let another function return `o` for each item that passes `test`, and `None` for each item that fails
+-- `test`. The first result of this function in the list is also `o`.
 module _ {X : Type 0} (test : X → Bool) (own : X → Option (List ℕ)) (none : (x : X) → test x ≡ false → own x ≡ None) where
   nothing : (xs : List X) → first_some {Y = List ℕ} (λ x. cond (test x) None None) xs ≡ None
   nothing [] = refl

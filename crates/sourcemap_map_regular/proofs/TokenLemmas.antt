@@ -16,7 +16,10 @@ byte_before buffer ends start byte some within is =
 colons : (xs ys : List ℕ) → 58 ∷ (xs ++ 58 ∷ ys) ≡ codes ":" ++ xs ++ codes ":" ++ ys
 colons xs ys = sym (ap (λ bs. 58 ∷ bs) (append_assoc xs (58 ∷ []) ys))
 
--- the suffix of the buffer: a colon, the line, a colon, the column
+-- let `0 < at_line ≤ at_column ≤ size`, and let `buffer`, `columns` and `lines` have `size` bytes each. Let the bytes
+-- of `columns` from `at_column` on be the decimal digits of `column`. Let the bytes of `lines` from `at_line` on be the
+-- decimal digits of `line`, a colon, and the decimal digits of `column`. If the byte of `lines` at `at_line - 1` is set
+-- to a colon, the bytes from this colon on are: a colon, the line, a colon, the column
 module _ (buffer columns lines : List ℕ) (size line column at_column at_line : ℕ) (some_column : 0 < at_column) (some_line : 0 < at_line)
     (order : at_line ≤ at_column) (within : at_column ≤ size) (empty : length buffer ≡ size) (long : length columns ≡ size) (same : length lines ≡ size)
     (column_is : drop at_column columns ≡ decimal column ++ drop size buffer)

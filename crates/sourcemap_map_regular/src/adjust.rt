@@ -17,18 +17,19 @@ impl SourceMap {
     /// to the text that this map describes. The new tokens have generated positions in the later
     /// text. All other parts are unchanged, and sources and names of `adjustment` are ignored. The
     /// errors are `IncompatibleSourceMap` if a token moves beyond column 4294967295, and
-    /// `OutOfMemory`; they leave the map unchanged.
+    /// `OutOfMemory`. An error leaves the map unchanged.
     ///
     /// Each token of `adjustment` moves a stretch of the text that this map describes. The stretch
-    /// begins at the original position of the token. It ends before the original position of the
-    /// next token, in the order of original positions, or before column 4294967295 of its line,
-    /// whichever comes first. The start of the stretch moves to the generated position of the
-    /// token.
+    /// begins at the original position of the token. The stretch ends before the original position
+    /// of the next token, in the order of original positions, or before column 4294967295 of the
+    /// line on which the stretch begins, whichever comes first. The start of the stretch moves to
+    /// the generated position of the token.
     ///
     /// Each old token covers the text from its generated position up to the next token on the line,
     /// or up to column 4294967295 of the line. No stretch and no old token covers column 4294967295
     /// itself. For each overlap of a stretch with the text of an old token, one new token comes
-    /// from the stretch. The new token begins at the moved start of the overlap.
+    /// from the stretch. The new token begins at the moved start of the overlap. An empty stretch
+    /// or an empty text overlaps exactly what begins before it and ends after it.
     ///
     /// Suppose that a stretch moves the position `p` to the position `q`. A lookup of `q` in the
     /// new map gives the same source, original position, name and range flag as a lookup of `p` in
@@ -37,8 +38,8 @@ impl SourceMap {
     /// - The call succeeds.
     /// - The old map is well-formed, and no two of its tokens have the same generated position.
     /// - The lookup of `p` in the old map finds a token on the line of `p`.
-    /// - Take the new tokens whose generated position is at or after the moved start of this
-    ///   stretch, and at or before `q`. All of them come from this stretch.
+    /// - Every new token at a generated position from the moved start of this stretch to `q`, both
+    ///   included, comes from this stretch.
     pub fn adjust_mappings(&mut self, adjustment: &SourceMap) -> Result<()>
         ensures value { Gives (λ _. self.new) result (adjusted self.old adjustment.now) }
         ensures unchanged { OnErr result (self.new ≡ self.old) }

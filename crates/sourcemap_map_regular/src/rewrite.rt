@@ -29,14 +29,15 @@ impl SourceMap {
     /// only when prefixes are removed stay separate sources.
     ///
     /// With `load_local_source_contents`, each new source without kept contents gets contents from
-    /// a file: every new source, if contents are not kept. To find the file, a source is resolved
-    /// against the URL of a folder, before any prefix is removed. The folder is `base_path` if this
-    /// path is absolute, otherwise `base_path` appended to `current_dir`. A source is skipped if it
-    /// resolves to no file path, or if its file cannot be read or is not UTF-8. A very long source
-    /// may also be skipped (see `RewriteOptions`).
+    /// a file. If contents are not kept, these are all new sources. To find the file, a source is
+    /// resolved against the URL of a folder, before any prefix is removed. The folder is
+    /// `base_path` if this path is absolute, otherwise `current_dir` and `base_path` joined by `/`.
+    /// A source is skipped if it resolves to no file path, or if its file cannot be read or is not
+    /// UTF-8. A source may also be skipped if the source and the URL of the folder together are
+    /// very long (see `RewriteOptions`).
     ///
-    /// The error is `Io` of kind `InvalidInput` if contents are to be loaded and the folder is not
-    /// absolute. The only other error is `OutOfMemory`.
+    /// If contents are to be loaded and neither `base_path` nor `current_dir` is absolute, the
+    /// error is `Io` of kind `InvalidInput`. The only other error is `OutOfMemory`.
     pub fn rewrite<F: Files>(self, rt: &F, options: &RewriteOptions<'_>) -> Result<SourceMap>
         ensures value { IsAnswer (λ m. m) (Rewrites options.now self) result }
         // At each generated position, the new map has the meaning of the old map, with two changes:

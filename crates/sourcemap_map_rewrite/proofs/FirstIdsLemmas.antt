@@ -1,4 +1,5 @@
--- The first old number of a text in use is an index of this text, and no two texts have the same first old number.
+-- For each text in use, the first old number (`first_of`) is an index of this text. No two texts in use have the same
+-- first old number.
 use Rattle.std.proofs.Common.{◌≡◌, refl, sym, ap, subst, ◌∙◌, ℕ, suc, List, [], ◌∷◌, ◌++◌, append_assoc, map, fold, get_or, Bool, true, false, cond, Some, None, Option, arith, inl, inr, slice_get, is_some, option_map, unwrap_or, nat_eq}
 use Rattle.std.specs.List.{AllByRecursion, IsDistinct, find}
 use Rattle.std.specs.Option.{option_or, option_map_or}
@@ -56,8 +57,8 @@ none_before texts ids text new =
     none_names texts (texts_in_use texts ids) text new ids
     (All-unmapped (IsListedIfAny (texts_in_use texts ids)) (slice_get texts) ids (used-kept (map (slice_get texts) ids)))
 
--- if `id` is an index of `text`, and `before` contains no index of `text`, then `id` is the first index of `text` in
--- `before ++ id ∷ later`
+-- let `id` be an index of `text` in `texts`. If no number in `before` is an index of `text`, then `id` is the first
+-- number in `before ++ id ∷ later` that is an index of `text` (`first_of`)
 pub first_here : (texts : List (List ℕ)) (before later : List ℕ) (id : ℕ) (text : List ℕ)
     → id_of text (texts_in_use texts before) ≡ None → slice_get texts id ≡ Some text → first_of texts (before ++ id ∷ later) text ≡ id
 first_here texts before later id text new at =
@@ -117,7 +118,7 @@ first_names texts ids k text at =
     let is : first_of texts ids text ≡ found.0 = ap (λ o. unwrap_or o 4294967295) found.1 in
     ap (slice_get texts) is ∙ named texts text found.0 (passes (names_text texts text) ids found.0 found.1)
 
--- No two texts share a number.
+-- No two texts in use have the same first old number (`firsts_of`).
 
 distinct_by_index : (xs : List ℕ) → ((i j x : ℕ) → slice_get xs i ≡ Some x → slice_get xs j ≡ Some x → i ≡ j) → IsDistinct nat_eq xs
 unfolding IsDistinct
@@ -156,8 +157,9 @@ firsts-distinct texts ids = distinct_by_index (firsts_of texts ids) apart
         let (other, at_other, named_other) = text_at j x f in
         one_index one other i j (sym named_one ∙ named_other) (distinct-texts_in_use texts ids one i at_one) (distinct-texts_in_use texts ids other j at_other)
 
--- For each source in use, its first index among the seen numbers is also its first index among the source ids of the
--- tokens.
+-- Let `s` have seen the sources of the tokens (`AreSeen`), and let `text` be a source in use. The first number in
+-- `s.order` that is an index of `text` is also the first source id, in the order of the tokens, that is an index of
+-- `text`.
 
 -- the text whose only item is `id`, if `id` passes `test`; otherwise `None`
 abbrev passing : (ℕ → Bool) → ℕ → Option (List ℕ)

@@ -10,7 +10,8 @@ use Rattle.sourcemap_map_rewrite.specs.KeptContents.{contents_with_number, AreKe
 use Rattle.sourcemap_interning.proofs.ItemLemmas.{slice_get-set_same, slice_get-set_other}
 use Rattle.sourcemap_map_rewrite.proofs.NumberingLemmas.{first_some-push, option_or-None}
 
--- contents were not moved, or their new number has contents
+-- for each old number `id`: `now` and `old` have the same contents at `id`, or `id` has a new number in `numbers` and
+-- `kept` has contents at this new number
 abbrev pub AreLeft : List ℕ → (old now kept : List (Option (List ℕ))) → Type 0
 AreLeft numbers old now kept = (id : ℕ) → (item_at now id ≡ item_at old id)
     ⊎ ((number : ℕ) × (text : List ℕ) × (slice_get numbers id ≡ Some number) × (item_at kept number ≡ Some text))

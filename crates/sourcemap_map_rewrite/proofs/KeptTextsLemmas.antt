@@ -38,7 +38,7 @@ module _ (texts : List (List ℕ)) (n : NewNumbers) (is : AreNumbered texts n) (
   same_number : seen.number ≡ number
   same_number = let e = seen.numbered in cc
 
-  -- the index of a moved text is its final number
+  -- in `after`, the index of the text of `id` is `number`, the new number of `id`
   final : (k : ℕ) → id_of seen.text after ≡ Some k → k ≡ number
   unfolding after
   final k e =
@@ -49,7 +49,7 @@ module _ (texts : List (List ℕ)) (n : NewNumbers) (is : AreNumbered texts n) (
       let same : k ≡ seen.number = cc in
       same ∙ same_number
 
-  -- the next number belongs to a text that was not moved yet
+  -- if `number` is the length of `before`, `before` does not contain the text of `id` yet
   new_text : number ≡ length before → id_of seen.text before ≡ None
   new_text next = by_case (id_of seen.text before) refl
     where
@@ -75,7 +75,7 @@ module _ (texts : List (List ℕ)) (n : NewNumbers) (is : AreNumbered texts n) (
   still_moved text k e = ap (id_of text) one_more ∙ id_of-with_text before seen.text text k e
 
   module _ (now moved : List (List ℕ)) (left_or_moved : AreLeftOrMoved texts now (texts_in_use texts (take i n.order.items))) (so_far : moved ≡ texts_in_use texts (take i n.order.items)) where
-    -- a text is moved
+    -- `number` is the length of `moved`, so the step at index `i` moves the text `taken`, which `now` has at index `id`
     module _ (taken : List ℕ) (next : number ≡ length moved) (found : slice_get now id ≡ Some taken) where
       new : id_of seen.text before ≡ None
       unfolding before

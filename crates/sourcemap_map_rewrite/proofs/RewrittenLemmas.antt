@@ -29,7 +29,8 @@ use Rattle.sourcemap_map_rewrite.specs.declared.numbering.NewNumbers.{NewNumbers
 use Rattle.sourcemap_tokens.proofs.AllLemmas.{All-weaker}
 use Rattle.sourcemap_map_rewrite.proofs.NumberingLemmas.{kept_once-few, distinct-texts_in_use}
 
--- each old number that was seen has a new one
+-- let `s` number the texts `S` (`AreNumbered`). Each seen old number has a new number, which is an index of the seen
+-- texts
 all_have_new_numbers : (S : List (List ℕ)) (s : NewNumbers) → AreNumbered S s → AllByRecursion (HasNewNumber s.numbers.items (length (seen_texts S s))) s.order.items
 all_have_new_numbers S s is = All-weaker (IsSeen S s) (HasNewNumber s.numbers.items (length (seen_texts S s))) has s.order.items is.seen
   where

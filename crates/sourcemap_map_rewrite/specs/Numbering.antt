@@ -51,7 +51,10 @@ pub record AreNumbered (texts : List (List ℕ)) (n : NewNumbers) : Type 0 where
   pub seen : AllByRecursion (IsSeen texts n) n.order.items
   pub others : (id : ℕ) (text : List ℕ) → slice_get texts id ≡ Some text → IsSeenOrNot texts n id
 
--- a use of `id` turns the numbers `old` into the numbers `new`
+-- a use of the old number `id` turns `old` into `new`. If `texts` has a text at index `id` that `seen_texts` of `old`
+-- lacks, `seen_texts` of `new` has this text appended. Otherwise `seen_texts` is unchanged. Let `f` return `None` for
+-- `id` if `id` is not an index of `texts`. Then `first_some f` for `new.order` is `first_some f` for `old.order` if
+-- this is not `None`, otherwise `f id`
 pub record NumbersMore (texts : List (List ℕ)) (id : ℕ) (old new : NewNumbers) : Type 0 where
   pub kept : seen_texts texts new ≡ with_text_if (seen_texts texts old) (slice_get texts id)
   pub seen : (f : ℕ → Option (List ℕ)) → (slice_get texts id ≡ None → f id ≡ None)

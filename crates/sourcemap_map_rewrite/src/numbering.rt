@@ -45,8 +45,9 @@ impl<'a> Numbering<'a> {
         })
     }
 
-    // The new number of the old number `id`. Assigns one if `id` has none yet. Returns `NO_ID` if
-    // `id` is not an index of `texts`.
+    // Returns `NO_ID` if `id` is not an index of `texts`. Otherwise returns the new number of the
+    // old number `id`. If `id` has no new number yet, first assigns a number to `id` (see
+    // `assign`).
     pub(crate) fn number(&mut self, texts: &'a [String], id: u32) -> Result<u32>
         requires few { length texts.now ≤ 4294967295 }
         requires numbering { IsNumbering (map string_bytes texts.now) self.old }

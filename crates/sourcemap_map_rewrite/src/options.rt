@@ -9,16 +9,18 @@ pub struct RewriteOptions<'a> {
     pub with_source_contents: bool,
     /// Whether `rewrite` loads contents of used sources from files. If `with_source_contents` is
     /// true, contents are loaded only for sources without contents, otherwise for all used sources.
-    /// To find its file, a source is resolved against `sourceRoot`, and then against the URL of the
-    /// folder (see `base_path`). Prefixes are stripped later. A source is skipped if it resolves to
-    /// no file path, or if its file cannot be read or is not UTF-8. A source may also be skipped if
-    /// the URL of the folder, before `..` is resolved, and the source together have 2^28 bytes or
-    /// more. If this option is true and neither `base_path` nor `current_dir` starts with `/`, the
-    /// error is `Io` of kind `InvalidInput`. The only other error is `OutOfMemory`.
+    /// To find the file of a source, `rewrite` resolves the source against `sourceRoot`, and then
+    /// against the URL of the folder (see `base_path`). Prefixes are stripped later. A source is
+    /// skipped if it resolves to no file path, or if its file cannot be read or is not UTF-8. A
+    /// source may also be skipped if the source, resolved against `sourceRoot`, and the URL of the
+    /// folder together have 2^28 bytes or more. The size of this URL is the size before `..` is
+    /// resolved. If this option is true and neither `base_path` nor `current_dir` starts with `/`,
+    /// the error is `Io` of kind `InvalidInput`. The only other error is `OutOfMemory`.
     pub load_local_source_contents: bool,
     /// The folder of the sources. A `base_path` that starts with `/` is the folder. Otherwise, if
-    /// `current_dir` starts with `/`, the folder is `current_dir`, then `/`, then `base_path`. If
-    /// neither starts with `/`, there is no folder. `None` is the same as the empty string.
+    /// `current_dir` starts with `/`, the folder is one path: `current_dir` and `base_path`, joined
+    /// by `/`. If neither `base_path` nor `current_dir` starts with `/`, there is no folder. `None`
+    /// is the same as the empty string.
     pub base_path: Option<&'a str>,
     /// Prefixes to strip from sources. Sources are resolved against `sourceRoot` first. A slash is
     /// appended to a prefix that does not end with `/`. Only the first prefix that a source starts

@@ -43,9 +43,10 @@ fn tables_hold_where_lines_begin_and_end(rt: HostRuntime) {
     }
 }
 
-// Line ends, the position where they start, and the length of the text. All other characters are
-// `a`. The text is read in blocks of 64 bytes. After a block without a line end, the next block
-// starts at the next line end. These line ends are near multiples of 32.
+// Line ends, the position where they start, and the length of the text. The line ends are near
+// multiples of 32. All other characters are `a`. `LineTable::new` reads the text in blocks of 64
+// bytes, and a shorter rest byte by byte. After a block without a line end, the next block starts
+// at the next line end.
 static ENDS: [(&str, usize, usize); 27] = [
     ("\n", 30, 64),
     ("\n", 31, 64),

@@ -23,7 +23,7 @@ static NAMES: [(&str, (u32, u32), &str, &str); 17] = [
     // Two positions after the token named `foo`: one on line 0, one on line 1.
     (MAP, (0, 13), "b", "foo"),
     (MAP, (1, 0), "b", "foo"),
-    // Another name, and two that are no identifiers.
+    // Another name, a name that is no identifier, and the empty name.
     (MAP, (0, 9), "c", "none"),
     (MAP, (0, 9), "b.c", "none"),
     (MAP, (0, 9), "", "none"),

@@ -59,7 +59,8 @@ Adds-last a b old part left ha hb all low e some = record {
   added = refl;
 }
 
--- the digits of a difference with two digits, and of a difference with three digits
+-- let `a` and `b` be below 2^32. If `raw_difference a b` is from 32 to 1023, the difference of `a` and `b` has two
+-- digits. If `raw_difference a b` is from 1024 to 32767, the difference has three digits
 pub Adds-two : (a b : ℕ) (old : List ℕ) → a < 2 ^ 32 → b < 2 ^ 32 → 32 ≤ raw_difference a b → raw_difference a b < 1024
     → Adds (difference a b ∷ []) old (old ++ (glyph (raw_difference a b % 32 + 32) ∷ glyph (raw_difference a b / 32) ∷ []))
 Adds-two a b old ha hb more low =
@@ -78,8 +79,8 @@ Adds-three a b old ha hb more low =
     (HasContinuation-glyph (raw % 32) (omega arith), (HasContinuation-glyph (raw / 32 % 32) (omega arith), tt)) (omega arith)
     (raw_of-split (first ∷ []) raw (raw / 32) (raw_of-split [] raw raw (omega arith))) (λ _. omega arith)
 
--- two bytes are stored from index `at` on. The first `at + 1` bytes then end with `x`, and the first `at + 2` bytes end
--- with `x` and `y`
+-- let the indices `at` and `at + 1` be below the length of `buffer`, and let `x` and `y` be stored at them. The first
+-- `at` bytes stay the same. The first `at + 1` bytes end with `x`, and the first `at + 2` bytes end with `x` and `y`
 pub pair-one : (buffer : List ℕ) (at x y n : ℕ) → n ≡ at + 1 → at + 1 < length buffer → take n (set (set buffer at x) (at + 1) y) ≡ take at buffer ++ x ∷ []
 pair-one buffer at x y n e h = take-set-le n (set buffer at x) (at + 1) y (omega arith) ∙ take-set_at buffer at n x e (omega arith)
 
@@ -90,8 +91,9 @@ pair-two buffer at x y n e h =
     ∙ ap (λ xs. xs ++ y ∷ []) (take-set_at buffer at (at + 1) x refl (omega arith))
     ∙ append_assoc (take at buffer) (x ∷ []) (y ∷ [])
 
--- three bytes are stored from index `at` on. The first `at + 1` bytes then end with `x`, the first `at + 2` bytes end
--- with `x` and `y`, and the first `at + 3` bytes end with all three
+-- let the indices from `at` to `at + 2` be below the length of `buffer`, and let `x`, `y` and `z` be stored at them.
+-- The first `at` bytes stay the same. The first `at + 1` bytes end with `x`, the first `at + 2` bytes end with `x` and
+-- `y`, and the first `at + 3` bytes end with `x`, `y` and `z`
 pub triple-one : (buffer : List ℕ) (at x y z n : ℕ) → n ≡ at + 1 → at + 2 < length buffer
     → take n (set (set (set buffer at x) (at + 1) y) (at + 2) z) ≡ take at buffer ++ x ∷ []
 triple-one buffer at x y z n e h =
@@ -111,7 +113,7 @@ triple-three buffer at x y z n e h =
     ∙ ap (λ xs. xs ++ z ∷ []) (pair-two buffer at x y (at + 2) refl (omega arith))
     ∙ append_assoc (take at buffer) (x ∷ y ∷ []) (z ∷ [])
 
--- at most six digits of a difference come before the last one
+-- let the raw value of a difference be below 2^34. At most six digits of the difference come before its last digit
 pub few_before : (raw k left total : ℕ) → total < 2 ^ 34 → total ≡ raw + 2 ^ (5 * k) * left → 0 < left → k ≤ 6
 few_before raw k left total small e some =
     let heavy : 2 ^ (5 * k) ≤ total = weighs raw (2 ^ (5 * k)) left total some e in

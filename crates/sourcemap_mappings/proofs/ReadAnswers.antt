@@ -27,7 +27,8 @@ HasOneAnswer-weaker R R' F F' r f one = record {
   first = λ d e h k. one.first d e (f d h) (f e k);
 }
 
--- a list that is decoded item by item: P is for its head, and Q, which depends on the head, for its tail
+-- a list that is decoded item by item: the list is not empty, `P` holds for its head, and `Q`, which depends on the
+-- head, holds for its tail
 Cons : {A : Type 0} → (A → Type 0) → (A → List A → Type 0) → List A → Type 0
 Cons P Q [] = ⊥
 Cons P Q (x ∷ xs) = P x × Q x xs

@@ -14,7 +14,8 @@ use Rattle.sourcemap_mappings.proofs.WriteTokens.{all_push}
 abbrev pub NonePast : ℕ × ℕ → List RawToken → Type 0
 NonePast index tokens = AllByRecursion (λ t. is_lt (position_cmp index (destination t)) ≡ false) tokens
 
--- let (`m`, `n`) not be after (`l`, `c`). Then (`m`, `n`) is not after (`l`, `d`) if `c ≤ d`, nor after (`l + 1`, 0)
+-- let (`m`, `n`) not be after (`l`, `c`). If `c ≤ d`, then (`m`, `n`) is not after (`l`, `d`). In any case, (`m`, `n`)
+-- is not after (`l + 1`, 0)
 later_column : (l c d m n : ℕ) → c ≤ d → is_lt (position_cmp (l, c) (m, n)) ≡ false → is_lt (position_cmp (l, d) (m, n)) ≡ false
 later_column l c d m n le h = grind (arith, nat_tests)
 

@@ -66,7 +66,8 @@ unfolding Lacks
 Lacks-continues [] h = tt
 Lacks-continues (c ∷ cs) ((v, e, on), h) = (no_comma c v e, Lacks-continues cs h)
 
--- bytes without a `,`, in front of a text, extend its first part
+-- let `xs` have no `,`, and let `m` be the first part of `ys`. Then the first part of `xs ++ ys` is `xs ++ m`, and the
+-- later parts of `xs ++ ys` are the later parts of `ys`
 parts_of-onto : (xs ys m : List ℕ) (ms : List (List ℕ)) → Lacks xs → parts_of ys ≡ m ∷ ms → parts_of (xs ++ ys) ≡ (xs ++ m) ∷ ms
 unfolding Lacks
 parts_of-onto [] ys m ms h e = e
@@ -84,9 +85,9 @@ append_some : (xs ys : List ℕ) → ys ≢ [] → xs ++ ys ≢ []
 append_some [] ys some none = some none
 append_some (x ∷ xs) ys some none = absurd cc
 
--- after zero or more valid numbers without a `,`, `line` goes on with the digits `part` of an unfinished number and
--- then the byte `c`, which is not `,`. If this number has the error `e` whatever follows `c`, then the first part of
--- `line` has the error `e`
+-- let `line` be `front` and then `rest`. Let `front` consist of zero or more valid numbers without a `,`. Let `rest`
+-- begin with the digits `part` of an unfinished number and then the byte `c`, which is not `,`. If this number has the
+-- error `e` for every text that can follow `c`, then the first part of `line` has the error `e`
 HasPartError-at : (line front rest part : List ℕ) (numbers : List ℤ) (c : ℕ) (e : Error) → line ≡ front ++ rest → Reads front numbers → Lacks front → (c == comma) ≡ false
     → (goes : GoesTo rest part c) → ((m : List ℕ) → GoesTo (part ++ c ∷ m) part c → NumberError (part ++ c ∷ m) e) → HasPartError line e
 HasPartError-at line front rest part numbers c e whole reads lacks differs goes error =
@@ -108,7 +109,8 @@ HasPartError-at line front rest part numbers c e whole reads lacks differs goes 
           (error tail.0 (record { more = tail.0; split = refl; unfinished = goes.unfinished }));
     }
 
--- the part ends within a number
+-- let the first part of `line` consist of zero or more valid numbers and then `part`: one or more digits of an
+-- unfinished number (`IsUnfinished`). Then the first part has the error `VlqLeftover`
 HasPartError-cut : (line front rest part : List ℕ) (numbers : List ℤ) (parts : List (List ℕ)) → parts_of line ≡ (front ++ part) ∷ parts → Reads front numbers
     → part ≢ [] → IsUnfinished part → HasPartError line VlqLeftover
 HasPartError-cut line front rest part numbers parts split reads some unfinished = record {

@@ -1,4 +1,5 @@
--- Tokens and a count of names have at most one encoding as `mappings`. Tokens have at most one as `rangeMappings`.
+-- Tokens and a count of names have at most one encoding as `mappings`. Tokens have at most one encoding as
+-- `rangeMappings`.
 use Rattle.std.proofs.Common.{◌≡◌, ℕ, ◌+◌, List, [], ◌∷◌, ◌++◌, length, filter, map, Option, Some, None, refl, sym, ap, ◌∙◌, arith}
 use Rattle.std.specs.List.{join_with_byte}
 use Rattle.sourcemap_tokens.specs.declared.tokens.RawToken.{RawToken}

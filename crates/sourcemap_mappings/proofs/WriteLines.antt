@@ -76,7 +76,9 @@ Ended-blank P line (suc k) text blank e =
     subst (λ (t : List ℕ). Ended P (line + suc k) t) (append_assoc text (semicolon ∷ []) (replicate k semicolon))
     (subst (λ (m : ℕ). Ended P m ((text ++ semicolon ∷ []) ++ replicate k semicolon)) (omega arith) rest)
 
--- after the lines in `text`, `part` and one `;` are line `line`, and `k` more `;` are `k` blank lines
+-- let `text` hold the lines above line `line` (`Ended`). Let `part` satisfy `P` for line `line`, and let the empty text
+-- satisfy `P` for each later line. If `part` and then `k + 1` semicolons are appended to `text`, the new text holds the
+-- lines above line `line + 1 + k`: line `line` is `part`, and the next `k` lines are blank
 Ended-turn_by : (P : ℕ → List ℕ → Type 0) (line k : ℕ) (text part : List ℕ) → ((m : ℕ) → line < m → P m [])
     → Ended P line text → P line part → Ended P (line + 1 + k) ((text ++ part) ++ replicate (suc k) semicolon)
 Ended-turn_by P line k text part blank e p =
@@ -85,8 +87,10 @@ Ended-turn_by P line k text part blank e p =
     (ap (λ t. t ++ replicate k semicolon) (sym (append_assoc text part (semicolon ∷ []))) ∙ append_assoc (text ++ part) (semicolon ∷ []) (replicate k semicolon))
     rest
 
--- let `line < n`. After the lines in `text`, `part` and the first `;` are line `line`, and each further `;` is a blank
--- line, up to line `n - 1`
+-- let `line < n`, and let `text` hold the lines above line `line` (`Ended`). Let `part` satisfy `P` for line `line`,
+-- and let the empty text satisfy `P` for each later line. If `part` and then `n - line` semicolons are appended to
+-- `text`, the new text holds the lines above line `n`: line `line` is `part`, and each later line, up to line `n - 1`,
+-- is blank
 pub Ended-turn : (P : ℕ → List ℕ → Type 0) (line n : ℕ) (text part : List ℕ) → line < n → ((m : ℕ) → line < m → P m [])
     → Ended P line text → P line part → Ended P n ((text ++ part) ++ replicate (n - line) semicolon)
 Ended-turn P line n text part h blank e p =

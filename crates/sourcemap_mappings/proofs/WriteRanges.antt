@@ -28,7 +28,8 @@ IsRangeLine-kept : (m : ℕ) (ts : List RawToken) (t : RawToken) (bits : List �
 IsRangeLine-kept m ts t bits h is =
     subst (λ (us : List RawToken). IsBitText (map (λ u. u.is_range) us) bits) (sym (filter_push_no (is_on m) ts t (on_no t.dst_line m (λ e. omega arith)))) is
 
--- the text of the lines above this one, and the flags of this line so far
+-- `text` holds the range bits of `ts` for each line above line `line`, with a `;` after each of these lines. `flags`
+-- are the range flags of the tokens of `ts` on line `line`
 pub record Ranging (line : ℕ) (ts : List RawToken) (text : List ℕ) (flags : List Bool) : Type 0 where
   pub ended : Ended (IsRangeLine ts) line text
   pub flags_are : flags ≡ map (λ t. t.is_range) (filter (is_on line) ts)
@@ -36,7 +37,8 @@ pub record Ranging (line : ℕ) (ts : List RawToken) (text : List ℕ) (flags : 
 pub Ranging-none : Ranging 0 [] [] []
 Ranging-none = record { ended = Ended-none (IsRangeLine []); flags_are = refl }
 
--- the step from `line` to a later line `n`: the range bits of `line` are appended, and then `n - line` line ends
+-- let no token of `ts` be after line `line`. In the step to a later line `n`, the range bits of line `line` are
+-- appended, and then `n - line` semicolons
 pub Ranging-turn : (line n : ℕ) (ts : List RawToken) (text bits : List ℕ) (flags : List Bool) → line < n → UpTo line ts
     → IsBitText flags bits → Ranging line ts text flags → Ranging n ts ((text ++ bits) ++ replicate (n - line) semicolon) []
 Ranging-turn line n ts text bits flags h u is r = record {

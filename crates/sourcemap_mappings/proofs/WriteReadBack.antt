@@ -1,5 +1,5 @@
--- Decoding the encoded texts of sorted tokens that satisfy `AllWithin` and `IsSmall` gives their reduced list, if there
--- are fewer than 2^32 sources and fewer than 2^32 names.
+-- Let there be fewer than 2^32 sources and fewer than 2^32 names. If sorted tokens satisfy `AllWithin` and `IsSmall`,
+-- decoding the encoded texts of the tokens gives the reduced list (`reduced`).
 use Rattle.std.proofs.Common.{◌≡◌, ℕ, ◌+◌, ◌^◌, ◌||◌, ◌<◌, ◌≤◌, suc, zero, Bool, true, false, cond, List, [], ◌∷◌, ◌++◌, length, map, filter, Option, Some, None, Ok, refl, sym, ap, subst, ◌∙◌, inl, inr, append_assoc, append-nil, arith, add-zero, zero-add}
 use Rattle.std.specs.List.{join_with_byte, AllByRecursion, slice_index_or, last_or, list_any}
 use Rattle.std.specs.Option.{option_map_or}
@@ -20,7 +20,8 @@ use Rattle.sourcemap_mappings.proofs.WriteBytes.{IsFree, IsMark, Spells-free, Sp
 
 -- Segments of a line.
 
--- the segments of some tokens of a line, after the tokens `before`; the first segment has this index
+-- the segments of the tokens `ts` of one line. The tokens `before` come before `ts`, and the first segment has the
+-- index `at`
 segments_of : ℕ → ℕ → List RawToken → List RawToken → List Segment
 segments_of names at before [] = []
 segments_of names at before (t ∷ ts) = segment_of names at before t ∷ segments_of names (at + 1) (before ++ t ∷ []) ts
@@ -54,8 +55,8 @@ carries_line sources names at before (t ∷ ts) all few few_names sound c =
     subst (λ (us : List RawToken). Carries names us (all ++ s ∷ later)) (append_assoc before (t ∷ []) ts)
     (subst (λ (ss : List Segment). Carries names ((before ++ t ∷ []) ++ ts) ss) (append_assoc all (s ∷ []) later) rest)
 
--- the bits of a text, from this index on, begin with the range flags of these tokens; a bit past the end of the text is
--- false
+-- from index `at` on, the bits of the text `bits` begin with the range flags of the tokens `ts`. A bit past the end of
+-- the text is false
 Flags : List ℕ → ℕ → List RawToken → Type 0
 Flags bits at ts = (k : ℕ) → k < length ts → bit_of bits (at + k) ≡ slice_index_or (map (λ t. t.is_range) ts) k false
 
@@ -335,8 +336,8 @@ texts_fit names tokens text (Some bits) some written is =
     each_beside (IsLine names ts) (FitBits ts) 0 (lines_of text) (lines_of bits) lines.0 fit
     (λ m h k. absurd (omega (arith, lines.1, ranges.1)))
 
--- the texts of sorted tokens that satisfy `AllWithin` and `IsSmall` decode to the reduced list, if there are fewer than
--- 2^32 sources and fewer than 2^32 names
+-- let there be fewer than 2^32 sources and fewer than 2^32 names. If sorted tokens satisfy `AllWithin` and `IsSmall`,
+-- the encoded texts of the tokens decode to the reduced list (`reduced`)
 pub reads_back : (sources names : ℕ) (tokens : List RawToken) (text : List ℕ) (ranges : Option (List ℕ))
     → sources < 2 ^ 32 → names < 2 ^ 32 → AreInOrder tokens → AllWithin sources names tokens → AllByRecursion IsSmall (without_repeats tokens)
     → Rises (without_repeats tokens) → filter (is_above (line_count tokens)) (without_repeats tokens) ≡ without_repeats tokens

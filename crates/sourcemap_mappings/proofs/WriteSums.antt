@@ -31,7 +31,7 @@ delta_is a b ha hb = ap unsigned_abs (int_rem_euclid_is (difference a b) (pos (2
 undone : (a b total : ℕ) → a < 2 ^ 32 → total % 2 ^ 32 ≡ b → (total + (a + 2 ^ 32 - b) % 2 ^ 32) % 2 ^ 32 ≡ a
 undone a b total ha hb = omega arith
 
--- number k of a list modulo 2^32, 0 if it is missing
+-- the number at index `k` of the list `ns`, modulo 2^32; 0 if the list has no number at this index
 abbrev pub step_of : ℕ → List ℤ → ℕ
 step_of k ns = option_map_or delta (slice_get ns k) 0
 
@@ -56,7 +56,7 @@ pub record IsSound (sources names : ℕ) (t : RawToken) : Type 0 where
   pub src_col : t.src_col < 2 ^ 32
   pub within : IsWithin sources names t
 
--- the segment of token `t`, after the tokens `before`; the segment has this index
+-- the segment of the token `t`, with the index `index`. The tokens `before` come before `t`
 abbrev pub segment_of : ℕ → ℕ → List RawToken → RawToken → Segment
 segment_of names index before t = record { index = index; numbers = numbers names (base names t.dst_line before) t }
 
@@ -91,7 +91,8 @@ name_is names t e = grind (arith, nat_tests)
 no_name : (names : ℕ) (t : RawToken) → has_source t ≡ true → has_name names t ≡ false → names ≤ t.name_id
 no_name names t s e = grind (arith, nat_tests)
 
--- the generated line and column of a token are below 2^32; if the token has a source, the original ones are too
+-- the generated line and column of a token are below 2^32. If the token has a source, the original line and column of
+-- the token are also below 2^32
 abbrev pub IsSmall : RawToken → Type 0
 IsSmall t = (t.dst_line < 2 ^ 32) × HasSmallPositions t
 

@@ -11,13 +11,14 @@ use Rattle.sourcemap_mappings.specs.Write.{is_on, is_above, line_count}
 use Rattle.sourcemap_mappings.specs.WriteSteps.{repeats}
 use Rattle.sourcemap_mappings.proofs.WriteTokens.{UpTo, Rises, Rises-push, all_push, all_weaker, all_above, filter_push_yes, last_or-push, without_repeats-repeat, without_repeats-more, same_line, on_yes}
 
--- the previous token is on this line, and so is at least one written token; without a previous token, the
--- line is 0 and nothing was written
+-- `ts` are the written tokens. If there is a previous token, this token and at least one written token are on line
+-- `line`. If there is no previous token, `line` is 0 and no token was written
 abbrev pub IsAtLine : ℕ → List RawToken → Option RawToken → Type 0
 IsAtLine line ts None = (line ≡ 0) × (ts ≡ [])
 IsAtLine line ts (Some p) = (p.dst_line ≡ line) × ((u : RawToken) × (us : List RawToken) × (filter (is_on line) ts ≡ u ∷ us))
 
--- the loop has reached this line; `done` are the tokens so far, `previous` is the last
+-- the loop has reached line `line`. `done` are the tokens so far, and `previous` is the last of these tokens, or `None`
+-- if there are none
 pub record Walked (line : ℕ) (done : List RawToken) (previous : Option RawToken) : Type 0 where
   pub rises : Rises (without_repeats done)
   pub upto : UpTo line (without_repeats done)

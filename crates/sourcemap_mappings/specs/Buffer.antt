@@ -2,7 +2,7 @@
 use Rattle.std.specs.Prelude.{◌≡◌, ℕ, ◌+◌, ℤ, List, ◌++◌, nat_lt, if◌then◌else◌, ◌-◌, ◌*◌}
 use Rattle.sourcemap_vlq.specs.Vlq.{Spells}
 
--- the shortest digits of some numbers were appended to a text
+-- `new` is `old` with the shortest digit sequence of each of `numbers` appended, in order (`Spells`)
 pub record Adds (numbers : List ℤ) (old new : List ℕ) : Type 0 where
   pub digits : List ℕ
   pub spelled : Spells numbers digits

@@ -31,7 +31,8 @@ tokens_of_lines n before (line ∷ decoded_lines) =
 
 -- Texts and what they decode to.
 
--- a part that is not empty, with this index and after the segments `before`, decodes to a valid segment
+-- a part that is not empty decodes to the valid segment `s`. The part has the index `index` in its line and comes after
+-- the segments `before`
 abbrev pub PartRead : Counts → ℕ → List Segment → List ℕ → Segment → Type 0
 PartRead counts index before part s =
     (s.index ≡ index) × Reads part s.numbers × (segment_error counts (before ++ s ∷ []) s ≡ None)
@@ -65,7 +66,7 @@ PartsError counts index before ((c ∷ cs) ∷ parts) e =
 abbrev pub LineText : Type 0
 LineText = List ℕ × List ℕ
 
--- line n decodes to `line`, after the segments `before`; the range bits of an empty line are ignored
+-- line n comes after the segments `before` and decodes to `line`. The range bits of an empty line are ignored
 abbrev pub LineRead : Counts → ℕ → List Segment → LineText → Line → Type 0
 LineRead counts n before ([], bits) line = line ≡ record { bits = []; segments = [] }
 LineRead counts n before ((c ∷ cs), bits) line =
@@ -82,7 +83,8 @@ LineError counts n before ((c ∷ cs), bits) e =
     ⊎ ((n < 2 ^ 32) × ((b : ℕ) × (first_non_digit bits ≡ Some b) × (e ≡ InvalidBase64 b)))
     ⊎ ((n < 2 ^ 32) × (first_non_digit bits ≡ None) × PartsError counts 0 before (parts_of (c ∷ cs)) e)
 
--- the texts of the lines from line n on decode to these lines, after the segments `before`
+-- the lines from line n on come after the segments `before`. The texts of these lines decode, one by one, to
+-- `decoded_lines`
 abbrev pub LinesRead : Counts → ℕ → List Segment → List LineText → List Line → Type 0
 LinesRead counts n before [] decoded_lines = decoded_lines ≡ []
 LinesRead counts n before (text ∷ texts) [] = ⊥

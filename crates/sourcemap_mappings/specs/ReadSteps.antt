@@ -35,8 +35,9 @@ AddsRow old new tokens first = (line : ℕ) (before more : List RawToken) → to
     → AllByRecursion (λ t. t.dst_line < line) before → AllByRecursion (λ t. t.dst_line ≡ line) more
     → IsLineTable before (length before) old → IsLineTable tokens (length tokens) new
 
--- the tokens of some parts of a line are appended. The first of these parts is at this position. It comes after the
--- segments `before` of earlier lines and `here` of this line. The sums include all of the parts
+-- the tokens of `parts`, which are successive parts of one line, are appended. The first of these parts is at
+-- `position`, after the segments `before` of earlier lines and the segments `here` of the same line. The sums include
+-- `before`, `here` and all of the parts
 pub record AddsParts (counts : Counts) (position : PartPosition) (bits : List ℕ) (before here : List Segment) (parts : List (List ℕ)) (old new : List RawToken) (sums : Sums) : Type 0 where
   pub segments : List Segment
   pub read : PartsRead counts position.index (before ++ here) parts segments

@@ -74,6 +74,6 @@ pub record IsSegmentRead (index : ℕ) (before here : List Segment) (part : List
   pub reads : Reads part numbers
   pub sums_to : AreSums before (here ++ record { index = index; numbers = numbers } ∷ []) sums
 
--- the limits of the decoder as counts
+-- the counts of sources and names in `limits`
 abbrev pub counts_of : Limits → Counts
 counts_of limits = record { sources = limits.sources; names = limits.names }

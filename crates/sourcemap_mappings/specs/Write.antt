@@ -76,14 +76,14 @@ numbers names against t =
     ∷ (if has_name names t then difference t.name_id against.name_id ∷ [] else [])
     else [])
 
--- the encoded segments of some tokens, after the tokens `before`
+-- the encoded segments of some tokens. These tokens come after the tokens `before`
 abbrev pub AreSegments : ℕ → List RawToken → List RawToken → List (List ℕ) → Type 0
 AreSegments names before [] segments = segments ≡ []
 AreSegments names before (t ∷ ts) [] = ⊥
 AreSegments names before (t ∷ ts) (segment ∷ segments) =
     Spells (numbers names (base names t.dst_line before) t) segment × AreSegments names (before ++ t ∷ []) ts segments
 
--- the encoding of line n of the tokens
+-- the encoding of the tokens on line n
 abbrev pub IsLine : ℕ → List RawToken → ℕ → List ℕ → Type 0
 IsLine names tokens n line =
     (segments : List (List ℕ))

@@ -132,10 +132,11 @@ pub(crate) fn usual_part(line: &[u8]) -> Option<(Numbers, Option<&[u8]>)>
     Some((Numbers { count: 5, steps }, tail))
 }
 
-/// Decodes all numbers of the first segment of a line. Returns their count, and the first five of
-/// them modulo 2^32 (see `Numbers`), with the text after the `,` that ends the segment, or with
-/// `None` if the line ends there. An empty segment has no numbers. Returns the first error of the
-/// segment's digits: `InvalidBase64`, `VlqOverflow` or `VlqLeftover`.
+/// Decodes all numbers of the first segment of a line. Returns two values. The first has the count
+/// of the numbers, and the first five numbers modulo 2^32 (see `Numbers`). The second is the text
+/// after the `,` that ends the segment, or `None` if the segment is the last of the line. An empty
+/// segment has no numbers. The error is the first error of the segment's digits: `InvalidBase64`,
+/// `VlqOverflow` or `VlqLeftover`.
 #[cold]
 #[inline(never)]
 pub fn any_part(line: &[u8]) -> Result<(Numbers, Option<&[u8]>)>

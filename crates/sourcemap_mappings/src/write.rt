@@ -29,7 +29,7 @@ const START: RawToken = RawToken {
     is_range: false,
 };
 
-// The initial capacity of the text is six bytes for each token, but for at most this many tokens.
+// The initial capacity of the text is six bytes for each of the first `FIRST_TOKENS` tokens.
 const FIRST_TOKENS: usize = 1 << 28;
 
 // The maximum size of a token in bytes: a comma and five numbers of seven digits.

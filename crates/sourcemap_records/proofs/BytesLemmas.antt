@@ -1,6 +1,7 @@
--- If a record has at most one result, so have JSON values, bytes and data URLs. Of two `Io` errors only the kinds are
--- compared. A result for a record is a result for the value and for the bytes that hold this record. A result for bytes
--- is a result for the reader that returned them.
+-- If decoding any record has at most one result, then decoding any JSON value, bytes or data URL also has at most one
+-- result. Of two `Io` errors only the kinds are compared. A result for a record is also a result for a JSON value that
+-- has this record, and for bytes that hold this record. A result for bytes is also a result for the reader that
+-- returned these bytes.
 use Rattle.std.proofs.Common.{◌≡◌, inl, inr, refl, sym, ◌∙◌, ap, ℕ, List, [], Option, Some, None, Result, Ok, Err, IfSome, MatchOption, MatchResult, IsErrAnd}
 use Rattle.serde_json.specs.Data.{Data}
 use Rattle.serde_json.specs.Read.{read}
@@ -99,7 +100,8 @@ module _ {Y : Type 0} where
   value_or_none bytes d (Ok n) p q = q
   value_or_none bytes d (Err e) p q = json_or_none (after_header bytes) d e p q
 
-  -- if a record has at most one result, so have values, bytes and data URLs
+  -- if decoding any record has at most one result, then decoding any JSON value, bytes or data URL also has at most one
+  -- result. Of two `Io` errors only the kinds are compared (`AreSame`)
   module _ (Decodes : Tree → Result Y Error → Type 0)
       (once : (t : Tree) (a b : Result Y Error) → Decodes t a → Decodes t b → a ≡ b) where
     record_once : (found : Option Tree) (a b : Result Y Error)

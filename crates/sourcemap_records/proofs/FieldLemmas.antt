@@ -1,4 +1,4 @@
--- A value removed from an object, and lists of values.
+-- Removing a key from an object does not change the value of any other key. A list of values is read unchanged.
 use Rattle.std.proofs.Common.{◌≡◌, ℕ, List, [], ◌∷◌, Option, Some, Result, Ok, Ordering, Less, Equal, Greater, string_bytes, map, nat_cmp, is_eq, cond, Bool, true, false, true≢false, refl, sym, ap, ◌∙◌, ◌||◌}
 use Rattle.std.proofs.lemmas.Map.Text.{is_eq-slice_cmp}
 use Rattle.std.proofs.lemmas.Slice.Eq.{bytes_eq-Decides}

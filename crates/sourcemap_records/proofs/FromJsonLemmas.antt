@@ -1,4 +1,5 @@
--- Keys that are kept while another is removed, and the two keys whose values hold records.
+-- Removing the key `sections` from an object does not change the fields of its record. Removing the key `map` does not
+-- change the head of a section. The values of these two keys hold records.
 use Rattle.std.proofs.Common.{◌≡◌, ℕ, ◌<◌, arith, String, Global, BTreeMap, option_map, List, [], ◌∷◌, ◌++◌, Option, Some, None, Ordering, Less, Equal, Greater, nat_cmp, codes, refl, sym, ap, ◌∙◌}
 use Rattle.std.specs.Cmp.Lexicographic.{slice_cmp}
 use Rattle.std.specs.Ordering.{match_ordering}
@@ -79,8 +80,9 @@ one_more done s d rest is = rw is (of_rest (sections_read rest))
 pub none_read : (done : List Section) (d : Data) (rest : Items) → section_of d ≡ None → with (sections_read (item d rest)) (λ more. Some (before done more)) ≡ None
 none_read done d rest is = rw is refl
 
--- the record of the object `m`: the sections come from `v`, the value at `sections`. The fields come from `left`, the
--- members after `sections` was removed
+-- let `v` be the value at the key `sections` in the object `m`, or `None` if `m` has no such key. Let `left` agree with
+-- `m` at every other key. Reading `m` as a record gives the same result as reading the sections from `v` and the fields
+-- from `left`
 pub map_split : (value : Value) (m : Map) (left : Members) (v : Option Data) → value ≡ Object m → v ≡ get_member (codes "sections") (members_view m.entries)
     → KeepsOthers (codes "sections") (members_view m.entries) left
     → record_of (view value) ≡ with (found sections_of v) (λ sections. with (fields_in left) (λ fields. Some (tree_with fields sections)))
@@ -90,8 +92,9 @@ map_split value m left v is taken kept =
     ∙ ap (λ s. with s (λ sections. with (fields_in ms) (λ fields. Some (tree_with fields sections)))) (sections_in-at ms ∙ ap (found sections_of) (sym taken))
     ∙ ap (λ f. with (found sections_of v) (λ sections. with f (λ fields. Some (tree_with fields sections)))) (sym (fields_kept ms left kept))
 
--- the section of the object `m`: the map comes from `v`, the value at `map`. The head comes from `left`, the members
--- after `map` was removed
+-- let `v` be the value at the key `map` in the object `m`, or `None` if `m` has no such key. Let `left` agree with `m`
+-- at every other key. Reading `m` as a section gives the same result as reading the map from `v` and the head from
+-- `left`
 pub section_split : (value : Value) (m : Map) (left : Members) (v : Option Data) → value ≡ Object m → v ≡ get_member (codes "map") (members_view m.entries)
     → KeepsOthers (codes "map") (members_view m.entries) left
     → section_of (view value) ≡ with (found record_of v) (λ t. with (section_head_in left) (λ head. Some (section_at head t)))

@@ -62,7 +62,8 @@ each : {X : Type 0} (P Q : X → Type 0) → ((x : X) → P x → Q x) → (xs :
 each P Q h [] all = tt
 each P Q h (x ∷ xs) all = (h x all.0, each P Q h xs all.1)
 
--- `o` is written at a key that is left out for `None`. If the value in `o` reads back, the key reads back as `o`
+-- `o` is written at a key. If `o` is `None`, the key is left out and reads back as `None`. If the value in `o` reads
+-- back, the key reads back as `o`
 back : {X : Type 0} (read : Data → Option X) (write : X → Data) (o : Option X) → IfSome o (λ x. or_null read (write x) ≡ Some (Some x))
     → found read (option_or (option_map write o) None) ≡ Some o
 back read write None h = refl

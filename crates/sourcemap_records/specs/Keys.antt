@@ -131,11 +131,13 @@ extra_keys_in ms =
       x_facebook_sources = x_facebook_sources;
     })))))
 
--- the JSON keys of `FileKeys`, from the last one read to the first. `read_file_keys` removes no other key
+-- the JSON keys of `FileKeys`, in reverse order: the key that is read last comes first. `read_file_keys` removes no
+-- other key
 abbrev pub file_key_names : List (List ℕ)
 file_key_names = codes "sourceRoot" ∷ codes "sources" ∷ codes "file" ∷ codes "version" ∷ []
 
--- the JSON keys of `ContentKeys`, from the last one read to the first. `read_content_keys` removes no other key
+-- the JSON keys of `ContentKeys`, in reverse order: the key that is read last comes first. `read_content_keys` removes
+-- no other key
 abbrev pub content_key_names : List (List ℕ)
 content_key_names = codes "mappings" ∷ codes "rangeMappings" ∷ codes "names" ∷ codes "sourcesContent" ∷ []
 

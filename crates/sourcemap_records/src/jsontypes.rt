@@ -57,7 +57,9 @@ pub struct RawSourceMap {
     pub file: Option<Value>,
     /// The sources, not yet resolved against `source_root`. A null in the list is a `None` item.
     pub sources: Option<Vec<Option<String>>>,
-    /// The prefix of each source that does not begin with `/`, `http:` or `https:`.
+    /// The prefix that resolving puts before a source. A `/` follows the prefix if the prefix does
+    /// not end with `/`. A source that begins with `/`, `http:` or `https:` is not changed, and an
+    /// empty prefix changes no source.
     pub source_root: Option<String>,
     /// The contents of each source, in the order of the sources. The item of a source without
     /// contents is `None`.

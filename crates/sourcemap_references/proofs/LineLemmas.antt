@@ -183,7 +183,8 @@ passed-line text start end passed ends none inside =
           ∙ ap (λ b. if b then first_reference (drop (end + 1) text) else None) (sym same);
     }
 
--- if no line before `start` has a mark, and the line from `start` to `end` has no mark, no line up to `end` has a mark
+-- if no line before `start` has a mark, and the line from `start` to `end` has no mark either, then no line up to `end`
+-- has a mark
 pub unmarked : (text : List ℕ) (start end : ℕ) → IsPassed text start → EndsAt text start end → is_some (reference_on (slice_range text start end)) ≡ false
     → AreUnmarked text end
 unmarked text start end passed ends none = record { within = ends.within; left = left-after text start end passed ends none }

@@ -1,4 +1,4 @@
--- The bytes that a reader has left after a line.
+-- The bytes that remain in a reader after it reads a line.
 use Rattle.std.proofs.Common.{◌≡◌, refl, sym, ap, subst, ◌∙◌, ℕ, suc, ◌-◌, ◌<◌, ◌==◌, ◌⊎◌, Bool, true, false, if◌then◌else◌, List, [], ◌∷◌, ◌++◌, Option, None, Some, IfSome, length, nat_lt, arith, inl, inr}
 use Rattle.std.proofs.lemmas.Bool.{cases_Bool}
 use Rattle.std.proofs.BufReadLemmas.{take_through-nil, take_through_nonempty}
@@ -36,8 +36,8 @@ first_piece-cons x y ys other =
     let more : take_through 10 (x ∷ y ∷ ys) ≡ x ∷ take_through 10 (y ∷ ys) = rw other refl in
     ap (strip_last 10) (more ∙ ap (λ zs. x ∷ zs) next.1) ∙ strip_last-cons x y next.0 ∙ ap (λ zs. x ∷ strip_last 10 zs) (sym next.1)
 
--- `text` is not empty. Its lines are its first line, then the lines of the text after the first newline. Or `text` is
--- one line, and no text is left after this line
+-- let `text` not be empty. Then one of two cases holds. Either the lines of `text` are its first line, followed by the
+-- lines of the text after the first newline. Or `text` is one line, and no text is left after this line
 lines_through : (text : List ℕ) → 0 < length text
     → (text_lines text ≡ first_piece 10 text ∷ text_lines (drop_through 10 text)) ⊎ ((text_lines text ≡ first_piece 10 text ∷ []) × (drop_through 10 text ≡ []))
 lines_through [] some = absurd (omega arith)

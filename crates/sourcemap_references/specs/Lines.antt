@@ -53,9 +53,9 @@ LeavesOnly text (Some rest) = (first_reference text ≡ first_reference rest) ×
 LeavesOnly text None = first_reference text ≡ Some None
 
 -- the result of reading a line. `known` has the bytes of the reader before the read. If `known` is `None`, nothing is
--- required. The `Bool` is true if a line was read. Then `left` has the bytes of the reader after the read. If the line
--- has a reference or is not UTF-8, `first_reference` of `known` is `line_reference` of the line. Otherwise `known` and
--- `left` have the same `first_reference`. The `Bool` is false if no line was left to read. Then the bytes in `known`
+-- required. If the `Bool` is true, a line was read, and `left` has the bytes of the reader after the read. If this line
+-- has a reference or is not UTF-8, `first_reference` of `known` is `line_reference` of this line. Otherwise `known` and
+-- `left` have the same `first_reference`. If the `Bool` is false, no line was left to read, and the bytes in `known`
 -- are UTF-8 without a reference
 abbrev pub ReadsLine : Option (List ℕ) → Option (List ℕ) → Bool → List ℕ → Type 0
 ReadsLine known left false line = IfSome known (λ text. first_reference text ≡ Some None)

@@ -49,8 +49,9 @@ Fills-same folder sources items = record {
   no : {item : Option (List ℕ)} → item ≡ None → IsSome item → ⊥
   no none some = cc
 
--- `Fills` still holds after `item` is set at `id`, if `after` was unchanged at `id`. If `before` has an item at `id`,
--- `item` must be the same. If `before` has none and `item` is not `None`, source `id` must have a path (`file_of`)
+-- let `Fills` hold, let `id` be below the length of `after`, and let `before` and `after` have the same item at `id`.
+-- If `before` has an item at `id`, let `item` be this item. If `before` has no item at `id`, and `item` is not `None`,
+-- let source `id` have a path (`file_of`). Then `Fills` still holds if `item` is set at `id` in `after`
 pub Fills-set : (folder : List ℕ) (sources : List (List ℕ)) (before after : List (Option (List ℕ))) (id : ℕ) (item : Option (List ℕ))
     → Fills folder sources before after → id < length after → item_at after id ≡ item_at before id
     → (IsSome (item_at before id) → item ≡ item_at before id)

@@ -22,13 +22,13 @@ use url::Url;
 /// A source is resolved against the folder `base_path`. A `base_path` that is not absolute is
 /// joined to `current_dir`. Without a `base_path` the folder is `current_dir`. A source is skipped
 /// if it does not resolve to the path of a file, or if the file cannot be read or is not UTF-8. A
-/// source may also be skipped if the URL of the folder, before `..` is resolved, and the source
-/// together have 2^28 bytes or more.
+/// source may also be skipped if the source and the URL of the folder together have 2^28 bytes or
+/// more. The size of this URL is the size before `..` is resolved.
 ///
 /// If neither `base_path` nor `current_dir` is absolute, the error is `Io` of kind `InvalidInput`,
-/// and `contents` is unchanged. Any other error is `OutOfMemory`. Then `contents` keeps the texts
-/// that were stored before the error. Requires at least as many entries in `contents` as in
-/// `sources`.
+/// and `contents` is unchanged. Any other error is `OutOfMemory`. After `OutOfMemory`, `contents`
+/// keeps the texts that were stored before the error. Requires at least as many entries in
+/// `contents` as in `sources`.
 pub fn load_contents<F: Files>(
     rt: &F,
     alloc: Global,

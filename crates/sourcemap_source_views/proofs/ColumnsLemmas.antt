@@ -151,8 +151,9 @@ width-append (x ∷ xs) ys = let later = width-append xs ys in omega arith
 width_more : (done : List ℕ) (c : ℕ) → width (done ++ c ∷ []) ≡ width done + units_of c
 width_more done c = let e = width-append done (c ∷ []) in omega arith
 
--- a walk to a column has read characters of a line, each of which starts before the column; they have `units`
--- units, and the rest of the line is left
+-- a walk to column `col` has read the characters `done` at the start of `line`. Each of these characters starts before
+-- column `col`, and together they have `units` UTF-16 units. `rest` is the part of `line` that the walk has not read,
+-- and is UTF-8
 pub record Walked (line : List ℕ) (col : ℕ) (rest : List ℕ) (units : ℕ) : Type 0 where
   pub done : List ℕ
   pub bytes : line ≡ encode_utf8_all done ++ rest
@@ -239,7 +240,8 @@ IsCharBoundary-in_ascii line (suc n) u l a =
     let last : get_or line n 0 < 128 = subst (λ b. b < 128) (get_or-take (suc n) line n 0 (omega arith)) (a n) in
     subst (λ m. IsCharBoundary line m) (add-one n) (IsCharBoundary-after_ascii line n u (omega arith) last)
 
--- a walk past n bytes of ASCII, not past the column, has read n units
+-- if the first `n` bytes of a UTF-8 line are ASCII, and `n` is at most `col`, then a walk to column `col` that has read
+-- these `n` bytes has read `n` units
 pub Walked-ascii : (line : List ℕ) (col n : ℕ) → IsUtf8 line → n ≤ length line → n ≤ col → IsAscii (take n line) → Walked line col (drop n line) n
 Walked-ascii line col n u l m a =
     let len : length (take n line) ≡ n = length-take-le n line l in
@@ -256,7 +258,8 @@ Walked-ascii line col n u l m a =
       utf8 = IsUtf8-drop line n u boundary;
     }
 
--- a column within ASCII is its own offset
+-- the byte offset of column `col` is `col` itself: offset `col` is a character boundary, and `col` UTF-16 units are
+-- before it. `ascii-offset` proves this if the first `col` bytes of a UTF-8 line are ASCII
 pub record IsOwnOffset (line : List ℕ) (col : ℕ) : Type 0 where
   pub offset : Some col ≡ column_offset line col
   pub boundary : IsCharBoundary line col
@@ -335,8 +338,9 @@ offset_cuts line col offset u e =
     let f = found (chars line) m.0 col m.1 in
     cut_at line m.0 f.rest col offset u f.is f.begin m.2 (found_passes (λ prefix. nat_le col (width prefix)) (prefixes (chars line)) m.0 m.1)
 
--- let `offset` be the offset of column `col`, with `units` units before `offset`. To find column `col + more` in the
--- rest of the line, subtract `units` from the column, and add `offset` to the result
+-- let `offset` be the offset of column `col` in a UTF-8 line, with `units` UTF-16 units before `offset`. Then the
+-- offset of column `col + more` is `offset` plus the offset of column `col + more - units` (at least 0) in the rest of
+-- the line, from `offset` on. If the rest has no offset for that column, the line has none for column `col + more`
 pub offset-further : (line : List ℕ) (col more offset units : ℕ) → IsUtf8 line
     → Some offset ≡ column_offset line col → units ≡ width (chars (take offset line))
     → column_offset line (col + more) ≡ option_map (λ n. offset + n) (column_offset (drop offset line) (col + more - units))

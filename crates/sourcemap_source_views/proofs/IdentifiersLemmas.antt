@@ -232,7 +232,7 @@ some_bytes (c ∷ cs) e = refl
 pub token-none : (text words : List ℕ) (len : ℕ) → IsUtf8 text → words ≡ trim_start text → len ≡ identifier_bytes (chars words) → len ≡ 0 → None ≡ token_at_start text
 token-none text words len u e is none = sym (ap unless_empty (word_identifier text words u e) ∙ no_bytes (identifier_at_start (chars words)) (sym is ∙ none))
 
--- the characters up to the first that fails a test are a prefix
+-- the characters before the first one that fails a test, or all characters if none fails, are a prefix
 begins : (test : ℕ → Bool) (cs : List ℕ) → (rest : List ℕ) × (cs ≡ take_while test cs ++ rest)
 begins test cs = (drop (prefix_len test cs) cs, sym (take-append-drop (prefix_len test cs) cs))
 

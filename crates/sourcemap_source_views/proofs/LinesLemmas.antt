@@ -111,8 +111,10 @@ ranges-uncut rest start none = ap (ranges_from start) (lines_of-uncut rest none)
 
 -- ---- a partial table
 
--- `more` is `ranges` with the line from `start` up to the next terminator. If the lines from `start` on complete
--- `ranges` to `line_ranges text`, the lines after this terminator complete `more` to the same list
+-- let the first terminator from `start` on be the `len` bytes at `start + at`. Let `more` be `ranges`, followed by the
+-- range from `start` up to this terminator. If `ranges`, followed by the ranges of the lines from `start` on, is
+-- `line_ranges text`, then `more`, followed by the ranges of the lines after this terminator, is also `line_ranges
+-- text`. The terminator ends within `text`
 pub table-more : (text : List ℕ) (start at len : ℕ) (ranges more : List (ℕ × ℕ))
     → more ≡ ranges ++ (start, start + at) ∷ []
     → len ≡ terminator_len (take (length text - (start + at)) (drop (start + at) text))
@@ -234,7 +236,7 @@ half : (b : Bool) (n : ℕ) → (cond b 1 0 + 2 * n) / 2 ≡ n
 half true n = omega arith
 half false n = omega arith
 
--- the mask of `xs` without its lowest `k` bits is the mask of `xs` without its first `k` bytes
+-- the mask of `xs`, shifted right by `k` bits, is the mask of the bytes of `xs` after the first `k`
 pub mask-after : (xs : List ℕ) (k : ℕ) → mask_l (map is_terminator xs) / 2 ^ k ≡ mask_l (map is_terminator (drop k xs))
 mask-after xs zero = div-one (mask_l (map is_terminator xs))
 mask-after [] (suc k) = zero-div (2 ^ suc k)
@@ -242,8 +244,8 @@ mask-after (x ∷ xs) (suc k) =
     ap (λ n. mask_l (map is_terminator (x ∷ xs)) / n) (pow-suc 2 k ∙ mul_comm (2 ^ k) 2) ∙ sym (div-div-eq-div-mul (mask_l (map is_terminator (x ∷ xs))) 2 (2 ^ k))
     ∙ ap (λ n. n / 2 ^ k) (half (is_terminator x) (mask_l (map is_terminator xs))) ∙ mask-after xs k
 
--- the first terminator at or after `offset`, and before `end`, is at `offset + gap`. The bits of the mask `left` above
--- bit `gap` are the mask of the bytes after that terminator and before `end`
+-- the first `\n` or `\r` at or after `offset` and before `end` is at `offset + gap`. The bits of the mask `left` above
+-- bit `gap` are the mask of the bytes after this byte and before `end`
 pub record Lowest (text : List ℕ) (offset end left gap : ℕ) : Type 0 where
   pub inside : offset + gap < end
   pub quiet : (k : ℕ) → offset ≤ k → k < offset + gap → is_terminator (get_or text k 0) ≡ false

@@ -279,7 +279,8 @@ named_if text rest name u valid some e =
     named_bytes (chars name) (chars rest) name valid (encodes-chars name u) some
     ∙ ap (λ cs. is_text name (unless_empty (identifier_at_start cs))) (sym (ap chars e ∙ chars-append name rest u))
 
--- if the text does not start with the name, or the name is empty, its identifier is not the name
+-- let `text` be UTF-8. If `text` does not start with `name`, or `name` is empty, then the longest identifier at the
+-- start of `text`, if any, is not `name`
 pub named_not : (text name : List ℕ) → IsUtf8 text → ((rest : List ℕ) → text ≡ name ++ rest → name ≡ []) → false ≡ is_text name (unless_empty (identifier_at_start (chars text)))
 named_not text name u apart =
     let whole = identifier_begins (chars text) in

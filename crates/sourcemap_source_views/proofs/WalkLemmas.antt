@@ -15,7 +15,8 @@ found_after name (Some token) [] = None
 found_after name (Some token) (next ∷ items) =
     cond (is_text (codes "function") next.1) (Some token) (function_token name (next ∷ items))
 
--- the search moves past `item`, and `found_after` keeps the token of `item` if the identifier of `item` is `name`
+-- `function_token` from `item` on equals `found_after` on the items after `item`. If the identifier of `item` is
+-- `name`, `found_after` gets the token of `item`, and otherwise `None`
 passed_called : {S : Type 0} (name : List ℕ) (item : S × Option (List ℕ)) (items : List (S × Option (List ℕ))) → is_text name item.1 ≡ true
     → function_token name (item ∷ items) ≡ found_after name (Some item.0) items
 passed_called name item [] e = refl
@@ -72,7 +73,8 @@ pub some_seen : {T S : Type 0} (seen : T → S) (token : Option T) → is_some t
 some_seen seen None e = absurd (true≢false (sym e))
 some_seen seen (Some token) e = refl
 
--- the item `called` is found if the next one is `function`
+-- let `due` be the result of `found_after` for `called` and the first `n` items of `left`, with `n` above 0. If
+-- `called` is not `None`, and the identifier of the first item is `function`, then `due` is `called`
 pub found_after-fired : {S : Type 0} (name : List ℕ) (called : Option S) (item : S × Option (List ℕ)) (left next : List (S × Option (List ℕ))) (n : ℕ) (due : Option S)
     → 0 < n → left ≡ item ∷ next → is_some called ≡ true → is_text (codes "function") item.1 ≡ true
     → found_after name called (take n left) ≡ due → called ≡ due

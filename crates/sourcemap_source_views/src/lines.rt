@@ -21,8 +21,8 @@ const BLOCK: usize = 64;
 /// one line more than line terminators.
 #[derive(Debug, Drop)]
 pub struct LineTable {
-    // The ranges of the first lines, as long as their offsets fit 32 bits. This halves the size of
-    // the table of most texts.
+    // The ranges of the first lines: all lines whose start and end fit 32 bits. Offsets of 32 bits
+    // halve the size of the table of most texts.
     near: Vec<(u32, u32)>,
     // The ranges of the lines after the lines in `near`.
     far: Vec<(usize, usize)>,
@@ -169,9 +169,10 @@ pub fn utf16_offset(line: &str, col: u64) -> Option<usize>
     Some(reach(line, col)?.offset)
 }
 
-// The offset where the search for terminators continues. `is_long` means that the last block had no
-// terminator. Then the search continues at the first terminator at or after `from`, or at the end
-// of the text if there is none. If `is_long` is false, the search continues at `from`.
+// The offset where the search for terminators continues. `is_long` says that the block that ends at
+// `from` has no terminator. If `is_long` is true, the search continues at the first terminator at
+// or after `from`, or at the end of the text if there is no such terminator. If `is_long` is false,
+// the search continues at `from`.
 #[inline(always)]
 fn next_offset(bytes: &[u8], from: usize, is_long: bool) -> usize
     requires { from ≤ length bytes.now }

@@ -105,10 +105,10 @@ impl SourceView {
         self.lines.count()
     }
 
-    /// Returns the source map reference of the first line that starts with
-    /// `//# sourceMappingURL=` or `//@ sourceMappingURL=`. The URL is the rest of that line,
-    /// trimmed. Returns `None` if no line starts so. For this search, lines end only at `\n`. The
-    /// only error is `OutOfMemory`.
+    /// Returns the source map reference of the first line that starts with a mark: `//#
+    /// sourceMappingURL=` or `//@ sourceMappingURL=`. The URL is the rest of this line after the
+    /// mark, trimmed. Returns `None` if no line starts with a mark. For this search, lines end only
+    /// at `\n`. The only error is `OutOfMemory`.
     pub fn sourcemap_reference(&self) -> Result<Option<SourceMapRef>>
         ensures value { Locates result (first_reference self.now) }
         ensures memory { IsOkUnless result OutOfMemory }

@@ -42,7 +42,8 @@ starts byte (next ∷ text) =
       | inr e ↦ record { part = next ∷ later.part; others = later.others; is = path_parts-joined byte (next ∷ text) e ∙ ap (with_first_byte byte) later.is }
     ]
 
--- for `concat-path_parts`: joining the parts of a text gives the text again
+-- joining `with_first_byte byte parts` gives `byte`, followed by the joined `parts`. `concat-path_parts` uses this to
+-- prove that joining the parts of a text gives the text again
 concat-with_first_byte : (byte : ℕ) (parts : List (List ℕ)) → concat (with_first_byte byte parts) ≡ byte ∷ concat parts
 concat-with_first_byte byte [] = refl
 concat-with_first_byte byte (part ∷ parts) = refl
@@ -145,8 +146,9 @@ parts_among-skipped (first ∷ texts) text e =
 pub start_of-taken : (texts : List (Bor (List ℕ))) (text : Bor (List ℕ)) → is_absolute text.now ≡ true → start_of (parts_among (texts ++ text ∷ [])) ≡ Some (start_with (start_of (parts_among texts)) (path_parts text.now))
 start_of-taken texts text e = ap start_of (parts_among-taken texts text e) ∙ start_of-append (parts_among texts) (path_parts text.now)
 
--- `joined` is the text in `start`, or empty for `None`. If this text splits into the common first parts of `lists`,
--- then `joined` is these parts put together
+-- let `joined` be the text in `start`, or empty if `start` is `None`. If `lists` is not empty, let `start` hold a text
+-- that splits into the common first parts of `lists`. If `lists` is empty, let `start` be `None`. Then `joined` is the
+-- common first parts of `lists`, put together
 pub concat-first_parts : (lists : List (List (List ℕ))) (start : Option (Bor (List ℕ))) (none joined : Bor (List ℕ)) → none.now ≡ [] → joined ≡ unwrap_or start none
     → option_map (λ s. path_parts s.now) start ≡ start_of lists → joined.now ≡ concat (first_parts lists)
 concat-first_parts [] None none joined empty is same = ap (λ t. t.now) is ∙ empty
@@ -157,8 +159,9 @@ concat-first_parts (parts ∷ lists) (Some s) none joined empty is same =
 
 -- ---- where two texts differ
 
--- two texts get the same byte in front. The first argument is the length of their common first parts before this, and
--- the result is the length after this. `both_end`: in both texts, the new byte is a part of its own
+-- how the length in bytes of the common first parts changes if the same byte is put in front of two texts. The first
+-- argument is the old length, and the result is the new length. `both_end`: in both new texts, this byte is a part of
+-- its own
 abbrev pub extended : ℕ → Bool → ℕ
 extended zero both_end = cond both_end 1 0
 extended (suc count) both_end = suc (suc count)
@@ -179,7 +182,8 @@ shared-same x a b = let same : (x == x) ≡ true = eq-eqb x x refl in rw same re
 shared-apart : (x y : ℕ) (a b : List ℕ) → (x == y) ≡ false → shared (x ∷ a) (y ∷ b) ≡ 0
 shared-apart x y a b e = rw e refl
 
--- where only one text ends a part, the next bytes differ
+-- a separator differs from a byte that is not a separator. So if exactly one of two texts is empty or starts with a
+-- separator, the texts have no common first parts
 apart : (x y : ℕ) → is_separator x ≡ true → is_separator y ≡ false → (x == y) ≡ false
 apart x y e f = ne_eqb x y (λ same. let yes : is_separator y ≡ true = subst (λ t. is_separator t ≡ true) same e in cc)
 
@@ -326,9 +330,9 @@ path_parts-shared (x ∷ a) (y ∷ b) =
 
 -- ---- a walk over both texts
 
--- the number of bytes that two texts with the same first `at` bytes share. If the rests of the texts share bytes, the
--- number of these bytes is added to `at`. Otherwise the result is `at` if both texts end a part at index `at`, and
--- `kept` if not
+-- the length in bytes of the common first parts (`shared`) of two texts whose first `at` bytes are the same. `count` is
+-- this length for the rests of the texts, from index `at` on. If `count` is not 0, the result is `at + count`.
+-- Otherwise the result is `at` if both texts end a part at index `at` (`both_end`), and `kept` if not
 abbrev pub shared_at : ℕ → ℕ → Bool → ℕ → ℕ
 shared_at at zero both_end kept = cond both_end at kept
 shared_at at (suc count) both_end kept = at + suc count

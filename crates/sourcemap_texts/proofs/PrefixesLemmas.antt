@@ -26,7 +26,7 @@ strips p t (Some x) (n, (is, split, bound), rest, many) =
     let starts : true ≡ starts_with nat_eq t p = starts_text true p t (n, (is, split, bound), rw is bound) in
     rw (← starts) (ap Some (rest ∙ ap (λ k. drop k t) is))
 
--- `with_slash p` is stripped in two steps: first `p`, and then a slash, unless `p` ends with a slash
+-- to strip `with_slash p`, strip `p` first. Then, if `p` does not end with a slash, strip a slash from the rest
 pub stripped-with_slash : (p t : List ℕ) → stripped (with_slash p) t
     ≡ option_and_then (λ rest. if ends_with nat_eq p (codes "/") then Some rest else stripped (codes "/") rest) (stripped p t)
 stripped-with_slash p t =

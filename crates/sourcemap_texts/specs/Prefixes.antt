@@ -6,8 +6,9 @@ use Rattle.std.specs.List.{starts_with, ends_with}
 abbrev pub with_slash : List ℕ → List ℕ
 with_slash prefix = if ends_with nat_eq prefix (codes "/") then prefix else prefix ++ codes "/"
 
--- the rest of a text after `with_slash prefix` of the first prefix that matches; the whole text if no prefix matches. A
--- prefix matches if the text starts with `with_slash prefix`: prefix `a` turns `a/b` into `b`, and does not match `ab`
+-- a prefix matches if the text starts with `with_slash prefix`. The result is the rest of the text after `with_slash
+-- prefix`, where `prefix` is the first prefix that matches. If no prefix matches, the result is the whole text. For
+-- example, the prefix `a` turns `a/b` into `b`, and does not match `ab`
 abbrev pub without_prefix : List (List ℕ) → List ℕ → List ℕ
 without_prefix [] text = text
 without_prefix (prefix ∷ prefixes) text =

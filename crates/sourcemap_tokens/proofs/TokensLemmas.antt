@@ -175,7 +175,7 @@ AreInOrder-without_repeats tokens up =
     (Rises-without_repeats (λ a b. is_lt (position_cmp (destination a) (destination b))) tokens
     (Rises-from_sorted (λ a b. is_lt (position_cmp (destination a) (destination b))) (ranks_by position_cmp_total destination) tokens up))
 
--- the reduced list of tokens in order is in order
+-- if tokens are in order, their reduced list is in order
 pub AreInOrder-reduced : (names : ℕ) (tokens : List RawToken) → AreInOrder tokens → AreInOrder (reduced names tokens)
 AreInOrder-reduced names tokens up =
     sorted_from_Rises (λ a b. is_lt (position_cmp (destination a) (destination b))) (reduced names tokens)
@@ -186,7 +186,8 @@ AreInOrder-reduced names tokens up =
 sound_name_fits : (names id : ℕ) → names ≤ 4294967295 → names ≤ id → names ≤ (if nat_lt id names then id else 4294967295)
 sound_name_fits names id few out = grind (arith, nat_tests)
 
--- if tokens are within the counts, so is their reduced list
+-- let `names` be at most 4294967295. If tokens are within the counts `sources` and `names` (`AllWithin`), so is their
+-- reduced list
 pub AllWithin-reduced : (sources names : ℕ) (tokens : List RawToken) → names ≤ 4294967295 → AllWithin sources names tokens → AllWithin sources names (reduced names tokens)
 AllWithin-reduced sources names tokens few all =
     All-map (IsWithin sources names) (with_valid_name names) (without_repeats tokens)

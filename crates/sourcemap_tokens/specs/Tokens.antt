@@ -81,6 +81,7 @@ abbrev pub with_valid_name : (names : ℕ) → RawToken → RawToken
 with_valid_name names token = record token { name_id = (if nat_lt token.name_id names then token.name_id else no_id) }
 
 -- removes each token that is equal to the token before it, then replaces each name id that is not below `names` by
--- `no_id`. If tokens are sorted and satisfy `AllWithin` for fewer than 2^32 sources, their texts decode to this list
+-- `no_id`. If the tokens are sorted and satisfy `AllWithin sources names` for some `sources` below 2^32, the `mappings`
+-- and `rangeMappings` texts of the tokens decode, with these counts, to the result of `reduced`
 abbrev pub reduced : (names : ℕ) → List RawToken → List RawToken
 reduced names tokens = map (with_valid_name names) (without_repeats tokens)

@@ -15,8 +15,9 @@ pub fn item_at<T>(items: &[Option<T>], id: usize) -> Option<&T>
     }
 }
 
-/// Moves out the item with this id, and leaves `None` at its index. Returns `None` if the id is
-/// past the end of the list, or if the item is missing, and then the list is unchanged.
+/// Returns the item with this id, moved out of the list, and leaves `None` at its index. If the id
+/// is past the end of the list, or if the item is missing, returns `None` and leaves the list
+/// unchanged.
 #[inline]
 pub fn take_item<T: Drop>(items: &mut Vec<Option<T>>, id: usize) -> Option<T>
     ensures taken { result ≡ item_at items.old.items id }

@@ -36,7 +36,8 @@ impl Env for Start<'_> {
     }
 }
 
-// Whether `words` returns `want` for the arguments `given`. The first is the program's name.
+// Whether `words` returns `want` for the arguments `given`. The first item of `given`, if there is
+// one, is the name of the program.
 fn are_words(rt: &HostRuntime, given: &[&[u8]], want: &[&str]) -> Result<bool, Fail> {
     let start = Start {
         alloc: rt.alloc(),

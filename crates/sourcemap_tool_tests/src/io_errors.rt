@@ -79,10 +79,11 @@ fn a_reader_that_fails_is_not_decoded(rt: HostRuntime) -> Result<(), Fail> {
     Ok(())
 }
 
-// The first run uses a writer that takes one byte per write, and must print `want`. For each `left`
-// from 0 to `want.len()`, a further run uses a writer that fails after `left` calls of `write` or
-// `flush`. A further run must return `Io` and write exactly the first `left` bytes of `want`.
-// Returns whether all runs do so. The only error of `is_written` is out of memory.
+// The first run uses a writer that takes one byte per write. This run must print `want`. For each
+// `left` from 0 to `want.len()`, a further run uses a writer that fails after `left` calls of
+// `write` or `flush`. Each further run must return `Io` and write exactly the first `left` bytes of
+// `want`. Returns whether all runs meet these conditions. The only error of `is_written` is out of
+// memory.
 fn is_written(rt: &HostRuntime, words: &[String], want: &[u8]) -> Result<bool, Fail> {
     let mut output = narrow_writer(rt, None);
     let status = run(rt, rt.alloc(), words, &mut narrow_reader(None), &mut output)?;

@@ -11,7 +11,7 @@ use std::io;
 use std::io::ErrorKind;
 use std::test::Fail;
 
-// The flat map of `TWO`. It is an input: traces of both maps print the same.
+// The flat map of `TWO`. For the same positions, traces of `FLAT` and `TWO` print the same text.
 const FLAT: &str = r#"{"sources":["a.js","b.js"],"mappings":"AAAA;;;;;;;;;;ICAA"}"#;
 
 const RANGED: &str = r#"{"sources":["a.js"],"mappings":"AAAO","rangeMappings":"B"}"#;
@@ -95,7 +95,7 @@ static TRACES: [(&str, &str, &str); 21] = [
     ),
 ];
 
-// Traces again after `OutOfMemory`.
+// Calls `trace_text`, and calls `trace_text` once more if the first call returns `OutOfMemory`.
 fn trace_with_retry(alloc: Global, map: &DecodedMap, positions: &[u8]) -> Result<String, Error> {
     match trace_text(alloc, map, positions) {
         Err(Error::OutOfMemory) => trace_text(alloc, map, positions),

@@ -20,7 +20,7 @@ set_same [] id x there = refl
 set_same (y ∷ ys) zero x there = cc
 set_same (y ∷ ys) (suc id) x there = ap (λ zs. y ∷ zs) (set_same ys id x there)
 
--- if no section has the id, the unchanged index is the specified one
+-- if the index map `i` has no section `id`, `linked i id url` is `i` unchanged
 pub linked_none : (i : IndexValue) (id : ℕ) (url : List ℕ) → None ≡ slice_get i.sections id → i ≡ linked i id url
 linked_none i id url none = ap (λ o. unwrap_or (option_map (λ s. with_section i id (with_url s (Some url))) o) i) none
 

@@ -68,7 +68,7 @@ more_or_same : (b : Bool) (texts : List (List ℕ)) (text : List ℕ) → length
 more_or_same true texts text = omega arith
 more_or_same false texts text = omega (arith, length-append texts (text ∷ []))
 
--- adding texts never removes one
+-- adding texts does not reduce the number of texts
 no_fewer : (texts more : List (List ℕ)) → length texts ≤ length (fold with_text texts more)
 no_fewer texts [] = omega arith
 no_fewer texts (text ∷ more) =
@@ -119,7 +119,8 @@ too_many_both b one first second e made is_one h =
 
 -- Loops.
 
--- a prefix of all sources was added, the rest remains
+-- the list `all` is a list `added`, followed by `left`. The builder `new` is the builder `old` after the sources in
+-- `added` are added, in order. Each list may be empty
 abbrev pub HasAdded : (old new : BuilderValue) (left all : List (List ℕ)) → Type 0
 HasAdded old new left all = (added : List (List ℕ)) × (all ≡ added ++ left) × (new ≡ fold with_source old added)
 

@@ -17,7 +17,8 @@ module _ (i : IndexValue) (modules : List (Result ModuleValue Error)) (split : S
   split_over : MapValue → SplitValue
   split_over flat = record { flat = flat; offsets = is_first.offsets; modules = modules }
 
-  -- if the bundle splits into `split`, `split.flat` is `flat`, and the first item is `parts_at flat first found`
+  -- let `IsFirstModule` hold for `found`, and let the bundle split into `split`. Then `split.flat` is `flat`, and the
+  -- first item is `parts_at flat first found`
   pub first_due : Splits i modules (Ok split)
       → (split.flat ≡ flat) × ((others : List (Result ModuleParts Error)) × (dues_in split ≡ parts_at flat first found ∷ others))
   unfolding split_over

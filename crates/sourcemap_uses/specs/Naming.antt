@@ -10,7 +10,7 @@ abbrev pub IsNameOf : (bytes text : List ℕ) → ℕ × ℕ → (minified : Lis
 IsNameOf bytes text p minified name =
     (m : MapValue) × BytesHaveResult RegularDecodes bytes (Ok m) × (name ≡ function_name m text minified p)
 
--- the text of the source line that a token maps to; `None` if the map lacks the contents of the source, or if
--- these have no such line
+-- the text of the source line that a token maps to; `None` if the map lacks the contents of the token's source, or if
+-- the contents have no such line
 abbrev pub source_line_of : TokenValue → Option (List ℕ)
 source_line_of t = option_and_then (λ text. slice_get (line_bodies text) t.raw.src_line) (contents_of t.map_of t.raw.src_id)

@@ -8,9 +8,9 @@ use sourcemap::errors::JsonFault;
 /// What can be done about an error.
 #[derive(Clone, Copy, Debug, PartialEq, Eq)]
 pub enum Advice {
-    /// Read or write again: reading or writing failed, or the junk header is invalid. Also if a
-    /// search for a reference meets a line that is not UTF-8, or if contents are to be loaded but
-    /// neither `base_path` nor `current_dir` is absolute.
+    /// Read or write again: reading or writing failed, the junk header is invalid, a search for a
+    /// reference met a line that is not UTF-8, or contents are to be loaded but neither `base_path`
+    /// nor `current_dir` is absolute.
     ReadAgain,
     /// Look at what was fetched: it is not UTF-8, or does not parse as JSON (`JsonFault::Parse`).
     /// It may be an error page.

@@ -44,16 +44,16 @@ fn name_at(alloc: Global, map: &SourceMapHermes, offset: u32) -> Result<Option<S
 }
 
 /// Returns a copy, rewritten with default options: sources and names that no token uses are
-/// removed. Each token keeps its scope, and each bytecode offset keeps its function name, if the
-/// regular map in `map` is well-formed and no two sources resolve against `sourceRoot` to the same
-/// text. The only error is `OutOfMemory`.
+/// removed. If the regular map in `map` is well-formed, and no two sources resolve against
+/// `sourceRoot` to the same text, then each token keeps its scope, and each bytecode offset keeps
+/// its function name. The only error is `OutOfMemory`.
 pub fn shrink_copy<F: Files>(rt: &F, map: &SourceMapHermes) -> Result<SourceMapHermes>
     ensures value { Gives hermes_value result (Ok (rewritten no_removal (hermes_value map.now))) }
     ensures scopes { IsWellFormed (hermes_value map.now).map
         → HasDistinctSources (hermes_value map.now)
         → IfOk result (λ small. KeepsScopes (hermes_value map.now) (hermes_value small)) }
 {
-    // prover: scopes are few, and function maps are theirs
+    // prover: entries of scopes are few, and each entry encodes the function map of its source
     let _ = map.scope_count();
     let copy = map.clone()?;
     copy.rewrite(rt, &RewriteOptions::default())

@@ -29,8 +29,8 @@ pub fn merged_sources(alloc: Global, first: &SourceMap, second: &SourceMap) -> R
 }
 
 /// Adds the resolved sources of a map to a builder. Errors: `OutOfMemory`, and
-/// `IncompatibleSourceMap` for more than 4294967295 sources in all. After an error a prefix of the
-/// sources may have been added, and nothing else is changed.
+/// `IncompatibleSourceMap` for more than 4294967295 different sources in all. After an error some
+/// of the sources may have been added: the first ones, in order. Nothing else is changed.
 pub fn add_sources(builder: &mut SourceMapBuilder, map: &SourceMap) -> Result<()>
     ensures added { OnOk result
         (builder.new ≡ fold with_source builder.old (resolved_sources map.now)) }

@@ -186,8 +186,9 @@ FitsOneNumber-more text n v h unfinished e within =
     let within' : (nat_lt n 12 || ((n == 12) && nat_lt (data_of c) 8)) ≡ true = rw bits within in
     rw (take_more text n 0 h) (fits_in_number-small (take n text) c n unfinished len within')
 
--- if `raw` is the raw value of the first `n` digits, and digit `n` passes the overflow test, the sum with digit `n` is
--- the raw value of the first `n + 1` digits and is below 2 ^ 63
+-- let the first `n` digits of `text` be an unfinished number with the raw value `raw`. Let digit `n` (counted from 0)
+-- have the data bits `bits` and pass the overflow test. Then `raw` plus `bits * 2 ^ (5 * n)`, with this product taken
+-- modulo 2 ^ 64, is the raw value of the first `n + 1` digits. This raw value is below 2 ^ 63
 pub sum_of-more : (text : List ℕ) (n v raw bits : ℕ) → n < length text → IsUnfinished (take n text)
     → digit_value (get_or text n 0) ≡ Some v
     → (nat_lt n 12 || ((n == 12) && nat_lt (v % 32) 8)) ≡ true
@@ -244,9 +245,10 @@ with_numbers : List ℤ → Result (List ℤ) Error → Result (List ℤ) Error
 with_numbers [] r = r
 with_numbers (n ∷ ns) r = with_number n (with_numbers ns r)
 
--- the result from the byte `c` on, where `whole` is the current group of digits and ends with `c`: an error if `c` is
--- not a digit or `whole` does not fit one number, else `more` if `c` has the continuation bit, else the number of
--- `whole` and then `next`
+-- the result from the byte `c` on. `whole` is the current group of digits, and ends with `c`. If `c` is not a digit, or
+-- if `whole` does not fit one number, the result is an error. Otherwise, the result is `more` if `c` has the
+-- continuation bit. If `c` does not have this bit, the result is the number of `whole` followed by the numbers of
+-- `next`, or the error of `next`
 after_digit : List ℕ → ℕ → Option ℕ → Result (List ℤ) Error → Result (List ℤ) Error → Result (List ℤ) Error
 after_digit whole c None more next = Err (InvalidBase64 c)
 after_digit whole c (Some v) more next =
@@ -283,7 +285,7 @@ scan-last part cs c (v, e, last) small =
     let test : nat_lt v 32 ≡ true = lt-ltb v 32 last in
     rw (e, fits, test) refl
 
--- a prefix of digits that fit one number fits one number too
+-- if the digits `xs ++ ys` fit one number, the digits `xs` fit one number too
 FitsOneNumber-front : (xs ys : List ℕ) → FitsOneNumber (xs ++ ys) → FitsOneNumber xs
 FitsOneNumber-front xs ys small =
     let raw : raw_of (xs ++ ys) ≡ raw_of xs + 2 ^ (5 * length xs) * raw_of ys = raw_of-append xs ys in
@@ -329,7 +331,8 @@ scan-reads front rest (n ∷ ns) (group, tail, g, e, reads) =
     ∙ (ap (λ xs. scan_from [] xs) (append_assoc group tail rest)
     ∙ (scan-group group (tail ++ rest) n g ∙ ap (λ r. with_number n r) (scan-reads tail rest ns reads)))
 
--- the decoder reaches the byte c after an unfinished number
+-- let `text` begin with the digits `part` of an unfinished number, and let the byte `c` come next. Then the scan of
+-- `text` has the same result as the scan from `c` on with `part` as the current group
 scan-goes_to : (text part : List ℕ) (c : ℕ) → (to : GoesTo text part c) → scan_from [] text ≡ scan_from part (c ∷ to.more)
 scan-goes_to text part c to = ap (λ xs. scan_from [] xs) to.split ∙ scan-unfinished [] part (c ∷ to.more) to.unfinished.continues to.unfinished.fits
 
@@ -576,7 +579,9 @@ HasContinuation-glyph v h = (v + 32, digit_value-glyph (v + 32) (omega arith), o
 pub IsLast-glyph : (v : ℕ) → v < 32 → IsLast (glyph v)
 IsLast-glyph v h = (v, digit_value-glyph v (omega arith), h)
 
--- one digit is split off from the raw value
+-- let `total` be the raw value of `part` plus `left` times the weight of the digit after `part`. This equation still
+-- holds if a digit with the lowest five bits of `left` and the continuation bit is appended to `part`, and `left` is
+-- divided by 32 and rounded down
 pub raw_of-split : (part : List ℕ) (total left : ℕ) → total ≡ raw_of part + 2 ^ (5 * length part) * left
     → total ≡ raw_of (part ++ glyph (left % 32 + 32) ∷ []) + 2 ^ (5 * length (part ++ glyph (left % 32 + 32) ∷ [])) * (left / 32)
 raw_of-split part total left e =
@@ -651,9 +656,9 @@ no_shorter k m n other g e heavy =
           ]
     ]
 
--- let all digits of `part` have the continuation bit, and let the rest `left` of the raw value of `n` after `part` be
--- below 32. Then `part` with the digit of `left` is the shortest digit sequence of `n`; `n` must not be too large, and
--- `left` must not be 0 if `part` has digits
+-- let all digits of `part` have the continuation bit, and let the absolute value of `n` be below 2 ^ 62. Let the raw
+-- value of `n` be the raw value of `part` plus `left` times the weight of the digit after `part`. Let `left` be below
+-- 32, and not 0 if `part` has digits. Then `part` followed by the digit of `left` is the shortest digit sequence of `n`
 pub IsShortest-last : (part : List ℕ) (n : ℤ) (left : ℕ) → AllByRecursion HasContinuation part → left < 32 → unsigned_abs n < 2 ^ 62
     → total_of n ≡ raw_of part + 2 ^ (5 * length part) * left → (0 < length part → 0 < left)
     → IsShortest (part ++ glyph left ∷ []) n

@@ -7,7 +7,7 @@ use Rattle.sourcemap_errors.specs.declared.errors.Error.{Error}
 use Rattle.sourcemap_errors.specs.declared.errors.Error.TheVariants.{InvalidBase64}
 use Rattle.sourcemap_vlq.specs.Vlq.{digit_value}
 
--- the value of digit k, 0 past the end and for a byte that is not a digit
+-- the value of digit k. The value is 0 if k is past the end of the text, or if byte k is not a digit
 abbrev pub value_at : List ℕ → ℕ → ℕ
 value_at text k = unwrap_or (option_and_then digit_value (slice_get text k)) 0
 

@@ -1,4 +1,5 @@
--- If the map is not written, there are three reasons: the bytes do not decode, the writer fails, or memory runs out.
+-- If `write_map` returns an error, the reason is one of three: the bytes do not decode, the writer fails, or memory
+-- runs out.
 use Rattle.std.proofs.lemmas.Result.{err_from_is_err_and}
 use Rattle.sourcemap.specs.AnyMap.{map_tree}
 use Rattle.sourcemap_bench.proofs.WrittenLemmas.{no_map, text_written, text_unwritten}

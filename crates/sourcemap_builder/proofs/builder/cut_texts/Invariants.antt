@@ -4,8 +4,8 @@ use Rattle.sourcemap_builder.specs.Builder.{with_changes}
 use Rattle.sourcemap_texts.specs.Prefixes.{without_prefix}
 use Rattle.sourcemap_builder.proofs.builder.cut_texts.Given as goal
 
--- `cut` has `id` items. The changes `cut` turn the first `id` of `texts` into the first `id` current texts (`texts`
--- changed by `current`) with prefixes stripped
+-- `cut` has `id` items. The current texts are `texts` changed by `current`. The changes `cut` turn the first `id` texts
+-- of `texts` into the results of `without_prefix` for the first `id` current texts
 abbrev pub invariant-loop-id : goal.invariant-loop-id
 invariant-loop-id g l =
     (vec_len l.cut ≡ l.id)

@@ -1,4 +1,6 @@
--- The map is adjusted by the one in the file, or adjusting fails, or the file cannot be read or decoded.
+-- If the file decodes to the map `adjustment`, the result is `map` adjusted by `adjustment`, as a JSON line, or the
+-- error of adjusting `map`. If the file cannot be read or decoded, the result is the error of reading or decoding the
+-- file. `OutOfMemory` is always allowed.
 use Rattle.std.proofs.Common.{option_map}
 use Rattle.std.proofs.lemmas.Result.{err_from_is_err_and}
 use Rattle.sourcemap.specs.AnyMap.{map_tree}

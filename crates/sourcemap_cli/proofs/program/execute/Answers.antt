@@ -1,5 +1,6 @@
--- If the bytes decode to a map, the result is the command's output for this map, or a later error. If the bytes do not
--- decode, the result is the decoding error. Only `compose` and `trace` use the file.
+-- If the bytes decode to a map, the result is the command's output for this map, an error of reading or decoding the
+-- file, or an error of the command. If the bytes do not decode, the result is the decoding error. Only `compose` and
+-- `trace` use the file. `OutOfMemory` is always allowed.
 use Rattle.std.proofs.Common.{option_map}
 use Rattle.std.proofs.lemmas.Result.{err_from_is_err_and}
 use Rattle.sourcemap.specs.AnyMap.{map_tree}

@@ -1,5 +1,5 @@
--- If the words are a command, the reply reports the result of the command. Otherwise the reply is the usage. The reply
--- has the text and the status of every ending that `Ends` allows.
+-- If the words are a command, the reply reports the result of the command. Otherwise the reply is the usage. `Ends` may
+-- allow several endings. For each of these endings, the reply has the right text and the right status (`IsReply`).
 use Rattle.std.proofs.Common.{Some, map, string_bytes}
 use Rattle.sourcemap_cli.specs.Program.{file_read}
 use Rattle.sourcemap_cli.proofs.ProgramLemmas.{only_reply, reply_of_command, reply_to_others}

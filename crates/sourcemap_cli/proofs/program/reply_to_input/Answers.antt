@@ -1,4 +1,4 @@
--- The input is read only if the words are a command. Then the reply is correct for the bytes of the input.
+-- The input is read only if the words are a command. In this case, the reply is correct for the bytes of the input.
 use Rattle.std.proofs.Common.{Err, None, [], inl, inr, ◌∙◌, ap, map, string_bytes}
 use Rattle.std.proofs.lemmas.Result.{err_from_is_err_and}
 use Rattle.sourcemap_cli.proofs.ProgramLemmas.{cut_short, out_of_memory, reading_failed, reply_of_command, reply_of_reader, reply_to_others}

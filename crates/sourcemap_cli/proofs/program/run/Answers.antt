@@ -1,4 +1,4 @@
--- If writing succeeds, the output is the text of the reply. If there is no reply, the output is the text of an error.
+-- If writing succeeds, the output is the text of the reply, or the text of an error and a newline if there is no reply.
 use Rattle.std.proofs.Common.{map, string_bytes}
 use Rattle.sourcemap_cli.proofs.ProgramLemmas.{runs}
 use Rattle.sourcemap_cli.proofs.program.run.Goals as goal

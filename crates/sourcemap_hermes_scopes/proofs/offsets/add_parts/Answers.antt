@@ -1,4 +1,4 @@
--- The parts of a line append their offsets, or one of them is invalid.
+-- The parts of a line append their offsets, or a part of the line is invalid, or memory ran out.
 use Rattle.std.proofs.Common.{[], Any, subst, sym}
 use Rattle.std.proofs.lemmas.Result.{err_from_is_err_and}
 use Rattle.sourcemap_errors.proofs.AnswerLemmas.{UnlessMemory-from}

@@ -1,4 +1,4 @@
--- One more item is taken.
+-- Moving the item with the next id (or `None`) from `items` to `moved` keeps the loop invariant.
 use Rattle.std.proofs.Common.{◌≡◌, ◌++◌, ◌∷◌, [], ℕ, ◌+◌, List, drop, get_or, subst}
 use Rattle.std.proofs.lemmas.List.{drop_more}
 use Rattle.sourcemap_tokens.specs.Items.{item_at}

@@ -1,4 +1,4 @@
--- One more entry has its function map.
+-- Appending the function map of the next entry to `maps` keeps the loop invariant.
 use Rattle.std.proofs.Common.{subst}
 use Rattle.sourcemap_hermes_scopes.specs.ScopeLists.{EntryStandsFor, entry_in}
 use Rattle.sourcemap_hermes_scopes.proofs.ScopeListsLemmas.{AllZip-more}

@@ -1,4 +1,4 @@
--- Entries have at most one list of function maps.
+-- Equal lists of entries encode equal lists of function maps.
 use Rattle.sourcemap_hermes_scopes.proofs.SourceScopesLemmas.{function_maps_same}
 use Rattle.sourcemap_hermes_scopes.proofs.source_scopes.entries_determine_function_maps.Goals as goal
 

@@ -1,4 +1,5 @@
--- If each entry encodes the function map of its source, so does each selected entry.
+-- If each entry encodes the function map of its source, each selected entry also encodes the function map of its
+-- source.
 use Rattle.sourcemap_hermes_scopes.proofs.SourceScopesLemmas.{picked_of_entries}
 use Rattle.sourcemap_hermes_scopes.proofs.source_scopes.picked_scopes_answer_alike.Goals as goal
 

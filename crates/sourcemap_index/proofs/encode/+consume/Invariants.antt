@@ -20,8 +20,8 @@ decreases-sections_into_records l = 4 * indexes_in (sections_from (map section_v
 abbrev pub decreases-section_into_record : goal.decreases-section_into_record
 decreases-section_into_record l = 4 * section_indexes (section_value l.part) + 4
 
--- if `rs` are the records of the remaining sections, the records made so far, followed by `rs`, are the records of all
--- sections. The remaining sections contain at most as many index maps as all sections (`indexes_in`)
+-- let `rs` be the records of the remaining sections. Then the records made so far, followed by `rs`, are the records of
+-- all sections. The remaining sections contain at most as many index maps as all sections (`indexes_in`)
 abbrev pub invariant-sections_into_records-loop-part : goal.invariant-sections_into_records-loop-part
 invariant-sections_into_records-loop-part l = record {
   pairs : (rs : List Section) → ArePairs (map section_value (into_iter_items l.part-iterator)) rs

@@ -16,7 +16,8 @@ decreases-read_items l = 2 * l.depth + 1
 abbrev pub decreases-read_members : goal.decreases-read_members
 decreases-read_members l = 2 * l.depth + 1
 
--- if the remaining tokens begin with the items `ds`, the tokens before the loop begin with the items found, then `ds`
+-- if the remaining tokens begin with the items `ds`, the tokens that remained before the loop begin with the items
+-- found so far, followed by `ds`
 abbrev pub invariant-read_items-items : goal.invariant-read_items-items
 invariant-read_items-items l =
     (most : ℕ) × (length l.cursor.tokens ≤ most)

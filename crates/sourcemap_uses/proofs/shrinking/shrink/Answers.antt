@@ -1,4 +1,5 @@
--- `shrink` returns `rewritten no_removal` of the map. The root, the sources and the names of the result follow.
+-- `shrink` returns `rewritten no_removal` of the map, or the error `OutOfMemory`. The clauses on the root, the sources
+-- and the names of the result follow from this.
 use Rattle.std.proofs.Common.{◌≡◌, refl, None, arith}
 use Rattle.sourcemap.specs.Rewrite.{no_removal, rewritten, used_names, used_sources}
 use Rattle.sourcemap_uses.proofs.RewritingLemmas.{default_memory, default_whole, sources_uncut, whole_so}

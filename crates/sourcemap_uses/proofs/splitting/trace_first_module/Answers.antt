@@ -1,6 +1,8 @@
--- `trace_first_module` returns the text that the map of the first module gives for the position, or an error. Without a
--- module the text is empty. Let `p` be the same position in the bundle. The flattened map gives the same text for `p`
--- if two positions are in the module: `p`, and the generated position of the token closest to `p` in the flattened map.
+-- `trace_first_module` returns the text that the map of the first module gives for line `line` and column `col`, or an
+-- error. Modules with a null offset in `x_facebook_offsets` are skipped. If no module is left, the text is empty. Let
+-- `first` be the offset of the first module: the line of the bundle on which the module begins. Let `p` be line `first
+-- + line` and column `col`. Let `p` be in the module. Let a lookup of `p` in the flattened map find a token whose
+-- generated position is in the module too. Then the flattened map gives the same text for `p`.
 use Rattle.std.proofs.lemmas.Result.{err_from_is_err_and}
 use Rattle.std.proofs.Common.{◌≡◌, ◌∙◌, ◌+◌, ◌-◌, sym, ap, subst, Ok, IfOk, string_bytes, arith}
 use Rattle.sourcemap.specs.Answer.{Gives}

@@ -1,4 +1,4 @@
--- A well-formed map is well-formed afterwards.
+-- A well-formed map is still well-formed after all its names are removed.
 use Rattle.std.proofs.Common.{rules, sym, subst}
 use Rattle.sourcemap_map_regular.specs.Map.{IsWellFormed}
 use Rattle.sourcemap_map_regular.proofs.MapLemmas.{nameless-well}
