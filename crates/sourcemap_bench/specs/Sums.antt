@@ -18,7 +18,8 @@ worth (Some t) =
 abbrev pub lookup_sum : MapTree → List (ℕ × ℕ) → ℕ → ℕ
 lookup_sum t positions start = fold (λ sum p. mixed sum (worth (lookup t p))) start positions
 
--- the new checksum after `worth` of each of these tokens is added to the checksum `sum`, in order
+-- the checksum that results from `sum` when one number is added for each token in `tokens`, in order. The number for a
+-- token is its `worth`
 abbrev pub with_all : ℕ → List TokenValue → ℕ
 with_all sum tokens = fold (λ sum t. mixed sum (worth (Some t))) sum tokens
 

@@ -1,6 +1,6 @@
-//! The measured calls, and the word of the command line for each. If a call reads the first line of
-//! the input separately, this line must end with `\n`. A line counts as 0 if a number is expected
-//! and the line is not a number below 2^32.
+//! The measured calls, and the word of the command line for each. If a call other than `relative`
+//! reads the first line of the input separately, this line must end with `\n`. A line counts as 0
+//! if a number is expected and the line is not a number below 2^32.
 
 use sourcemap::Result;
 use std::alloc::Global;

@@ -48,7 +48,7 @@ pub fn count_encoded_in_parts(alloc: Global, bytes: &[u8]) -> Result<usize> {
     Ok(counter.size)
 }
 
-/// The number of bytes of the map as a data URL.
+/// The number of bytes in the data URL that `to_data_url` returns.
 pub fn measure_data_url(alloc: Global, bytes: &[u8]) -> Result<usize> {
     let map = flat_map(alloc, bytes)?;
     let url = map.to_data_url()?;

@@ -55,10 +55,10 @@ fn count_flat_tokens(map: &DecodedMap) -> Result<usize> {
 }
 
 // Makes nested index maps, as many as the number in `bytes` says. Makes one index map if the number
-// is 0, or if the trimmed text is not a number below 2^32. Then makes four checks: the lookup of
-// 0:0 finds a token, `Debug` prints the map, a copy equals the map, and the map's JSON value is
-// read back as an equal map. Returns the number of tokens of the flattened map plus the number of
-// checks that succeed.
+// is 0, or if the trimmed text is not a number below 2^32. Then makes four checks on the outermost
+// map: the lookup of 0:0 finds a token, `Debug` prints the map, a copy equals the map, and the
+// map's JSON value is read back as an equal map. Flattens the outermost map. Returns the number of
+// tokens of the flattened map plus the number of checks that succeed.
 fn count_nested_tokens(alloc: Global, bytes: &[u8]) -> Result<usize> {
     let depth = str::from_utf8(bytes)?.trim().parse().unwrap_or(1);
     let map = DecodedMap::Index(levels(alloc, depth)?);
@@ -69,8 +69,8 @@ fn count_nested_tokens(alloc: Global, bytes: &[u8]) -> Result<usize> {
     Ok(count_flat_tokens(&map)?.wrapping_add(extra + equal))
 }
 
-// Flattens and rewrites an index map. Returns the number of tokens plus the number of sources of
-// the rewritten map.
+// Flattens and rewrites an index map. Returns the number of tokens plus the number of sources, both
+// of the rewritten map.
 fn flatten_and_rewrite<F: Files>(rt: &F, alloc: Global, bytes: &[u8]) -> Result<usize> {
     let index = SourceMapIndex::from_slice(alloc, bytes)?;
     let map = index.flatten_and_rewrite(rt, &RewriteOptions::default())?;

@@ -16,8 +16,9 @@ pub fn relative(alloc: Global, bytes: &[u8]) -> Result<usize> {
     Ok(path.len())
 }
 
-/// The byte count of the common prefix of the absolute paths among the lines. 0 if
-/// `find_common_prefix` finds no prefix.
+/// Calls `find_common_prefix` with all lines; lines that are not absolute paths are ignored.
+/// Returns the byte count of the common prefix, or 0 if `find_common_prefix` returns `None`.
+/// Returns `Utf8` if `bytes` are not UTF-8. The only other error is `OutOfMemory`.
 pub fn prefix(alloc: Global, bytes: &[u8]) -> Result<usize> {
     let common = find_common_prefix(alloc, str::from_utf8(bytes)?.lines())?;
     Ok(common.map_or(0, |path| path.len()))

@@ -7,8 +7,8 @@ use std::str;
 /// Walks over all tokens of a map, from the last to the first. `SourceView::rev_token_iter` finds
 /// the identifier at the generated position of each token. Returns the byte count of all these
 /// identifiers. The map is on the first line of the input, and the generated text is after that
-/// line. Without a `\n`, both are empty. Returns `Utf8` if the input is not UTF-8. The other errors
-/// come from `SourceMap::from_slice` and `SourceView::new`.
+/// line. Input without a `\n` is treated as empty. Returns `Utf8` if the input is not UTF-8. The
+/// other errors come from `SourceMap::from_slice` and `SourceView::new`.
 pub fn walk_tokens(alloc: Global, bytes: &[u8]) -> Result<usize> {
     let (line, text) = str::from_utf8(bytes)?.split_once('\n').unwrap_or_default();
     let map = SourceMap::from_slice(alloc, line.as_bytes())?;

@@ -33,10 +33,10 @@ abbrev pub name_worth : Option (List ℕ) → ℕ
 name_worth None = 0
 name_worth (Some name) = min (length name + 1) 4294967295
 
--- the new checksum after one number for each generated position in `positions` is added to the checksum `start`, in
--- order. At each position, `function_name` tries to guess the original name of the function that is called
--- `absent_name` in the generated text `source`. The number for the position is the `name_worth` of the guessed name, or
--- 0 if no name is guessed
+-- the checksum that results from `start` when one number is added for each generated position in `positions`, in order.
+-- At each position, `function_name` tries to guess the original name of the function that is called `absent_name` in
+-- the generated text `source`. The number for the position is the `name_worth` of the guessed name, or 0 if no name is
+-- guessed
 abbrev pub name_sum : MapValue → (source : List ℕ) → List (ℕ × ℕ) → ℕ → ℕ
 name_sum m source positions start =
     fold (λ sum p. mixed sum (name_worth (function_name m source absent_name p))) start positions

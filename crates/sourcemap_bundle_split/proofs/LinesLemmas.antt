@@ -67,8 +67,8 @@ filter-both {X} p q (x ∷ xs) = by_cases (p x) (q x) refl refl (filter-both p q
     by_cases true false a b rest = rw (a, b) rest
     by_cases false b' a b rest = rw a rest
 
--- A filter keeps tokens in order. If all tokens are on a line or after it, they stay in order when their lines are
--- counted from that line.
+-- If tokens are in order, the tokens that a filter keeps are in order too. If tokens are in order, and all of them are
+-- on `line` or on later lines, they stay in order when `moved_by` counts their lines from `line`.
 
 all-filter : {X : Type 0} (P : X → Type 0) (p : X → Bool) (xs : List X) → AllByRecursion P xs → AllByRecursion P (filter p xs)
 all-filter P p [] all = tt

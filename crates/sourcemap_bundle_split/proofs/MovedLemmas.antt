@@ -58,8 +58,8 @@ module _ (line sources names : ℕ) (done : List RawToken) (t : RawToken) where
       (slice_get-map (λ (t : RawToken). t.name_id) done k ∙ ap (option_map (λ (t : RawToken). t.name_id)) at) in
       rw (source, name) refl
 
-  -- `with_id` may add the ids of the next token `t` to the used ids of `done`. The tokens in `done` then keep their
-  -- source numbers and name numbers
+  -- applying `with_id` to the used ids of `done` and the ids of the next token `t` does not change the source numbers
+  -- and name numbers of the tokens in `done`
   pub moved-more : map (moved_by line (with_id sources (source_ids done) t.src_id) (with_id names (name_ids done) t.name_id)) (done ++ t ∷ [])
       ≡ map (moved_by line (source_ids done) (name_ids done)) done
       ++ moved_by line (with_id sources (source_ids done) t.src_id) (with_id names (name_ids done) t.name_id) t ∷ []

@@ -62,7 +62,8 @@ IsReadBy-push names startup folder name id text (found, numbered, read) n = (
   ap (λ f. with_file f (id, text)) read ∙ sym (fold_push with_file (no_modules startup) found (id, text)),
 )
 
--- `cond` selects `Some text` or `rest`. The bytes may be taken before or after this selection
+-- `cond` selects `Some text` or `rest`. It makes no difference whether vectors are converted to lists of bytes before
+-- or after this selection
 lookup-cond : (b : Bool) (text : Vec ℕ Global) (rest : Option (Vec ℕ Global))
     → option_map (λ v. v.items) (cond b (Some text) rest) ≡ cond b (Some text.items) (option_map (λ v. v.items) rest)
 lookup-cond true text rest = refl

@@ -1,4 +1,7 @@
--- The error report of a call that adds tokens matches the number of tokens that were added.
+-- Let a call that adds tokens have an outcome that `AreAdded` allows, and let the error report be the one for this
+-- outcome (`Finishes`). With a builder, either all tokens were added and the report is unchanged, or fewer tokens were
+-- added and the report describes `OutOfMemory`. Without a builder, no token was added, and the report describes
+-- `WrongKind` or `OutOfMemory`.
 use Rattle.std.proofs.Common.{ℕ, Option, Some, None, Result, Ok, Err, inl, inr, subst}
 use Rattle.sourcemap_builder.specs.Builder.{BuilderValue}
 use Rattle.sourcemap_c_handles.specs.Errors.{Finishes, Reports}

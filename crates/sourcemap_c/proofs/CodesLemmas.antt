@@ -76,8 +76,8 @@ no_failure Absent P none = absurd none
 no_failure WrongKind P none = absurd none
 no_failure PastLimit P none = absurd none
 
--- let `Does` hold with `Done`, and with `OfLibrary NoError`, so that out of memory is the only allowed failure. Then
--- `Does` also holds with any `Done'` that follows from `Done`, and with any `Due'`
+-- let `Does result Done (OfLibrary NoError) Kept` hold, so that out of memory is the only allowed failure. If `Done`
+-- implies `Done'`, then `Does result Done' Due' Kept` holds for any `Due'`
 pub weaker_put : {T : Type 0} (result : Result T Failure) (Done Done' : Type 0) (Due' : Failure → Type 0) (Kept : Type 0)
     → (Done → Done') → Does result Done (OfLibrary NoError) Kept → Does result Done' Due' Kept
 weaker_put result Done Done' Due' Kept done does =

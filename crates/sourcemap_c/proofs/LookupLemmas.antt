@@ -23,7 +23,9 @@ before_next tokens n q before = by_next (slice_get tokens (n + 1)) before
     by_next None before = tt
     by_next (Some token) before = before
 
--- in a list in order, the token closest to a position stays the closest up to the start of the next token
+-- let `tokens` be in order, and let `found` be the token closest to `p`. Then `found` is also the closest token at each
+-- later position before the start of the next token. If there is no next token, the bound is line 4294967295, column
+-- 4294967295 (`start_after`)
 pub stays : (tokens : List RawToken) (p : ℕ × ℕ) (found : ℕ × RawToken) → AreInOrder tokens → closest_token tokens p ≡ Some found
     → StaysClosest tokens p (start_after tokens found.0)
 stays tokens p (n, token) up at q later before = closest-stays tokens p q (n, token) up at later (before_next tokens n q before) ∙ sym at

@@ -1,4 +1,4 @@
--- This file re-exports the parts of the program logic that the walks of this crate use.
+-- This file re-exports the parts of the program logic that the proofs of this crate use to step through code.
 pub use Rattle.std.proofs.Common.{◌≡◌, ℕ, List, [], ◌∷◌, refl, w8, MutBor}
 pub use Rattle.std.proofs.raw_atomic.Walks.{proved}
 pub use base.Logic.{id⊢}

@@ -31,7 +31,8 @@ use Rattle.sourcemap_index_model.proofs.MapTreeLemmas.{section_list-from}
 use Rattle.sourcemap_index_model.proofs.WellFormedLemmas.{decoded_well, well_formed_in_order}
 use Rattle.sourcemap_cli.proofs.CommandLemmas.{command_once}
 
--- every call may return `OutOfMemory`; any other error must be the specified one
+-- if `e` is `OutOfMemory`, `UnlessMemory e P` holds for any `P`. If `e` is another error, `UnlessMemory e P` implies
+-- `P`
 pub no_memory : (e : Error) (P : Type 0) → e ≡ OutOfMemory → UnlessMemory e P
 no_memory e P is = rw is tt
 
@@ -99,7 +100,7 @@ none_adjusted (leaf (regular m)) = refl
 none_adjusted (leaf (hermes h)) = refl
 none_adjusted (index parts ss) = refl
 
--- `compose` needs an adjustment
+-- for `compose` without an adjustment, `Returns` allows the error `IncompatibleSourceMap`
 pub compose_without_adjustment : (path : String Global) (t : MapTree) → Returns (Compose path) t None (Err IncompatibleSourceMap)
 compose_without_adjustment path t = inr (sym (none_adjusted t))
 
@@ -363,7 +364,8 @@ prints_alike : (First : Result MapValue Error → Type 0) → ((a b : Result Map
 prints_alike First one a b p q =
     then_alike First (λ m a. PrintsMap (leaf (regular m)) a) one (λ m a b made p q. maps_alike (leaf (regular m)) a b p q) a b p q
 
--- for a map with sorted sections the output is determined
+-- let the sections of the map `t` be sorted. Any two results that `Returns` allows for the same `command`, `t` and
+-- `other` print alike
 returns_alike : (command : Command) (t : MapTree) (other : Option MapTree) (a b : Result (List ℕ) Error) → IsInOrder t
     → Returns command t other a → Returns command t other b → PrintAlike a b
 returns_alike (Lookup line col) t other a b ordered p q = found_alike t (line, col) a b ordered p q

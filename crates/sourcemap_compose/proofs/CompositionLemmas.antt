@@ -15,7 +15,8 @@ use Rattle.sourcemap_compose.proofs.StretchesLemmas.{IsAt, IsSound, before-chain
 
 -- A pair that overlaps.
 
--- a position in a stretch is on the line of its start, at the column of the start or after it
+-- let `end` be at or before the end of the line of `start` (`line_end`). If a position is at or after `start` and
+-- before `end`, the position is on the line of `start`, at or after the column of `start`
 pub on_the_line : (start end p : ℕ × ℕ) → is_before (line_end start) end ≡ false → is_before p start ≡ false → is_before p end ≡ true
     → (start.0 ≡ p.0) × (start.1 ≤ p.1)
 on_the_line start end p short from to = (grind (arith, nat_tests), grind (arith, nat_tests))

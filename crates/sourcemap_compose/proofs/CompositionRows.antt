@@ -13,7 +13,7 @@ range dst_line dst_col src_line src_col = record { dst_line = dst_line; dst_col 
 abbrev bare_range : (dst_line dst_col : ℕ) → RawToken
 bare_range dst_line dst_col = record { dst_line = dst_line; dst_col = dst_col; src_line = 4294967295; src_col = 4294967295; src_id = 4294967295; name_id = 4294967295; is_range = true }
 
--- an original that starts before the adjustment, and one that starts in it
+-- the first original starts before the start of the adjustment, and the second original starts in the adjustment
 two_parts : composition (at 8 28 102 35 ∷ at 8 40 102 50 ∷ []) (at 17 23 8 30 ∷ []) ≡ Ok (at 17 23 102 35 ∷ at 17 33 102 50 ∷ [])
 two_parts = refl
 

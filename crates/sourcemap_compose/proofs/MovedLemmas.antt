@@ -1,5 +1,5 @@
--- Under the premises of the law `moved_positions_answer_as_before`, the composition gives a moved position the origin
--- that the original gives the position before the move.
+-- Let the premises of the law `moved_positions_answer_as_before` hold for a position `q`, which a stretch `a` of the
+-- adjustment moves to `moved a q`. Then `moved a q` has the same origin in the composition as `q` has in the original.
 use Rattle.std.proofs.Common.{◌≡◌, refl, sym, ap, subst, ◌∙◌, ℕ, suc, ◌+◌, ◌-◌, ◌<◌, ◌≤◌, min, List, [], ◌∷◌, ◌++◌, Bool, true, false, cond, not, ◌&&◌, if◌then◌else◌, Some, slice_get, Result, Ok, Err, ◌==◌, arith, inl, inr}
 use Rattle.std.specs.List.{AllByRecursion, Contains, flat_map, list_any}
 use Rattle.std.proofs.lemmas.Bool.{cases_Bool, and_from, and_parts, eq-eqb, eqb-true, false≢true}
@@ -232,7 +232,8 @@ module _ (ts : List RawToken) (bs : List Stretch) (r : Rises (λ a b. is_before 
   reached_later : (later_start a s).1 ≤ q.1
   reached_later = column_le (later_start a s) q (later-least a s (λ p. is_before q p ≡ false) inside_a.0 inside_s.0) (line_later s in_s meets).0
 
-  -- if `o` overlaps `a`, and `composed a o` is between `composed a s` and `moved a q`, both included, `o` is `s`
+  -- let the stretch `o` of the original overlap `a`. If the generated position of `composed a o` is at or after the
+  -- generated position of `composed a s`, and at or before `moved a q`, then `o` is `s`
   only_here : (o : Stretch) → IsIn o (stretches destination ts) → overlap a o ≡ true
       → is_before (destination (composed a o)) (destination (composed a s)) ≡ false
       → is_before (moved a q) (destination (composed a o)) ≡ false → o ≡ s

@@ -13,7 +13,7 @@ UnlessMemory-from OutOfMemory h = tt
 UnlessMemory-from _ h = h
 
 -- let `answer` be the only result that `Answers` allows. If `IsAnswer view Answers result` holds, then `result` is the
--- error `OutOfMemory`, or `result`, mapped by `view`, is `answer` (`Gives`)
+-- error `OutOfMemory`, or mapping `result` by `view` gives `answer` (`Gives`)
 pub Gives-only : {X Y : Type 0} (view : X → Y) (Answers : Result Y Error → Type 0)
     → ((a b : Result Y Error) → Answers a → Answers b → a ≡ b)
     → (result : Result X Error) → IsAnswer view Answers result

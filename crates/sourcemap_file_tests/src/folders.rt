@@ -82,7 +82,8 @@ fn count_contents(builder: &SourceMapBuilder, count: u32) -> usize {
 /// Calls `load_local_source_contents`, and calls it once more if the first call returns
 /// `OutOfMemory`. Contents that the first call loaded stay in the builder, so the second call loads
 /// only contents that are still missing. Returns the number of loaded contents. If there is a
-/// second call, the number includes contents from the first call only for source ids below `count`.
+/// second call, the number does not include contents that the first call loaded for source ids of
+/// `count` or more.
 ///
 /// The error is `Io` of kind `InvalidInput` if neither `base` nor `current` is absolute. Any other
 /// error is `OutOfMemory`, from the second call.

@@ -88,7 +88,7 @@ remaining_consumed remaining old middle new bytes (Some xs) e first next =
     let t = next f.0 f.1 in
     rw t.1 (known_consumed (remaining_in old.state xs) (remaining_in middle.state f.0) (remaining_in new.state t.0) bytes f.2 t.2)
 
--- one step that outputs nothing, then one that outputs `bytes`: together they consume `bytes`
+-- if one step outputs nothing and the next step outputs `bytes`, the two steps together consume `bytes`
 pub outputs_consumed : {R : Type 0} (remaining : R → Option (List ℕ)) (old middle new : StripHeaderReader R) (bytes : List ℕ)
     → Outputs remaining old middle [] → Outputs remaining middle new bytes
     → Consumes (remaining_of remaining old) (remaining_of remaining new) bytes

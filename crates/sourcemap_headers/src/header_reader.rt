@@ -214,9 +214,9 @@ impl<R: Read + Drop> Read for StripHeaderReader<R> {
         ensures again { IsTrue (has_failed self.old) → IsErr result × IsTrue (has_failed self.new) }
         ensures error { IfErr result (λ e. IsTrue (has_failed self.new)
             → error_kind e ≡ InvalidData) }
-        // if a read finds that the header is invalid, the first bytes of `buf` make the header
-        // invalid for a reader in the state `Start` or in one of the states `InHeader`, whatever
-        // bytes come after them
+        // if a read finds that the header is invalid, this holds for some `count` and some state
+        // (`Start` or `InHeader`): the first `count` bytes of `buf` make the header invalid for a
+        // reader in this state, whatever bytes follow
         ensures in_buffer { has_failed self.old ≡ false → IsTrue (has_failed self.new)
             → ContainsInvalidHeader buf.new }
         ensures sound { OnOk result (has_failed self.new ≡ false) }

@@ -1,5 +1,5 @@
 -- A record of the regular map, with the scopes added, is a record of the Hermes map. If the Hermes map is well-formed,
--- the record with the scopes reads back.
+-- the record with the scopes decodes to a map that restores the Hermes map (`Restores`).
 use Rattle.std.proofs.Common.{◌≡◌, List, Result, Ok, sym, ap, subst, ◌∙◌, refl}
 use Rattle.sourcemap_errors.specs.declared.errors.Error.{Error}
 use Rattle.sourcemap_records.specs.Jsontypes.{Fields, Tree, plain, indexed, flat, AreInRange, IsFine}

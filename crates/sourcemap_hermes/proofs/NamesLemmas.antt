@@ -1,4 +1,5 @@
--- A map that restores another has the same function names.
+-- If a Hermes map restores another Hermes map (`Restores`), `function_name` returns the same result for both maps at
+-- each bytecode offset.
 use Rattle.std.proofs.Common.{◌≡◌, sym, ap, ◌∙◌, refl, ℕ, List, length, Option, Some, None, option_map, option_and_then}
 use Rattle.sourcemap_tokens.specs.Search.{closest_item}
 use Rattle.sourcemap_tokens.specs.Tokens.{closest_token, destination, position_cmp, with_valid_name}

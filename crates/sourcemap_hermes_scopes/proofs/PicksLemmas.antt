@@ -29,7 +29,7 @@ moved-distinct items [] distinct = refl
 moved-distinct items (id ∷ ids) distinct =
     ap (λ rest. item_at items id ∷ rest) (moved-distinct (slice_set items id None) ids distinct.1 ∙ left_as_it_was items id ids distinct.0)
 
--- There is one item for each id.
+-- `moved_items` returns a list as long as the list of ids.
 
 pub moved-length : {X : Type 0} (items : List (Option X)) (ids : List ℕ) → length (moved_items items ids) ≡ length ids
 moved-length items [] = refl
@@ -47,8 +47,8 @@ moved-map f xs [] = refl
 moved-map f xs (id ∷ ids) =
     ap₂ ◌∷◌ (item_at-map f xs id) (ap (λ ys. moved_items ys ids) (sym (map-set (option_map f) xs id None)) ∙ moved-map f (slice_set xs id None) ids)
 
--- Let `whole` be `done` followed by the items that the ids `id ∷ rest` move out of `items`. Then `whole` is also `done`
--- with item `id` appended, followed by the items that `rest` moves out of `items` once item `id` is `None`.
+-- Let `whole` be `done` followed by `moved_items items (id ∷ rest)`. Let `left` be `items` with item `id`, if any, set
+-- to `None`. Then `whole` is also `done` with `item_at items id` appended, followed by `moved_items left rest`.
 pub moved-more : {X : Type 0} (whole done items : List (Option X)) (id : ℕ) (rest : List ℕ) → whole ≡ done ++ moved_items items (id ∷ rest)
     → whole ≡ (done ++ item_at items id ∷ []) ++ moved_items (slice_set items id None) rest
 moved-more whole done items id rest is = is ∙ sym (append_assoc done (item_at items id ∷ []) (moved_items (slice_set items id None) rest))

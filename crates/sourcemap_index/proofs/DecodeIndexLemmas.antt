@@ -65,7 +65,9 @@ abbrev pub prepend : List MapSection → Result (List MapSection) Error → Resu
 prepend done (Ok ss) = Ok (done ++ ss)
 prepend done (Err e) = Err e
 
--- the answer for a list of sections, from its decoded head and the answer for its tail
+-- let the section `s` decode to `v`, and let decoding the sections `rest` give `a`. If `a` is a list, decoding the list
+-- of `s` and `rest` gives `a` with `v` at the front. If `a` is an error, decoding the list of `s` and `rest` gives this
+-- error
 pub one_more : (s : Section) (rest : Sections) (v : MapSection) (a : Result (List MapSection) Error) → SectionDecodes s (Ok v) → SectionsDecode rest a
     → SectionsDecode (section_with s.head s.map rest) (prepend (v ∷ []) a)
 one_more s rest v a = by_case s.map a

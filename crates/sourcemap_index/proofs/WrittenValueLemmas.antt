@@ -18,7 +18,8 @@ use Rattle.sourcemap_index.specs.DecodedMap.{levels, deepest, IsShallow, IsValue
 low_more : (n m : ℕ) (d : Data) → n ≤ m → IsLow n d → IsLow m d
 low_more n m d upto low = ((let a = low.0 in omega (arith, upto)), low.1)
 
--- An object with one more key.
+-- One more entry at the end of a list of entries: the last step of `put_all` puts this entry. If `EntriesAreLow n`
+-- holds for the list and for this entry, it also holds for the longer list.
 
 put_all-push : (es : List (List ℕ × Option Data)) (e : List ℕ × Option Data) (ms : Members) → put_all (es ++ e ∷ []) ms ≡ put_if e.0 e.1 (put_all es ms)
 put_all-push [] e ms = refl
@@ -28,7 +29,8 @@ low-push : (n : ℕ) (es : List (List ℕ × Option Data)) (e : List ℕ × Opti
 low-push n [] e all last = last
 low-push n (x ∷ es) e all last = (all.0, low-push n es e all.1 last)
 
--- What sections and indexes are written as.
+-- Bounds on the levels of the JSON values that offsets, sections and maps of each kind are written as. None of these
+-- values contains a floating-point number.
 
 index_low : (parts : IndexParts) → EntriesAreLow 1 (entries (index_fields parts))
 index_low parts = (

@@ -46,11 +46,11 @@ IsSectionInOrder s = IfSome s.map HasTokensInOrder
 abbrev pub RewriteAnswer : RewriteOptions → MapTree → Result MapValue Error → Type 0
 RewriteAnswer options t answer = Then (FlatAnswer t) (λ m a. Rewrites options m a) answer
 
--- `t` can be flattened. The generated positions and meanings of the flat map's tokens are the list `flat_list t`,
--- sorted stably by position. `m` has as many tokens as the flat map. The n-th token of `m` has the generated position
--- of the flat map's n-th token. The meaning of the n-th token of `m` is the meaning of the flat map's n-th token,
--- changed by `without_removed`: the source loses the first prefix in `cuts` that matches the source (`without_prefix`),
--- and the name is removed if names are not kept
+-- `t` can be flattened to a map `whole`. The generated positions and meanings of the tokens of `whole` are the list
+-- `flat_list t`, sorted stably by position. `m` has as many tokens as `whole`. The n-th token of `m` has the generated
+-- position of the n-th token of `whole`. The meaning of the n-th token of `m` is the meaning of the n-th token of
+-- `whole` with two changes (`without_removed`). First, the source loses the first prefix in `cuts removal whole` that
+-- matches the source (`without_prefix`). Second, the name is removed if names are not kept
 abbrev pub SaysFlatLess : Removal → MapTree → MapValue → Type 0
 SaysFlatLess removal t m = (whole : MapValue) × (flat t ≡ Ok whole) × SaysFlat t whole × TokensMeanLess removal whole m
 
@@ -59,9 +59,9 @@ SaysFlatLess removal t m = (whole : MapValue) × (flat t ≡ Ok whole) × SaysFl
 abbrev pub MeansFlatLess : Removal → MapTree → MapValue → Type 0
 MeansFlatLess removal t m = (whole : MapValue) × (flat t ≡ Ok whole) × MeansLess removal whole m
 
--- `t` can be flattened. If a position has a meaning in `t`, the position has this meaning in `m`, changed by
--- `without_removed`: the source loses the first prefix in `cuts` that matches the source (`without_prefix`), and the
--- name is removed if names are not kept
+-- `t` can be flattened to a map `whole`. If a position has a meaning in `t`, the position has this meaning in `m`, with
+-- two changes (`without_removed`). First, the source loses the first prefix in `cuts removal whole` that matches the
+-- source (`without_prefix`). Second, the name is removed if names are not kept
 abbrev pub AnswersLess : Removal → MapTree → MapValue → Type 0
 AnswersLess removal t m =
     (whole : MapValue) × (flat t ≡ Ok whole)

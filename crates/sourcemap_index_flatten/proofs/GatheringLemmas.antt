@@ -266,7 +266,9 @@ module _ (before : List Piece) (piece : Piece) where
   same_names : texts_entered (all_name_entries before ++ name_entries piece.1) ≡ names_in (before ++ piece ∷ [])
   same_names = ap texts_entered (sym all_names) ∙ texts_of_names (before ++ piece ∷ [])
 
-  -- if `e` reports too many sources or too many names, `with_piece before piece` is an error with the same text
+  -- let `before` and `piece` together have more than 4294967295 distinct sources or more than 4294967295 distinct
+  -- names. Let `e` be `CannotFlatten` with the text "too many sources or names". Then `with_piece before piece` is an
+  -- error with the same text. If `e` is `OutOfMemory`, the lemmas say nothing about `with_piece`
   pub refused-sources : (reason : List ℕ) (e : Error) → reason ≡ codes "too many sources or names"
       → RefusesBy (are_too_many (texts_entered (all_source_entries before ++ source_entries piece.1))) reason e → RefusesPiece before piece e
   refused-sources reason e is refused = UnlessMemory-weaker e (λ h. (reason, due h.0, h.1)) refused

@@ -279,9 +279,10 @@ module _ (before : List TextEntry) (e : TextEntry) where
 pub table-none : (t : Table) → t.ids ≡ [] → entry_values t.entries.items ≡ [] → IsTable [] t
 table-none t index none = record { index = index; kept = none; few = omega arith }
 
--- let `old` be the table after `before` was entered. If `old` does not contain the text of `e`, let `old` have fewer
--- than 4294967295 texts. Let `with_text` and `with_entry number` make `new` from `old`, and let `number` be the id of
--- the text of `e` in `new`. Then `new` is the table after `before` and `e` were entered
+-- let `old` be the table after `before` was entered. Let `old` contain the text of `e`, or have fewer than 4294967295
+-- texts. Let `new.ids` be `with_text old.ids e.0`, and let `with_entry number e` turn the entries of `old` into the
+-- entries of `new`. Let `number` be the id of the text of `e` in `new`. Then `new` is the table after `before` and `e`
+-- were entered, and `new` contains the text of `e` at the index `number` (`IsEntered`)
 pub entered-more : (before : List TextEntry) (e : TextEntry) (number : ℕ) (old new : Table) → IsTable before old
     → (id_of e.0 old.ids ≡ None → length old.ids < 4294967295)
     → id_of e.0 new.ids ≡ Some number

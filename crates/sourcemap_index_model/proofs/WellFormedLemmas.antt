@@ -36,7 +36,9 @@ record_well r m (bounds, (decoded_lines, reads, is), same) =
 record_in_order : (r : Fields) (m : MapValue) → RecordDecodes r (Ok m) → AreInOrder m.tokens
 record_in_order r m (bounds, (decoded_lines, reads, is), same) = subst AreInOrder (sym is) (AreInOrder-in_order (tokens_of_lines 0 [] decoded_lines))
 
--- what holds for a decoded map
+-- what is true of decoded maps. `IsReadLeaf`: the regular map or Hermes map `l` is well-formed, and its tokens are
+-- sorted by generated position. `IsRead`: each regular map and each Hermes map in `t` satisfies `IsReadLeaf`, and the
+-- sections of each index map in `t` are well-formed (`AreWellFormedSections`)
 abbrev IsReadLeaf : LeafMap → Type 0
 IsReadLeaf l = IsWellFormedLeaf l × AreInOrder (held l).tokens
 
@@ -53,7 +55,7 @@ leaf_well r (Some entries) t (inl (h, (few, f, as_read, of_entries), n)) =
     subst IsRead (sym same) (record { map = record_well r h.map f; few = subst AreFewScopes (sym as_read) few; of_entries = of_entries }, record_in_order r h.map f)
 leaf_well r (Some entries) t (inr h) = absurd h
 
--- what holds for decoded sections
+-- there are `many` sections, and the map of each section that has a map satisfies `IsRead`
 abbrev AreWell : ℕ → List MapSection → Type 0
 AreWell many ss = (length ss ≡ many) × AllByRecursion (InSection IsReadLeaf AreWellFormedSections) ss
 

@@ -16,7 +16,7 @@ const LINES: &str =
     r#"{"sections":[{"offset":{"line":2,"column":4},"map":{"sources":["a.js"],"mappings":"AAAA,IAAI;IACA"}}]}"#;
 
 // A section with a range token at its offset. On the token's line, the original column increases by
-// one with each generated column after the token, up to 4294967295.
+// one with each generated column after the token, but never exceeds 4294967295.
 const RANGED: &str =
     r#"{"sections":[{"offset":{"line":1,"column":3},"map":{"sources":["a.js"],"mappings":"AAAO","rangeMappings":"B"}}]}"#;
 
@@ -110,10 +110,10 @@ fn positions_are_looked_up_in_the_closest_section(rt: HostRuntime) {
     }
 }
 
-// An index map, a line and a column. Then the text of the token that the index map finds there, and
-// the text of the token that its flattened map finds there. The texts differ for `MIXED`: its
-// earlier section has a token after the start of its later section. Only the flattened map finds
-// this token.
+// An index map, a line and a column. Then the texts of the tokens that two lookups of this position
+// find: first a lookup in the index map, then a lookup in the flattened map. The texts differ for
+// `MIXED`. In `MIXED`, the earlier section has a token after the start of the later section. Only a
+// lookup in the flattened map finds this token.
 static FLAT_POSITIONS: [(&str, u32, u32, &str, &str); 4] = [
     (TWO, 10, 4, "b.js:0:0", "b.js:0:0"),
     (TWO, 10, 9, "b.js:0:0", "b.js:0:0"),

@@ -87,7 +87,7 @@ static FLAT: [(&str, &str); 13] = [
         NESTED,
         r#"{"file":"f","ignoreList":[0],"mappings":";;IAAAA;AAAA","names":["n"],"sources":["r/a.js"],"sourcesContent":["x"],"version":3}"#,
     ),
-    // Tokens on later lines of a nested index map keep their column.
+    // In a nested index map, tokens after the first line keep their column.
     (
         r#"{"sections":[{"offset":{"line":2,"column":3},"map":{"sections":[{"offset":{"line":1,"column":0},"map":{"sources":["a.js"],"mappings":"AAAA"}}]}}]}"#,
         r#"{"mappings":";;;AAAA","names":[],"sources":["a.js"],"version":3}"#,

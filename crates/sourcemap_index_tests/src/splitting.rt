@@ -273,7 +273,8 @@ fn is_wanted_or_out_of_memory(
     }
 }
 
-// For how many of the three items `is_wanted_or_out_of_memory` returns true.
+// Splits the bundle, and counts the items, out of three, for which `is_wanted_or_out_of_memory`
+// returns true.
 fn wanted_items(alloc: Global, bundle: &RamBundle<'_>, index: &SourceMapIndex) -> Result<usize> {
     let items = split_ram_bundle(alloc, &*bundle, index)?;
     let mut count = 0usize;

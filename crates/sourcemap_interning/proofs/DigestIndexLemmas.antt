@@ -95,7 +95,8 @@ IsIndex-other firsts others after texts text count index distinct missing counte
     here = ap (option_or (matching_id (texts ++ text ∷ []) text (firsts (digest text)))) (now text ∙ ap (λ b. cond b (Some count) (others text)) (bytes_eq-refl text))
         ∙ matching_id-is (texts ++ text ∷ []) text (firsts (digest text)) count only ∙ sym (id_of-last texts text count counted missing)
 
--- a candidate matches exactly if the strings are equal
+-- let `candidate` be the string at index `id` of `texts`. Then `matching_id texts text (Some id)` is `Some id` if
+-- `text` equals `candidate`, otherwise `None`
 pub matching_id-by : (texts : List (List ℕ)) (text candidate : List ℕ) (given : Option ℕ) (id : ℕ) (same : Bool) → given ≡ Some id → slice_get texts id ≡ Some candidate → bytes_eq text candidate ≡ same
     → cond same (Some id) None ≡ matching_id texts text given
 matching_id-by texts text candidate given id same is at e = rw (is, at, e) refl

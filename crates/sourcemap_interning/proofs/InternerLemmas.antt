@@ -51,7 +51,8 @@ id_of-append texts text new other =
     option_or-None None = refl
     option_or-None (Some x) = refl
 
--- a new string keeps strings distinct
+-- let the strings of `texts` be distinct. If `texts` does not contain `text`, the strings of `texts ++ text ∷ []` are
+-- distinct
 pub AreDistinct-append : (texts : List (List ℕ)) (text : List ℕ) → AreDistinct texts → id_of text texts ≡ None → AreDistinct (texts ++ text ∷ [])
 AreDistinct-append texts text distinct new one id at =
     elim (slice_get-append texts text id one at) [

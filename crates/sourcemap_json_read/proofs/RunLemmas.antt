@@ -1,4 +1,5 @@
--- Runs of plain bytes, found a vector at a time by the mask of the bytes that end them.
+-- Runs of plain bytes. A mask marks the bytes of a vector that end a run. A search for the end of a run can test one
+-- vector at a time with such a mask.
 use Rattle.std.proofs.Common.{◌≡◌, ℕ, zero, suc, ◌+◌, ◌*◌, ◌/◌, ◌%◌, ◌^◌, ◌<◌, ◌≤◌, Bool, true, false, not, ◌||◌, cond, eqb, ltb, List, [], ◌∷◌, ◌++◌, ◌-◌, map, replicate, length, take, drop, refl, sym, ap, ◌∙◌, arith, take-add}
 use Rattle.std.proofs.lemmas.Simd.{chunk-drop, length-chunk, leading_from_mask_l, trailing_mask_l, zip2_splat, zip2_splat_left, zip2_of_maps, map-map, mask_l-mod}
 use Rattle.std.proofs.lemmas.List.{append_assoc, drop-drop, drop-map, length-drop, length-map, take-take}

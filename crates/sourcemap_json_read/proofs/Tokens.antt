@@ -1,5 +1,6 @@
--- The tokens from a position on. If a bracket, a key, a string or a word begins at the position and is allowed there,
--- this gives the first token. The other tokens are those from a later position on.
+-- The tokens of a text from a position on. If a bracket, a key, a string or a word begins at the position and is
+-- allowed at the position, the first token is the token of this bracket, key, string or word. The other tokens are the
+-- tokens from a later position on.
 use Rattle.std.proofs.Common.{◌≡◌, ◌≢◌, ◌≤◌, ℕ, ◌+◌, true, List, ◌∷◌, drop, length, Some, sym, ap, ◌∙◌}
 use Rattle.std.proofs.lemmas.List.{drop-drop, drop_all}
 use Rattle.json.specs.Token.{Token, begin_object, end_object, begin_array, end_array, key, string}

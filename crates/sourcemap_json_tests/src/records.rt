@@ -165,8 +165,9 @@ fn debug_ids(rt: HostRuntime) {
 
 const NAMES: &str = r#"{"names":[1.5,true,7,"a"],"mappings":null,"version":3}"#;
 
-// The number of names, and the names after the first as compact JSON. The first name in `NAMES` is
-// a float, and `serde_json` chooses the digits of a float. So the first name is left out.
+// The number of names, then the compact JSON of each name except the first. The first name in
+// `NAMES` is a float, and `serde_json` chooses the digits of a float. So the first name is left
+// out.
 fn names_text(alloc: Global, names: &[Value]) -> Result<String> {
     let mut text = format!(in alloc; "{}", names.len())?;
     for name in names.iter().skip(1) {

@@ -20,7 +20,8 @@ static SPELLED: [(&str, &str); 11] = [
     (r#"\b\f\r"#, r#"\b\f\r"#),
 ];
 
-// A JSON text is invalid if one of these is inserted into one of its strings, outside of escapes.
+// If one of these texts is inserted into a string of a JSON text, outside of escapes, the JSON text
+// becomes invalid.
 static ERRORS: [&str; 6] = ["\t", r"\x", r"\u00g0", r"\ud83d\n", "\\\u{1}", r#"",,""#];
 
 // Ranges for the number of letters before an escape. The first range includes 64 and 128, the

@@ -15,9 +15,11 @@ use std::simd::Simd;
 // The length of the longest short string, in bytes.
 const SHORT: usize = 48;
 
-/// If at most `LONG` bytes of a string are left, the writer tests whether these bytes need an
-/// escape. If they need none, the writer copies them unchanged. A step that begins with more than
-/// `LONG` bytes left may write some or all of the last `LONG` bytes without this test.
+/// If at most `LONG` bytes of a string are left, the writer tests whether any of these bytes needs
+/// an escape (`is_plain`). If none needs an escape, the writer copies the bytes unchanged. If more
+/// than `LONG` bytes are left, the writer calls `put_blocks` or `copy_run`, which find the bytes
+/// that need an escape. Such a call may also write some or all of the last `LONG` bytes. So
+/// `is_plain` may test only some of the last `LONG` bytes, or none.
 pub(crate) const LONG: usize = 1024;
 
 // To append a short string, `out` is first extended by these zeros, with one test of the capacity

@@ -75,7 +75,8 @@ module _ (tokens : List RawToken) (p : ℕ × ℕ) (low high index : ℕ) (up : 
       (same_by_both (destination (get_or tokens index e)) p (span.on_line index e at_least l) (subst (λ k. is_eq (nat_cmp k.1 (get_or tokens index e).dst_col) ≡ true) (still ∙ kept) same)) in
       ap (option_map (λ found. found.0)) is
 
-  -- the token at index, if any, is not at p
+  -- let `index` be less than `high`. If the column of the token at `index` differs from the column of `p`, this token
+  -- is not at `p` (`IsApart`)
   index-apart : (e : RawToken) (r : ℕ × ℕ) → r ≡ q → index < high → is_eq (nat_cmp r.1 (get_or tokens index e).dst_col) ≡ false → IsApart destination position_cmp tokens p index
   index-apart e r still l other d inside = apart_by_col (destination (get_or tokens index d)) p (subst (λ k. is_eq (nat_cmp k.1 (get_or tokens index d).dst_col) ≡ false) (still ∙ kept) (subst (λ t. is_eq (nat_cmp r.1 t.dst_col) ≡ false) (get_or_default tokens index e d inside) other))
 
@@ -118,7 +119,8 @@ module _ (tokens : List RawToken) (p : ℕ × ℕ) (low high index : ℕ) (up : 
             closest-at-index-inside e r still l b at back (stepped ∙ ap (λ t. bool_byte (not (t && b))) (lt-ltb index high l)) a found
       ]
 
--- index - 1, if any, is inside of the list
+-- let `index` be at most `count`. Let `r` be `Some (index - 1)`, or `None` if `index` is 0. Then a number in `r` is
+-- below `count`
 pub inside_before : (index count : ℕ) (r : Option ℕ) → SomeIff r (1 ≤ index) (index - 1) → index ≤ count → IfSome r (λ k. k < count)
 inside_before index count None none l = tt
 inside_before index count (Some k) some l = let least = some.0 in let is = some.1 in omega arith

@@ -25,7 +25,9 @@ fewer_left most made next left l some n = omega arith
 saturated : (made next : ℕ) → next ≡ min (made + 1) 4294967295 → next ≤ made + 1
 saturated made next e = omega arith
 
--- after one more comparison, at most half of the indices are left
+-- let `size` be above 0, and let `Remains most made size` hold. Let one more comparison leave `half` indices, at most
+-- half of `size`. Let `next`, the new number of comparisons, be `made + 1`, but at most 4294967295. Then the total will
+-- still be at most `most` comparisons (`Remains most next half`)
 pub Remains-half : (most made size next half : ℕ) → 0 < size → next ≡ min (made + 1) 4294967295 → half ≤ size / 2 → Remains most made size → Remains most next half
 Remains-half most made size next half some counted halved r =
     elim (cases_eq r.left 0) [

@@ -13,8 +13,8 @@ use Rattle.sourcemap_tokens.proofs.AllLemmas.{All-at}
 use Rattle.sourcemap_tokens.proofs.TokensLemmas.{position_cmp_total}
 use Rattle.sourcemap_line_index.specs.LineIndex.{BeginsLine, ContinuesLine, IsLineTable, IsTableOf, IsSpan, LineTable, line_at, with_row}
 
--- if `line_at` returns a line for the index `k`, then `k` is inside the list, and the token at `k` is on this line
--- (`token_line`)
+-- if `line_at` returns a line for the index `k`, then `k` is less than the length of the list (`inside_list`), and the
+-- token at `k` is on this line (`token_line`)
 pub inside_list : (tokens : List RawToken) (k line : ℕ) → line_at tokens k ≡ Some line → k < length tokens
 inside_list tokens k line at =
     elim (cases_lt k (length tokens)) [
@@ -280,8 +280,9 @@ module _ (tokens : List RawToken) (table : LineTable) (made : IsTableOf tokens t
         | inr ge ↦ let is = past (omega arith) in absurd (omega arith)
       ]
 
-  -- if the row before `row` has an earlier line than `p`, and `row` has a later line than `p`, then no token is on the
-  -- line `p`. Each of the two rows may be missing
+  -- let the row before `row`, if there is one, have an earlier line than `p`. Let the row at index `row`, if there is
+  -- one, have a later line than `p`. Then no token is on the line `p`, and the span of this line begins and ends at
+  -- `low`
   pub span_of_none : (0 < row → slice_index table.lines (row - 1) < p) → (row < length table.lines → p < slice_index table.lines row) → IsSpan tokens p low low
   span_of_none less more = record {
     ordered = omega arith;

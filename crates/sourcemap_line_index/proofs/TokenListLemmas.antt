@@ -53,7 +53,8 @@ raw_decides a b =
 pub tokens_decide : (a b : List RawToken) → Decides (same_tokens a b) (a ≡ b)
 tokens_decide = pointwise_decides raw_decides
 
--- two indexed tokens of one list with equal indices are equal
+-- let `r` and `s` each be `None`, or a pair of an index and the token at this index of `tokens`. If `r` and `s` have
+-- the same index, or both are `None`, then `r` equals `s`
 one_at_index : (tokens : List RawToken) (r s : Option (ℕ × RawToken)) → option_map (λ found. found.0) r ≡ option_map (λ found. found.0) s → IfSome r (λ found. slice_get tokens found.0 ≡ Some found.1) → IfSome s (λ found. slice_get tokens found.0 ≡ Some found.1) → r ≡ s
 one_at_index tokens None None e own own' = refl
 one_at_index tokens None (Some s) e own own' = cc

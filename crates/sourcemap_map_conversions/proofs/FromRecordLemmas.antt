@@ -1,5 +1,5 @@
--- Let `RecordParts` have the fields of a record (`ArePartsIn`). Reading `RecordParts` gives the parts of a map, or an
--- error. Unless the error is `OutOfMemory`, this is a result for the record (`PartsAnswer`).
+-- Let a `RecordParts` value have the fields of a record (`ArePartsIn`). Reading this value returns the parts of a map
+-- or an error. Both are results for the record (`PartsAnswer`), except the error `OutOfMemory`.
 use Rattle.std.proofs.Common.{◌≡◌, List, [], ◌∷◌, ◌++◌, reverse, length, map, option_map, Result, Ok, Err, refl, sym, ap, subst, ◌∙◌, inl, inr, vec_len, string_bytes, IfOk, ◌≤◌}
 use Rattle.std.proofs.lemmas.List.{length-map, append-nil}
 use Rattle.serde_json.specs.View.{view}

@@ -57,7 +57,8 @@ pub OnOk-any : {T E : Type 0} (result : Result T E) (P : Type 0) → P → OnOk 
 OnOk-any (Ok x) P p = p
 OnOk-any (Err e) P p = tt
 
--- as `Grows-join`, for three texts, which are joined as `parts_text` joins three entries
+-- if the writer and the buffer together grow by `s`, then by `t`, and then by `u`, the three steps together append `s
+-- ++ (t ++ (u ++ []))`. `parts_text` joins the texts of three entries in this form
 pub Grows-three : (h i j k : Option (List ℕ)) (a b c d s t u : List ℕ) → Grows h a i b s → Grows i b j c t → Grows j c k d u → Grows h a k d (s ++ (t ++ (u ++ [])))
 Grows-three h i j k a b c d s t u x y z =
     subst (λ (r : List ℕ). Grows h a k d (s ++ (t ++ r))) (sym (append-nil u))

@@ -159,7 +159,9 @@ ranged-carried line n done more flags others h i j a b c d e f k l w =
     (subst (λ (known : Option (List ℕ)). GrowsBy (Ranged line done flags) h a known c) (sym k)
     (subst (λ (r : List ℕ). GrowsBy (Ranged line done flags) h a i r) (sym l) w))))
 
--- after the bits of the last line, the text has all range bits
+-- let the loop have passed all of `tokens`, and let `line` be the line that the loop has reached (`Walked`). Let the
+-- text have the range bits of all lines before `line`. If the range bits of `line` are appended, the text has the range
+-- bits of all lines (`IsBitsText`)
 pub all-ranged : (line : ℕ) (tokens : List RawToken) (previous : Option RawToken) (flags : List Bool) (h i j : Option (List ℕ)) (a b c : List ℕ)
     → Walked line tokens previous → GrowsBy (Ranged line tokens flags) h a i b → GrowsBy (IsLineOfBits flags 0) i b j c → GrowsBy (IsBitsText tokens) h a j c
 all-ranged line tokens previous flags h i j a b c walked (text, w, x) (more, is, y) =
@@ -173,7 +175,10 @@ all-ranged line tokens previous flags h i j a b c walked (text, w, x) (more, is,
       Grows-join h i j a b c text more x y,
     )
 
--- the key, a quote, a string that needs no escapes, and a quote are the text of a member
+-- let every text that satisfies `IsText` need no escapes (`IsPlainText`). Let four texts be appended in turn:
+-- `key_text` (a comma if `later` is true, the key as a JSON string, a colon), a quote, a text that satisfies `IsText`,
+-- and a quote. Together, these four texts are the text of the member with this key, whose value is the third text as a
+-- string
 pub member-grown : (later : Bool) (key : List ℕ) (IsText : List ℕ → Type 0) → ((t : List ℕ) → IsText t → IsPlainText t)
     → (h i j k l : Option (List ℕ)) (a b c d e : List ℕ)
     → Grows h a i b (key_text later key) → Grows i b j c (34 ∷ []) → GrowsBy IsText j c k d → Grows k d l e (34 ∷ [])

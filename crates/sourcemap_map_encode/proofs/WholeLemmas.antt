@@ -1,6 +1,7 @@
--- If each member of a map's record is plain, the leading members are sound (`HasSoundLeadingMembers`), and the map has
--- at most 4294967295 sources and at most 4294967295 names, the parts of the map's text together are the JSON text of
--- the record (`IsEncoded`). If the map is also well-formed, this record reads back.
+-- Let each member of a map's record be plain (`IsPlainEntry`), and let the leading members be sound
+-- (`HasSoundLeadingMembers`). Let the map have at most 4294967295 sources and at most 4294967295 names. Then the parts
+-- of the map's text together are the JSON text of the record (`IsEncoded`). If the map is also well-formed, decoding
+-- this record restores the map (`Restores`).
 use Rattle.std.proofs.Common.{◌≡◌, ◌≢◌, ℕ, ◌≤◌, ◌==◌, List, [], ◌∷◌, ◌++◌, length, Bool, true, false, if◌then◌else◌, Option, Some, None, option_map, IfSome, Ok, refl, sym, ap, subst, ◌∙◌, append_assoc, arith}
 use Rattle.std.specs.List.{AllByRecursion}
 use Rattle.serde_json.specs.Data.{null, string}

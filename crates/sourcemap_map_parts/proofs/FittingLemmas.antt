@@ -16,7 +16,8 @@ either_filled n k xs x h =
 pub fits : {X : Type 0} (count k : ℕ) (old new : List (Option X)) → count ≤ length old + k → new ≡ take count (old ++ replicate k None) → new ≡ fitted count old
 fits count k old new h e = e ∙ either_filled count k old None h
 
--- one more `None` at the end
+-- let `now` be `old` with `k` `None` items appended. If `next` is `now` with one more `None` appended, then `next` is
+-- `old` with `k + 1` `None` items appended
 pub one_more : {X : Type 0} (k : ℕ) (old now next : List (Option X)) → now ≡ old ++ replicate k None → next ≡ now ++ None ∷ []
     → next ≡ old ++ replicate (k + 1) None
 one_more k old now next e f = rw (f, e, append_assoc) (ap (λ rest. old ++ rest) (replicate-append-replicate k 1 None))

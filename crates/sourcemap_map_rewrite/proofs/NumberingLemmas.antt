@@ -233,7 +233,8 @@ module _ {X : Type 0} where
 pub text-at : (texts : List (String Global)) (i : ℕ) (s : String Global) → i < length texts → s ≡ get_or texts i s → slice_get (map string_bytes texts) i ≡ Some (string_bytes s)
 text-at texts i s within read = slice_get-map string_bytes texts i ∙ ap (option_map string_bytes) (slice_get_read texts (length texts) i s refl within read)
 
--- appending an item that occurs in the list does not change the first result
+-- let `x` be an item of `xs`. If `first_some f xs` is `None`, then `f x` is also `None`. So appending `x` to `xs` does
+-- not change the result of `first_some f`
 first_some-seen : {X Y : Type 0} (f : X → Option Y) (xs : List X) (k : ℕ) (x : X) → slice_get xs k ≡ Some x → first_some f xs ≡ option_or (first_some f xs) (f x)
 first_some-seen f [] k x e = cc
 first_some-seen f (y ∷ ys) zero x e = let same : y ≡ x = cc in rw (← same) (twice (f y) (first_some f ys))

@@ -139,7 +139,9 @@ unloaded-each : (b : Bool) (S N : List (List ℕ)) (ts : List RawToken) (s n : N
 unloaded-each true S N ts s n contents unloaded seen numbered are = contents-kept S N ts s n contents unloaded seen numbered are
 unloaded-each false S N ts s n contents unloaded seen numbered none = none ∙ nothing-each (resulting_contents S contents ts) (seen_texts S s)
 
--- the contents that the call returns
+-- `after` is the list of contents that `rewrite` returns. If `load_local_source_contents` is true, `after` holds the
+-- contents after loading (`AreKeptAndLoaded`). Otherwise, if `with_source_contents` is true, `after` holds the kept
+-- contents (`AreKept`). If both options are false, `after` is empty
 abbrev AreReturned : RewriteOptions → NewNumbers → List (Option (List ℕ)) → List (List ℕ) → ℕ → (after : List (Option (List ℕ))) → Type 0
 AreReturned options s contents texts count after =
     MatchBool options.load_local_source_contents

@@ -52,9 +52,10 @@ pub record AreNumbered (texts : List (List ℕ)) (n : NewNumbers) : Type 0 where
   pub others : (id : ℕ) (text : List ℕ) → slice_get texts id ≡ Some text → IsSeenOrNot texts n id
 
 -- a use of the old number `id` turns `old` into `new`. If `texts` has a text at index `id` that `seen_texts` of `old`
--- lacks, `seen_texts` of `new` has this text appended. Otherwise `seen_texts` is unchanged. Let `f` return `None` for
--- `id` if `id` is not an index of `texts`. Then `first_some f` for `new.order` is `first_some f` for `old.order` if
--- this is not `None`, otherwise `f id`
+-- lacks, `seen_texts` of `new` is `seen_texts` of `old` with this text appended. Otherwise `seen_texts` is unchanged.
+-- Let `f` return `None` for `id` if `id` is not an index of `texts`. If `first_some f` is not `None` for `old.order`,
+-- then `first_some f` has the same value for `new.order`. If `first_some f` is `None` for `old.order`, then `first_some
+-- f` for `new.order` is `f id`
 pub record NumbersMore (texts : List (List ℕ)) (id : ℕ) (old new : NewNumbers) : Type 0 where
   pub kept : seen_texts texts new ≡ with_text_if (seen_texts texts old) (slice_get texts id)
   pub seen : (f : ℕ → Option (List ℕ)) → (slice_get texts id ≡ None → f id ≡ None)

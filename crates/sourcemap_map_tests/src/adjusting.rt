@@ -443,10 +443,11 @@ fn moved_positions_keep_their_meaning(rt: HostRuntime) {
     }
 }
 
-// The tokens of the original map, those of the adjustment, and the adjusted map as text. In the
-// first row two tokens move to one position and keep their order. In the second row the mappings of
-// the two maps are `AAAA,KAAK` and `EAAA`. In the third row the original map has the mappings
-// `AAAO` and the range mappings `B`, and the adjustment has the mappings `EAAU`.
+// The tokens of the original map, the tokens of the adjustment, and the adjusted map as text. In
+// the first row two tokens move to one position and keep their order. In the second row the
+// original map has the mappings `AAAA,KAAK`, and the adjustment has the mappings `EAAA`. In the
+// third row the original map has the mappings `AAAO` and the range mappings `B`, and the adjustment
+// has the mappings `EAAU`.
 static WRITTEN: [(&[Row], &[Row], &str); 3] = [
     (
         &APART,

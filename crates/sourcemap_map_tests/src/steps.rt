@@ -1,4 +1,4 @@
-// The number of comparisons of lookups.
+// The number of comparisons that a lookup makes.
 use crate::checks::check;
 use crate::samples::{Made, NONE};
 use sourcemap::errors::Result;
@@ -78,7 +78,7 @@ fn describe(alloc: Global, map: Made, row: &Counted) -> Result<String> {
     steps_text(alloc, &*map?, row)
 }
 
-// The largest number of comparisons of a lookup on line 2, columns 0 to 8999.
+// The largest number of comparisons that a lookup makes at one of the columns 0 to 8999 of line 2.
 fn most_steps(map: &SourceMap) -> u32 {
     let mut most = 0;
     for col in 0..9000 {

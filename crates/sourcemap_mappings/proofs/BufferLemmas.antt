@@ -47,8 +47,10 @@ difference_near a b ha hb = elim (cases_lt a b) [
       rw is (omega arith)
 ]
 
--- `part` holds the first digits of a difference, and `left` is the rest of the raw value. Let `left` be below 32, and
--- not 0 if `part` has a digit. Then the digit of `left` is the last digit of the difference
+-- let `a` and `b` be below 2^32, and let all digits of `part` have the continuation bit. Let the raw value of the
+-- difference of `a` and `b` be the raw value of `part` plus `left` times the weight of the digit after `part`. Let
+-- `left` be below 32. If `part` has a digit, let `left` also be above 0. Then `part` followed by the digit of `left` is
+-- the shortest digit sequence of this difference
 pub Adds-last : (a b : ℕ) (old part : List ℕ) (left : ℕ) → a < 2 ^ 32 → b < 2 ^ 32 → AllByRecursion HasContinuation part → left < 32
     → raw_difference a b ≡ raw_of part + 2 ^ (5 * length part) * left → (0 < length part → 0 < left)
     → Adds (difference a b ∷ []) old (old ++ (part ++ glyph left ∷ []))

@@ -10,7 +10,7 @@ use Rattle.sourcemap_tokens.proofs.SortLemmas.{Rises, Rises-from_sorted, sorted_
 use Rattle.sourcemap_tokens.proofs.TokensLemmas.{position_cmp_total}
 use Rattle.sourcemap_mappings.proofs.WriteTokens.{all_push}
 
--- none of the tokens is after a position
+-- no token of `tokens` has a generated position after the position `index`
 abbrev pub NonePast : ℕ × ℕ → List RawToken → Type 0
 NonePast index tokens = AllByRecursion (λ t. is_lt (position_cmp index (destination t)) ≡ false) tokens
 

@@ -1,4 +1,5 @@
--- The bytes of encoded texts: digits contain no `,` and no `;`, and joined parts split again.
+-- The bytes of encoded texts: digits contain no `,` and no `;`. If one or more parts lack a separator and are joined by
+-- this separator, a split at the separator gives the same parts.
 use Rattle.std.proofs.Common.{◌≡◌, ◌≢◌, ℕ, ◌==◌, true, false, cond, is_none, List, [], ◌∷◌, ◌++◌, Option, Some, None, ℤ, refl, sym, ap, subst, ◌∙◌, ◌⊎◌, ⊎_elim, arith}
 use Rattle.std.specs.List.{join_with_byte, slice_split, AllByRecursion}
 use Rattle.std.proofs.lemmas.Bool.{cases_eq}

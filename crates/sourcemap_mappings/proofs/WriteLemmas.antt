@@ -38,7 +38,8 @@ source_added : (against t : RawToken) (s a b c d : List ℕ)
 unfolding source_numbers
 source_added against t s a b c d x y z w = Adds-join _ _ s c d (Adds-join _ _ s b c (Adds-join _ _ s a b x y) z) w
 
--- the numbers of a token, by whether it has a source and a name
+-- the numbers of the token `t`, relative to `against`. `source` says whether `t` has a source, and `name` says whether
+-- `t` has a name. If `source` is false, `name` has no effect
 unfoldable pub numbers_by : RawToken → RawToken → Bool → Bool → List ℤ
 numbers_by against t source name =
     difference t.dst_col against.dst_col

@@ -37,8 +37,10 @@ pub record Ranging (line : ℕ) (ts : List RawToken) (text : List ℕ) (flags : 
 pub Ranging-none : Ranging 0 [] [] []
 Ranging-none = record { ended = Ended-none (IsRangeLine []); flags_are = refl }
 
--- let no token of `ts` be after line `line`. In the step to a later line `n`, the range bits of line `line` are
--- appended, and then `n - line` semicolons
+-- let `line < n`, and let no token of `ts` be after line `line`. Let `text` hold the range bits of the lines above line
+-- `line`, let `flags` be the range flags of line `line` (`Ranging`), and let `bits` be the encoding of `flags`. If
+-- `bits` and then `n - line` semicolons are appended to `text`, the new text holds the range bits of the lines above
+-- line `n`, and line `n` has no flags
 pub Ranging-turn : (line n : ℕ) (ts : List RawToken) (text bits : List ℕ) (flags : List Bool) → line < n → UpTo line ts
     → IsBitText flags bits → Ranging line ts text flags → Ranging n ts ((text ++ bits) ++ replicate (n - line) semicolon) []
 Ranging-turn line n ts text bits flags h u is r = record {

@@ -114,8 +114,9 @@ IsLine-more names ts t part segment rises upto spelled line =
 
 -- The invariant of encoding.
 
--- `text` encodes the tokens so far, `done`; `previous` is the last of these tokens. A next segment on the line of
--- `against` is relative to `against`
+-- `text` is the encoding of the tokens `done`, and the last line of `text` is the line of `against`. `previous` is the
+-- last token of `done`, or `None` if `done` is empty. If the next segment is on the line of `against`, this segment is
+-- relative to `against`
 pub record Writing (names : ℕ) (done : List RawToken) (previous : Option RawToken) (against : RawToken) (text : List ℕ) : Type 0 where
   pub walked : Walked against.dst_line done previous
   pub small : AllByRecursion IsSmall (without_repeats done)
@@ -164,7 +165,10 @@ gap_is line ts (Some p) t h u s = ⊎_elim
     ∙ ap (λ us. replicate (t.dst_line - line) semicolon ++ comma_tail us) (sym (none_on line t.dst_line ts u past)))
     (cases_eq p.dst_line t.dst_line)
 
--- the gap and the segment of a token are appended
+-- let the lines of `ts` never decrease, let no token of `ts` be after line `line`, and let `IsAtLine line ts previous`
+-- hold. Let `text` be the encoding of `ts` up to and including line `line`. Let `t` be on line `line` or on a later
+-- line. If the gap before `t` and the segment of `t` are appended to `text`, the new text is the encoding of `ts` and
+-- `t` up to and including the line of `t`
 grown : (names line : ℕ) (ts : List RawToken) (previous : Option RawToken) (t : RawToken) (text digits : List ℕ)
     → line ≤ t.dst_line → Rises ts → UpTo line ts → IsAtLine line ts previous
     → Spells (numbers names (base names t.dst_line ts) t) digits → Reached (IsLine names ts) line text

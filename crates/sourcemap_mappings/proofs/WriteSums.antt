@@ -1,5 +1,5 @@
--- If there are fewer than 2^32 sources and fewer than 2^32 names, the sums of the written numbers give sound tokens
--- (`IsSound`) back, with `no_id` for name ids that name nothing.
+-- Let there be fewer than 2^32 sources and fewer than 2^32 names. If sound tokens (`IsSound`) are written as numbers,
+-- the sums of these numbers give the same tokens, except that a name id that names nothing becomes `no_id`.
 use Rattle.std.proofs.Common.{◌≡◌, ℕ, ◌+◌, ◌-◌, ◌%◌, ◌^◌, ◌<◌, ◌≤◌, ◌==◌, ◌&&◌, nat_lt, nat_le, Bool, true, false, cond, List, [], ◌∷◌, ◌++◌, length, sum_by, Option, Some, None, ℤ, pos, unsigned_abs, refl, sym, ap, ◌∙◌, ⊎_elim, add-zero, arith, slice_get}
 use Rattle.std.specs.Option.{option_map_or}
 use Rattle.std.specs.List.{AllByRecursion}

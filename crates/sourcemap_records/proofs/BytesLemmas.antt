@@ -199,12 +199,15 @@ module _ {Y : Type 0} where
       error_of_bytes bytes e h = UnlessMemory-weaker e (no_record bytes e) h
 
       module _ (once : (t : Tree) (a b : Result Y Error) → Decodes t a → Decodes t b → a ≡ b) where
-        -- the result for bytes is unique
+        -- let decoding any record have at most one result (`once`). If `BytesHaveResult` allows `r` and `due` for
+        -- `bytes`, then `r` is the same as `due` (`AreSame`), or memory ran out
         pub bytes_only : (bytes : List ℕ) (r : Result X Error) → IsAnswer view (BytesHaveResult Decodes bytes) r
             → (due : Result Y Error) → BytesHaveResult Decodes bytes due → IsAnswer view (AreSame due) r
         bytes_only bytes r h = answer_only (BytesHaveResult Decodes bytes) AreSame (bytes_once Decodes once bytes) r h
 
-        -- if a reader specifies its bytes, the result for them is unique
+        -- let decoding any record have at most one result (`once`). Let the unread bytes of a reader be known, and let
+        -- `BytesHaveResult` allow `r` and `due` for these bytes. Then `r` is the same as `due` (`AreSame`), or a read
+        -- failed, or memory ran out
         pub reader_only : (known : Option (List ℕ)) (bytes : List ℕ) (r : Result X Error)
             → IfSome known (λ xs. bytes ≡ xs) → IsAnswer view (BytesHaveResult Decodes bytes) r
             → IfSome known (λ xs. (due : Result Y Error) → BytesHaveResult Decodes xs due → IsAnswerRead view (AreSame due) r)

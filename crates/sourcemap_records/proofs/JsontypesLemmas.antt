@@ -68,7 +68,7 @@ written-tree r =
     ∙ written-with_sections fields (option_map (λ v. map section v.items) sections)
     ∙ ap (λ v. object (put_if (codes "sections") v (written_fields fields))) (sym (sections_listed (λ ss. array (items_of (map written_one ss))) sections))
 
--- ---- a record is in range where its fields and its sections are
+-- ---- a record is in range if its fields and its sections are in range
 
 in_range-from : (ss : List Section) → AllByRecursion IsSectionInRange ss → AreSectionsInRange (sections_from ss)
 in_range-from [] h = tt

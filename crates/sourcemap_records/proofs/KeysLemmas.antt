@@ -1,4 +1,6 @@
--- The debug id and the groups of a record, read one after another, are its fields.
+-- The fields of a record are read in four steps: the debug id, then three groups of keys (`FileKeys`, `ContentKeys`,
+-- `ExtraKeys`). The result equals `fields_in` of the whole object, even if each step reads an object without the keys
+-- of the earlier steps.
 use Rattle.std.proofs.Common.{◌≡◌, ℕ, List, [], ◌∷◌, Option, Some, None, codes, false, refl, sym, ap, ◌∙◌}
 use Rattle.std.specs.List.{list_any}
 use Rattle.std.specs.Str.{bytes_eq}

@@ -233,7 +233,7 @@ ascii_begin (x ∷ xs) col l a =
     let later = ascii_begin xs (col - 1) (omega arith) (λ i. a (suc i)) in
     ((omega arith, subst (λ n. BeginBefore (col - n) xs) (sym one) later.0), (let w = later.1 in omega arith))
 
--- each offset in ASCII is a character boundary
+-- if a UTF-8 line starts with `n` ASCII bytes, `n` is a character boundary of the line
 IsCharBoundary-in_ascii : (line : List ℕ) (n : ℕ) → IsUtf8 line → n ≤ length line → IsAscii (take n line) → IsCharBoundary line n
 IsCharBoundary-in_ascii line zero u l a = IsCharBoundary-start line u
 IsCharBoundary-in_ascii line (suc n) u l a =
@@ -517,7 +517,8 @@ Walked-at line col offset units u p l =
 pub offset-start : (line : List ℕ) → IsUtf8 line → IsOffset line 0 0
 offset-start line u = (IsCharBoundary-start line u, sym (ap width chars-nil))
 
--- there are at most as many units before an offset as bytes
+-- in a UTF-8 line, the number of UTF-16 units before a character boundary is at most the number of bytes before this
+-- boundary
 pub offset-few : (line : List ℕ) (offset units : ℕ) → IsUtf8 line → IsOffset line offset units → units ≤ offset
 offset-few line offset units u p =
     let few = width-bytes (chars (take offset line)) in

@@ -37,7 +37,8 @@ lines_of-more byte text e = let f = no_pair byte text e in rw (f, e) refl
 lines_of-newline : (text : List ℕ) → lines_of (10 ∷ text) ≡ ended_by (10 ∷ []) (lines_of text)
 lines_of-newline text = refl
 
--- the lines of a text that starts with a terminator
+-- if a text starts with a terminator, the first line is empty and ends with this terminator. The other lines are the
+-- lines of the text after this terminator
 lines_of-end : (text : List ℕ) → 0 < length text → is_terminator (get_or text 0 0) ≡ true
     → lines_of text ≡ ended_by (take (terminator_len text) text) (lines_of (drop (terminator_len text) text))
 lines_of-end [] l e = absurd (omega arith)

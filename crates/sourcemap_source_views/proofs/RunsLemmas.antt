@@ -66,7 +66,7 @@ drop_all : (xs : List ℕ) → drop (length xs) xs ≡ []
 drop_all [] = refl
 drop_all (x ∷ xs) = drop_all xs
 
--- a suffix starts at the difference of both lengths
+-- if `rest` is a suffix of `text`, then `rest` starts at index `length text - length rest` of `text`
 pub suffix_at : (text rest : List ℕ) (n : ℕ) → rest ≡ drop n text → length rest ≤ length text → drop (length text - length rest) text ≡ rest
 suffix_at text rest n e few =
     let left : length rest ≡ length text - n = ap length e ∙ length-drop n text in
@@ -88,7 +88,7 @@ drop_front zero front back l = refl
 drop_front (suc i) [] back l = absurd (omega arith)
 drop_front (suc i) (x ∷ front) back l = drop_front i front back (omega arith)
 
--- if both parts of a text are UTF-8, a character boundary of the first part is one of the whole text
+-- if `front` and `back` are UTF-8, a character boundary of `front` is also a character boundary of `front ++ back`
 boundary_in_front : (front back : List ℕ) (i : ℕ) → IsUtf8 front → IsUtf8 back → IsCharBoundary front i → IsCharBoundary (front ++ back) i
 boundary_in_front front back i u v b =
     let few = b.0 in
@@ -103,7 +103,8 @@ word_at line offset blank u b inside is = (
   ap chars (sym (drop-drop blank offset line) ∙ is) ∙ chars-trim_start (drop offset line) (IsUtf8-drop line offset u b),
 )
 
--- if there is only white space up to `next`, the first word from `next` on is the first word from `offset` on
+-- let `offset` be at most `next`, and let both be character boundaries of a UTF-8 line. If the line has only white
+-- space from `offset` up to `next`, the first word from `next` on is also the first word from `offset` on (`IsWord`)
 pub word_kept : (line : List ℕ) (offset next word blank : ℕ) → IsUtf8 line → offset ≤ next → IsCharBoundary line offset → IsCharBoundary line next
     → drop blank (slice_range line offset next) ≡ trim_start (slice_range line offset next) → blank ≡ length (slice_range line offset next)
     → IsWord line next word → IsWord line offset word
@@ -113,7 +114,9 @@ word_kept line offset next word blank u l b d is all w =
     let split : chars (drop offset line) ≡ chars gap ++ chars (drop next line) = ap chars (drop_split line offset next l) ∙ chars-append gap (drop next line) (IsUtf8-between line offset next u l b d) in
     (w.0, w.1 ∙ sym (ap skip_leading_whitespace split ∙ skip-all (chars gap) (chars (drop next line)) (skipped_none gap none)))
 
--- if there is more than white space up to `next`, the first word starts before `next`
+-- let `offset` be at most `next`, and let both be character boundaries of a UTF-8 line. Let `blank` be the length in
+-- bytes of the white space at the start of the slice from `offset` to `next`. If this slice has a character that is not
+-- white space, the first word from `offset` on starts at `offset + blank`, which is before `next`
 pub word_found : (line : List ℕ) (offset next blank : ℕ) → IsUtf8 line → offset ≤ next → IsCharBoundary line offset → IsCharBoundary line next
     → drop blank (slice_range line offset next) ≡ trim_start (slice_range line offset next) → blank ≢ length (slice_range line offset next) → IsCharBoundary (slice_range line offset next) blank
     → IsWord line offset (offset + blank)

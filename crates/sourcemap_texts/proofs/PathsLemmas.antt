@@ -99,7 +99,8 @@ common_parts-assoc (p ∷ ps) (q ∷ qs) (r ∷ rs) =
           ])
     ]
 
--- the common first parts with one more list at the end
+-- if `last` is appended to one or more lists of parts, the new common first parts are `common_parts` of the old common
+-- first parts and `last`
 first_parts-append : (parts : List (List ℕ)) (lists : List (List (List ℕ))) (last : List (List ℕ)) → first_parts ((parts ∷ lists) ++ last ∷ []) ≡ common_parts (first_parts (parts ∷ lists)) last
 first_parts-append parts [] last = refl
 first_parts-append parts (next ∷ lists) last =
@@ -337,8 +338,9 @@ abbrev pub shared_at : ℕ → ℕ → Bool → ℕ → ℕ
 shared_at at zero both_end kept = cond both_end at kept
 shared_at at (suc count) both_end kept = at + suc count
 
--- the invariant of a walk past equal bytes of both texts. The walk is at index `at`. `kept` is the index of the last
--- separator before `at`, or 0 if there is none. `shared_at` gives the number of shared bytes
+-- the invariant of a walk past equal bytes of `a` and `b`. The walk has reached index `at`, which is at most the length
+-- of each text. `shared_at` gives the length in bytes of the common first parts of `a` and `b` (`shared`). As `kept`,
+-- the walk uses the index of the last separator before `at`, or 0 if there is none
 pub record IsWalk (a b : List ℕ) (at kept : ℕ) : Type 0 where
   pub within_a : at ≤ length a
   pub within_b : at ≤ length b

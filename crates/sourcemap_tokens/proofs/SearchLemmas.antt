@@ -254,7 +254,7 @@ if_some_weaker : {X : Type 0} {P Q : X → Type 0} → ((x : X) → P x → Q x)
 if_some_weaker weaker None has = tt
 if_some_weaker weaker (Some x) has = weaker x has
 
--- what a search finds passes its test
+-- if `find` or `find_last` finds an item, the item passes the test
 module _ {X : Type 0} (test : X → Bool) where
   find-passes : (xs : List X) → IfSome (find test xs) (λ x. test x ≡ true)
   find-passes [] = tt
@@ -288,7 +288,8 @@ pub closest-at_most : {X K : Type 0} (key : X → K) (cmp : K → K → Ordering
 unfolding closest
 closest-at_most {X} key cmp xs p = closest_item-at_most (λ (e : ℕ × X). key e.1) cmp (enumerate_from 0 xs) p
 
--- a change that keeps each key may be made before or after the search
+-- let `change` keep the key of each item. If a search by key finds an item in a list, the same search finds the changed
+-- item in the changed list. If the search finds nothing in the list, it finds nothing in the changed list
 module _ {X Y K : Type 0} (key : X → K) (key' : Y → K) (cmp : K → K → Ordering) (change : X → Y) (kept : (x : X) → key' (change x) ≡ key x) where
   find-change : (t : K → Bool) (xs : List X) → find (λ y. t (key' y)) (map change xs) ≡ option_map change (find (λ x. t (key x)) xs)
   find-change t [] = refl

@@ -216,7 +216,9 @@ not_before (a, b) (c, d) h = grind (arith, nat_tests)
 not_at : (p q : ℕ × ℕ) → is_lt (position_cmp p q) ≡ true → is_eq (position_cmp q p) ≡ false
 not_at (a, b) (c, d) h = grind (arith, nat_tests)
 
--- the token closest to a position stays the closest up to the next token
+-- let `tokens` be in order, let `found` be the token closest to `p`, and let `q` be `p` or a later position. If no
+-- token follows `found`, or if `q` is before the token that follows `found`, then `found` is also the token closest to
+-- `q`
 pub closest-stays : (tokens : List RawToken) (p q : ℕ × ℕ) (found : ℕ × RawToken) → AreInOrder tokens → closest_token tokens p ≡ Some found
     → is_lt (position_cmp q p) ≡ false → IfSome (slice_get tokens (found.0 + 1)) (λ next. is_lt (position_cmp q (destination next)) ≡ true)
     → closest_token tokens q ≡ Some found

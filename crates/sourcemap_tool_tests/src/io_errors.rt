@@ -148,9 +148,11 @@ fn a_writer_that_takes_nothing_ends_the_run(rt: HostRuntime) -> Result<(), Fail>
     Ok(())
 }
 
-// Whether `report_error` writes exactly `want`. For each `left` less than `want.len()`, a further
-// call uses a writer that accepts `left` bytes. This call must write exactly the first `left` bytes
-// of `want` and return an error.
+// Each writer takes one byte per write. The first call of `report_error` uses a writer that does
+// not fail. This call must write exactly `want`. For each `left` less than `want.len()`, a further
+// call uses a writer that fails after `left` calls of `write` or `flush`. Each further call must
+// write exactly the first `left` bytes of `want` and return an error. Returns whether all calls
+// meet these conditions.
 fn is_reported_as(rt: &HostRuntime, error: &Error, want: &[u8]) -> Result<bool, Fail> {
     let mut output = narrow_writer(rt, None);
     report_error(error, &mut output)?;

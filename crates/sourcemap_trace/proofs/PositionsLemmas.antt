@@ -36,7 +36,7 @@ module _ (text : List ℕ) (i value digit : ℕ) (within : i < length text) (so_
       let wide : nat_le (digits_value 10 text) 4294967295 ≡ false = lt-leb (digits_value 10 text) 4294967295 above in
       rw (wide, and-false, and-false) refl
 
--- one or more digits make a number, if it is at most 4294967295
+-- if a text consists of one or more ASCII digits, and its value is at most 4294967295, `number_of` returns this value
 number_made : (text : List ℕ) (value : ℕ) → 0 < length text → list_all is_ascii_digit text ≡ true → value ≡ digits_value 10 text
     → value ≤ 4294967295 → Some value ≡ number_of text
 number_made text value some digits is limit =

@@ -26,7 +26,8 @@ made m tokens names sources source gave no_names one_source =
     ∙ ap (λ names. made_of None tokens names sources []) no_names
     ∙ ap (λ sources. made_of None tokens [] sources []) one_source
 
--- a regular map that reads back also reads back as a map of any kind
+-- let `m` equal `due`, and let `BytesHaveResult RegularDecodes` and `BytesDecode` allow the same regular maps for
+-- `text`. If decoding `text` as a regular map restores `m`, decoding `text` as a map of any kind restores `due`
 pub reads_back : (m due : MapValue) (text : List ℕ) → m ≡ due
     → ((back : MapValue) → BytesHaveResult RegularDecodes text (Ok back) ↔ BytesDecode text (Ok (leaf (regular back))))
     → ReadsBack (BytesHaveResult RegularDecodes text) (RestoresRegular m) → ReadsBack (BytesDecode text) (Restores (leaf (regular due)))

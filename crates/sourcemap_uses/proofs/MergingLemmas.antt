@@ -102,7 +102,7 @@ both_kept b first second start =
     ap (λ texts. fold with_text texts second) (ap (λ b. (fold with_source b first).interned) (sym start) ∙ all_interned (empty_builder None) first)
     ∙ fold_twice with_text [] first second
 
--- the sources of both maps are too many if those of the first are
+-- if the first map has too many different sources (`AreTooMany`), both maps together have too many different sources
 pub too_many_first : (b : BuilderValue) (first second : List (List ℕ)) (e : Error) → Gives (λ b. b) (Ok b) (Ok (empty_builder None))
     → UnlessMemory e (AreTooMany (fold with_source b first).interned e) → UnlessMemory e (AreTooMany (kept_once (first ++ second)) e)
 too_many_first b first second e made h =

@@ -64,7 +64,7 @@ published_as m bare bytes text decodes is less (back, reads, restored) = (
   },
 )
 
--- with options that load no contents, the only error is out of memory
+-- if the options load no contents, the only error of `rewrite` is out of memory
 pub bare_refused : (options : RewriteOptions) (e : Error) (P : Type 0) → options.load_local_source_contents ≡ false
     → UnlessMemory e (LacksFolder options e) → UnlessMemory e P
 bare_refused options e P no_files = unless_memory e (LacksFolder options e) P (λ lacks. absurd (lacks_none options e no_files lacks))

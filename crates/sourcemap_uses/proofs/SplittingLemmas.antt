@@ -18,7 +18,7 @@ module _ (i : IndexValue) (modules : List (Result ModuleValue Error)) (split : S
   split_over flat = record { flat = flat; offsets = is_first.offsets; modules = modules }
 
   -- let `IsFirstModule` hold for `found`, and let the bundle split into `split`. Then `split.flat` is `flat`, and the
-  -- first item is `parts_at flat first found`
+  -- first item of `dues_in split` is `parts_at flat first found`
   pub first_due : Splits i modules (Ok split)
       → (split.flat ≡ flat) × ((others : List (Result ModuleParts Error)) × (dues_in split ≡ parts_at flat first found ∷ others))
   unfolding split_over
@@ -45,7 +45,8 @@ split_refused i modules p e h = unless_memory e (Splits i modules (Err e)) (Trac
 
 module _ (i : IndexValue) (modules : List (Result ModuleValue Error)) (p : ℕ × ℕ) (split : SplitValue)
     (splits : Splits i modules (Ok split)) where
-  -- the result is determined by the first item
+  -- if the bundle splits into `split`, `TracesFirst` allows the result of `first_text` for the items of `split`
+  -- (`dues_in`). `first_text` uses only the first item
   first_traced : (items : List (Result ModuleParts Error)) → dues_in split ≡ items → TracesFirst i modules p (first_text p items)
   first_traced items is = inl (split, splits, sym (ap (first_text p) is))
 

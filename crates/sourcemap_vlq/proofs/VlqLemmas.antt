@@ -57,7 +57,8 @@ IsChain-push [] c all last = last
 IsChain-push (x ∷ []) c all last = (all.0, last)
 IsChain-push (x ∷ y ∷ xs) c all last = (all.0, IsChain-push (y ∷ xs) c all.1 last)
 
--- the decoder's overflow test for a digit `c` after `part` succeeds if and only if `part` with `c` fits one number
+-- let `part` be an unfinished number (`IsUnfinished`), and let the digit `c` follow `part`. `fits_in_number` returns
+-- true for the index and the data bits of `c` if and only if `part` followed by `c` fits one number (`FitsOneNumber`)
 pub fits_in_number-small : (part : List ℕ) (c n : ℕ) → IsUnfinished part → n ≡ length part
     → (nat_lt n 12 || ((n == 12) && nat_lt (data_of c) 8)) ≡ true → FitsOneNumber (part ++ c ∷ [])
 fits_in_number-small part c n unfinished e within =
@@ -213,7 +214,9 @@ Reads-push front group (m ∷ ms) n reads is_group =
     let e : front ++ group ≡ reads.0 ++ (reads.1 ++ group) = ap (λ xs. xs ++ group) reads.3 ∙ append_assoc reads.0 reads.1 group in
     (reads.0, reads.1 ++ group, reads.2, e, Reads-push reads.1 group ms n reads.4 is_group)
 
--- if `front` reads as `numbers` and `n` follows, `front` with the digits of `n` reads as `numbers` and then `n`
+-- let `text` be `front` followed by `rest`, and let `rest` be the digits of `n` followed by `tail`. If `front` reads as
+-- `numbers`, then `front` with the digits of `n` at its end reads as `numbers` followed by `n`, and the rest of `text`
+-- is `tail`
 pub IsSound-more : (text rest tail : List ℕ) (front : List ℕ) (numbers : List ℤ) (n : ℤ)
     → Reads front numbers → text ≡ front ++ rest → (b : BeginsWith rest n tail)
     → Reads (front ++ b.group) (numbers ++ n ∷ []) × (text ≡ (front ++ b.group) ++ tail)

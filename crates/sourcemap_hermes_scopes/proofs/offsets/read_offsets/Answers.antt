@@ -1,4 +1,4 @@
--- All lines of a text decode, or one of them is invalid.
+-- All lines of a text decode, or a line is invalid, or memory ran out.
 use Rattle.std.proofs.Common.{Any}
 use Rattle.std.proofs.lemmas.Result.{err_from_is_err_and}
 use Rattle.sourcemap_errors.proofs.AnswerLemmas.{UnlessMemory-weaker}

@@ -1,4 +1,5 @@
--- Moving the item with the next id (or `None`) from `items` to `moved` keeps the loop invariant.
+-- If `items` has an item with the next id, the loop moves this item to the end of `moved`. Otherwise, the loop appends
+-- `None` to `moved`. Both keep the loop invariant.
 use Rattle.std.proofs.Common.{◌≡◌, ◌++◌, ◌∷◌, [], ℕ, ◌+◌, List, drop, get_or, subst}
 use Rattle.std.proofs.lemmas.List.{drop_more}
 use Rattle.sourcemap_tokens.specs.Items.{item_at}

@@ -1,4 +1,5 @@
--- The entries so far have their function maps.
+-- `maps` has one item for each of the first `entry-index` entries, in the same order. The item is the function map that
+-- the entry encodes, or `None` if the entry encodes no function map.
 use Rattle.std.proofs.Common.{map, take}
 use Rattle.std.specs.List.{AllZip}
 use Rattle.sourcemap_hermes_scopes.specs.ScopeLists.{EntryStandsFor, entry_in}

@@ -1,4 +1,4 @@
--- Indexes are compared by their parts and section by section.
+-- Two index maps are compared by their parts (`IndexParts`) and section by section.
 use Rattle.std.proofs.Common.{◌∙◌, sym}
 use Rattle.sourcemap_index_model.specs.Equality.{same_tree}
 use Rattle.sourcemap_index.specs.Family.{index_value, map_tree}

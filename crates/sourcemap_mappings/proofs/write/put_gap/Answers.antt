@@ -5,7 +5,7 @@ use Rattle.sourcemap_mappings.specs.Segment.{comma, semicolon}
 use Rattle.sourcemap_mappings.specs.WriteSteps.{follows, gap}
 use Rattle.sourcemap_mappings.proofs.write.put_gap.Goals as goal
 
--- the gap is one line end
+-- if `follows previous t` is false, and the line of `t` is `line + 1`, then the gap before `t` is one `;`
 one_end : (previous : Option RawToken) (line : ℕ) (t : RawToken) → follows previous t ≡ false → t.dst_line - line ≡ 1 → gap previous line t ≡ semicolon ∷ []
 one_end previous line t off one = ap (λ b. cond b (comma ∷ []) (replicate (t.dst_line - line) semicolon)) off ∙ ap (λ (n : ℕ). replicate n semicolon) one
 

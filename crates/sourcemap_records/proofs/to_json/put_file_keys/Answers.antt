@@ -1,4 +1,4 @@
--- The four keys, put one after another.
+-- `put_file_keys` puts the four keys one after another, as `put_all` does.
 use Rattle.std.proofs.Common.{rules}
 use Rattle.sourcemap_records.proofs.to_json.put_file_keys.Goals as goal
 

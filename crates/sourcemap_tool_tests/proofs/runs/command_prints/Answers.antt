@@ -1,4 +1,4 @@
--- A command that is not `compose` takes no second map; one that is not `trace` takes no positions.
+-- A command other than `compose` takes no second map. A command other than `trace` takes no positions.
 use Rattle.std.proofs.Common.{◌≢◌, None, refl, String, Global}
 use Rattle.sourcemap_cli.specs.Command.{TakesAdjustment}
 use Rattle.sourcemap_cli.specs.declared.command.Command.{Command}

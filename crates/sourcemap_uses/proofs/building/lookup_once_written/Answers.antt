@@ -1,4 +1,5 @@
--- The decoded map has the same original position as the written map.
+-- For the given generated position, the decoded map and the written map have the same original line and column, or both
+-- have none.
 use Rattle.std.proofs.Common.{◌∙◌, [], ◌∷◌, None}
 use Rattle.std.proofs.lemmas.Result.{err_from_is_err_and}
 use Rattle.sourcemap.specs.AnyMap.{map_tree}

@@ -1,4 +1,4 @@
--- The test of equality of function maps is true exactly if they are equal.
+-- `eq` returns true for two function maps exactly if the maps are equal.
 use Rattle.sourcemap_hermes_scopes.proofs.FunctionMapLemmas.{offsets_decide}
 use Rattle.sourcemap_hermes_scopes.proofs.function_map.HermesFunctionMapPartialEq.eq.Goals as goal
 

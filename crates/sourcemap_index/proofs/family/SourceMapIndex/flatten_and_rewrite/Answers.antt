@@ -1,4 +1,5 @@
--- The result means what the flat map means, less what rewriting removes.
+-- At every position, the result has the same meaning as the flat map, except that the rewrite options can remove the
+-- name and a prefix of the source.
 use Rattle.sourcemap_map_regular.specs.Rewrite.{removal_of}
 use Rattle.sourcemap_index_model.specs.MapTree.{MapTree, index_tree}
 use Rattle.sourcemap_index.specs.Family.{index_value}

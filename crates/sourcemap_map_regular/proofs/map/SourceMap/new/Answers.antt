@@ -1,4 +1,5 @@
--- Sorting keeps ids within their bounds.
+-- If the given tokens satisfy `AllWithin`, the sorted tokens also satisfy `AllWithin`, so a returned map is
+-- well-formed.
 use Rattle.std.proofs.Common.{rules, Ok, unwrap_or, option_map, []}
 use Rattle.std.specs.Option.{option_copied}
 use Rattle.sourcemap_texts.specs.Texts.{texts_of, contents_in}
