@@ -36,7 +36,6 @@ pub fn debug_size(alloc: Global, map: &DecodedMap) -> Result<usize> {
     Ok(format!(in alloc; "{map:?}")?.len())
 }
 
-/// Whether a copy of `map` equals `map`.
 pub fn equals_copy(map: &DecodedMap) -> Result<bool> {
     Ok(map.clone()? == *map)
 }

@@ -131,7 +131,7 @@ fn answers_at<F: Files>(rt: &F, alloc: Global, path: &str) -> Result<String> {
     Ok(format!(in alloc; "{is_bundle} {answer}")?)
 }
 
-fn made_and_asked<F: Files>(rt: &F, alloc: Global, names: &[&str]) -> Result<String> {
+fn folder_text<F: Files>(rt: &F, alloc: Global, names: &[&str]) -> Result<String> {
     make(rt, alloc, names)?;
     let answer = answers_at(rt, alloc, "bundle_made/main.js")?;
     fs::remove_dir_all(&(rt, alloc), "bundle_made")?;
@@ -140,7 +140,7 @@ fn made_and_asked<F: Files>(rt: &F, alloc: Global, names: &[&str]) -> Result<Str
 
 // Calls `answers_at` three times and returns the results. First `js-modules` is missing, then
 // `js-modules` is a file, and last the path of a folder is passed.
-fn asked_without_folder<F: Files>(rt: &F, alloc: Global) -> Result<String> {
+fn folderless_texts<F: Files>(rt: &F, alloc: Global) -> Result<String> {
     let _ = fs::remove_dir_all(&(rt, alloc), "bundle_alone");
     fs::create_dir(rt, "bundle_alone")?;
     fs::write(rt, "bundle_alone/main.js", "main")?;
@@ -161,7 +161,7 @@ fn indexed_file<F: Files>(rt: &F, alloc: Global, path: &str) -> Result<String> {
 
 // Writes an indexed bundle without modules to a file and parses the file. Returns the `parsed_text`
 // of the result.
-fn written_and_asked<F: Files>(rt: &F, alloc: Global) -> Result<String> {
+fn file_text<F: Files>(rt: &F, alloc: Global) -> Result<String> {
     let bytes = [0xe5u8, 0xd1, 0x0b, 0xfb, 0, 0, 0, 0, 0, 0, 0, 0];
     fs::write(rt, "bundle_file", bytes.as_slice())?;
     let parsed = RamBundle::parse_indexed_from_path(rt, alloc, "bundle_file");
@@ -174,7 +174,7 @@ fn written_and_asked<F: Files>(rt: &F, alloc: Global) -> Result<String> {
 fn folders(rt: HostRuntime) {
     let alloc = rt.alloc();
     for (row, names, want) in &FOLDERS {
-        check(&rt, row, made_and_asked(&rt, alloc, names), want);
+        check(&rt, row, folder_text(&rt, alloc, names), want);
     }
 }
 
@@ -197,8 +197,8 @@ fn paths(rt: HostRuntime) {
     check(
         &rt,
         "no folder of modules",
-        asked_without_folder(&rt, alloc),
+        folderless_texts(&rt, alloc),
         "false not a ram bundle, false not a ram bundle, false not a ram bundle",
     );
-    check(&rt, "a file", written_and_asked(&rt, alloc), "Indexed 0 []");
+    check(&rt, "a file", file_text(&rt, alloc), "Indexed 0 []");
 }

@@ -21,7 +21,7 @@ use std::alloc::Global;
 
 // The parts of an index map besides its sections and its debug id.
 #[derive(Drop)]
-struct Parts {
+struct IndexParts {
     file: Option<String>,
     offsets: Option<Vec<Option<u32>>>,
     paths: Option<Vec<String>>,
@@ -307,7 +307,7 @@ fn parts_of(
     offsets: &[u32],
     has_paths: bool,
     paths: &[&[u8]],
-) -> Outcome<Parts>
+) -> Outcome<IndexParts>
     ensures { let texts = list_map (λ path. path.now) paths.now in
         MatchResult result
         (λ parts. (option_map string_bytes parts.file ≡ text_if has_file file.now)
@@ -319,7 +319,7 @@ fn parts_of(
     let paths = paths_if(alloc, has_paths, paths)?;
     let file = string_if(alloc, has_file, file)?;
     let offsets = offsets_if(alloc, has_offsets, offsets)?;
-    Ok(Parts {
+    Ok(IndexParts {
         file,
         offsets,
         paths,
@@ -385,7 +385,12 @@ fn copies(alloc: Global, texts: &[&str]) -> Result<Vec<String>>
     Ok(copies)
 }
 
-fn finish_with(alloc: Global, handle: &mut Handle, map: &mut Handle, parts: Parts) -> Outcome<()>
+fn finish_with(
+    alloc: Global,
+    handle: &mut Handle,
+    map: &mut Handle,
+    parts: IndexParts,
+) -> Outcome<()>
     ensures made { let due = index_of (option_map string_bytes parts.file) (option_map (λ v. v.items) parts.offsets)
         (option_map (λ v. list_map string_bytes v.items) parts.paths) in
         Does result
@@ -405,7 +410,7 @@ fn finish_with(alloc: Global, handle: &mut Handle, map: &mut Handle, parts: Part
 fn put_index(
     alloc: Global,
     map: &mut Handle,
-    parts: Parts,
+    parts: IndexParts,
     sections: Vec<SourceMapSection>,
 ) -> Outcome<()>
     ensures { let due = index_of (option_map string_bytes parts.file) (option_map (λ v. v.items) parts.offsets)
@@ -415,7 +420,7 @@ fn put_index(
         (OfLibrary NoError)
         (held_in map.new ≡ held_in map.old) }
 {
-    let Parts {
+    let IndexParts {
         file,
         offsets,
         paths,

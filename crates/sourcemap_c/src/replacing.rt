@@ -104,13 +104,13 @@ fn compose(alloc: Global, map: &mut Handle, adjustment: &mut Handle) -> Outcome<
         (held_in map.new ≡ held_in map.old) }
     ensures kept { held_in adjustment.new ≡ held_in adjustment.old }
 {
-    match composed_in(map, adjustment) {
+    match compose_handles(map, adjustment) {
         Ok(composed) => put_map(alloc, map, composed),
         Err(failure) => Err(failure),
     }
 }
 
-fn composed_in(map: &mut Handle, adjustment: &mut Handle) -> Outcome<DecodedMap>
+fn compose_handles(map: &mut Handle, adjustment: &mut Handle) -> Outcome<DecodedMap>
     ensures composed { MatchResult result
         (λ new. IsSomeAnd (tree_in (held_in map.old))
         (λ t. IsAdjustedBy (tree_in (held_in adjustment.old)) t (Ok (map_tree new))))
@@ -121,12 +121,12 @@ fn composed_in(map: &mut Handle, adjustment: &mut Handle) -> Outcome<DecodedMap>
     ensures adjustment_kept { held_in adjustment.new ≡ held_in adjustment.old }
 {
     match map_in(map) {
-        Some(map) => composed_by(map, adjustment),
+        Some(map) => compose_with_handle(map, adjustment),
         None => Err(Failure::WrongKind),
     }
 }
 
-fn composed_by(map: &DecodedMap, adjustment: &mut Handle) -> Outcome<DecodedMap>
+fn compose_with_handle(map: &DecodedMap, adjustment: &mut Handle) -> Outcome<DecodedMap>
     ensures composed { MatchResult result
         (λ new. IsAdjustedBy (tree_in (held_in adjustment.old)) (map_tree map.now)
         (Ok (map_tree new)))
@@ -135,12 +135,12 @@ fn composed_by(map: &DecodedMap, adjustment: &mut Handle) -> Outcome<DecodedMap>
     ensures adjustment_kept { held_in adjustment.new ≡ held_in adjustment.old }
 {
     match map_in(adjustment) {
-        Some(DecodedMap::Regular(adjustment)) => composed_with(map, adjustment),
+        Some(DecodedMap::Regular(adjustment)) => compose_regular(map, adjustment),
         _ => Err(Failure::WrongKind),
     }
 }
 
-fn composed_with(map: &DecodedMap, adjustment: &SourceMap) -> Outcome<DecodedMap>
+fn compose_regular(map: &DecodedMap, adjustment: &SourceMap) -> Outcome<DecodedMap>
     ensures { MatchResult result
         (λ new. IsAdjustedBy (Some (leaf (regular adjustment.now))) (map_tree map.now)
         (Ok (map_tree new)))
@@ -260,13 +260,13 @@ fn rewrite_by(
         strip_prefixes: prefixes,
         current_dir: None,
     };
-    match rewritten_in(map, &options) {
+    match rewrite_handle(map, &options) {
         Ok(rewritten) => put_map(alloc, map, rewritten),
         Err(failure) => Err(failure),
     }
 }
 
-fn rewritten_in(map: &mut Handle, options: &RewriteOptions<'_>) -> Outcome<DecodedMap>
+fn rewrite_handle(map: &mut Handle, options: &RewriteOptions<'_>) -> Outcome<DecodedMap>
     requires { options.now.load_local_source_contents ≡ false }
     ensures rewritten { MatchResult result
         (λ new. IsSomeAnd (tree_in (held_in map.old))

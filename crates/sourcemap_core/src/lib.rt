@@ -1,8 +1,4 @@
-//! A facade: only re-exports modules and items of other crates. Users import the items by the
-//! module names below. The items cover errors, tokens, interned strings, base64 digits, the text of
-//! mappings, composition of tokens, the line index, lines and identifiers of source texts, search
-//! in sorted lists, paths and URLs of files, and the bytes of indexed bundles. The crates that
-//! define these items do not depend on `sourcemap_records` or on a crate that defines a map type.
+//! Facade of what needs no JSON and no map type: re-exports the modules below from other crates.
 #![tactic(auto)]
 
 pub mod compose;

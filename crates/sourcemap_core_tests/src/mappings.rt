@@ -222,7 +222,6 @@ static WRITTEN: [(&str, &[Row], &str, Option<&str>); 8] = [
     ),
 ];
 
-/// The token of a row.
 pub fn token(row: Row) -> RawToken {
     let ((dst_line, dst_col), (src_id, src_line, src_col), name_id, is_range) = row;
     RawToken {

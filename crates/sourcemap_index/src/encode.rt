@@ -98,7 +98,7 @@ pub(crate) fn record_of_index(index: &SourceMapIndex) -> Result<RawSourceMap>
     ensures { IsAnswer tree (MapWrites (index_tree (index_value index.now))) result }
 {
     let sections = records_of(index.alloc, index.sections.as_slice())?;
-    copied_with(index, sections)
+    copy_with_sections(index, sections)
 }
 
 #[cycle(encode)]
@@ -197,7 +197,7 @@ fn section_into_record(part: SourceMapSection) -> Result<RawSection>
     })
 }
 
-fn copied_with(index: &SourceMapIndex, sections: Vec<RawSection>) -> Result<RawSourceMap>
+fn copy_with_sections(index: &SourceMapIndex, sections: Vec<RawSection>) -> Result<RawSourceMap>
     ensures value { Gives tree result (Ok (indexed (index_fields (index_value index.now).parts)
         (sections_from (map section sections.items)))) }
     ensures in_range { OnOk result (AreInRange (index_fields (index_value index.now).parts)) }

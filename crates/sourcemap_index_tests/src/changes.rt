@@ -99,7 +99,6 @@ fn apply(alloc: Global, index: &mut SourceMapIndex, change: Change) -> Result<()
     }
 }
 
-// Whether the map of a section has a debug id.
 fn has_debug_id(section: Option<&SourceMapSection>) -> bool {
     match section.and_then(|section| section.get_sourcemap()) {
         None => false,

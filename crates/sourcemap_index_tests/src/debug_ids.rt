@@ -143,11 +143,11 @@ fn made_text(alloc: Global, map: &mut DecodedMap) -> Result<String> {
     Ok(format!(in alloc; "{had_none} {is_read} {has_it}")?)
 }
 
-fn made_with_id(alloc: Global) -> Result<String> {
+fn empty_index_text(alloc: Global) -> Result<String> {
     made_text(alloc, &mut *empty_index(alloc)?)
 }
 
 #[test]
 fn indexes_that_are_made_get_debug_ids(rt: HostRuntime) {
-    check(&rt, "made", made_with_id(rt.alloc()), "true true true");
+    check(&rt, "made", empty_index_text(rt.alloc()), "true true true");
 }

@@ -85,7 +85,7 @@ fn read_back(alloc: Global, value: &Value) -> Result<Value> {
 
 // Decodes a text, and writes the map as a JSON value. Then reads the JSON value back, and returns
 // the JSON text of the map that was read back.
-fn written_again(alloc: Global, text: &str) -> Result<String> {
+fn read_back_text(alloc: Global, text: &str) -> Result<String> {
     let value = value_of(alloc, text)?;
     value_text(alloc, read_back(alloc, &value))
 }
@@ -93,7 +93,7 @@ fn written_again(alloc: Global, text: &str) -> Result<String> {
 #[test]
 fn scopes_are_written_as_they_were_read(rt: HostRuntime) {
     for text in [SECOND_SOURCE, SHORT, BROKEN].iter() {
-        check(&rt, text, written_again(rt.alloc(), text), text);
+        check(&rt, text, read_back_text(rt.alloc(), text), text);
     }
 }
 

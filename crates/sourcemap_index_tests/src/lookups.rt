@@ -86,12 +86,12 @@ pub fn token_text(alloc: Global, token: Option<Token<'_>>) -> Result<String> {
     }
 }
 
-fn looked_up(alloc: Global, text: &str, line: u32, col: u32) -> Result<String> {
+fn lookup_text(alloc: Global, text: &str, line: u32, col: u32) -> Result<String> {
     let map = map_of(alloc, text)?;
     token_text(alloc, map.lookup_token(line, col))
 }
 
-fn looked_up_by_index(alloc: Global, text: &str, line: u32, col: u32) -> Result<String> {
+fn index_lookup_text(alloc: Global, text: &str, line: u32, col: u32) -> Result<String> {
     let index = index_of(alloc, text)?;
     token_text(alloc, index.lookup_token(line, col))
 }
@@ -100,13 +100,8 @@ fn looked_up_by_index(alloc: Global, text: &str, line: u32, col: u32) -> Result<
 fn positions_are_looked_up_in_the_closest_section(rt: HostRuntime) {
     let alloc = rt.alloc();
     for (text, line, col, want) in POSITIONS.iter() {
-        check(&rt, text, looked_up(alloc, text, *line, *col), want);
-        check(
-            &rt,
-            text,
-            looked_up_by_index(alloc, text, *line, *col),
-            want,
-        );
+        check(&rt, text, lookup_text(alloc, text, *line, *col), want);
+        check(&rt, text, index_lookup_text(alloc, text, *line, *col), want);
     }
 }
 
@@ -133,7 +128,7 @@ pub fn flat_token_text(
     token_text(alloc, map.lookup_token(line, col))
 }
 
-fn looked_up_flat(alloc: Global, text: &str, line: u32, col: u32) -> Result<String> {
+fn flat_lookup_text(alloc: Global, text: &str, line: u32, col: u32) -> Result<String> {
     flat_token_text(alloc, &*index_of(alloc, text)?, line, col)
 }
 
@@ -144,9 +139,14 @@ fn positions_are_looked_up_in_an_index_and_in_its_flat_map(rt: HostRuntime) {
         check(
             &rt,
             text,
-            looked_up_by_index(alloc, text, *line, *col),
+            index_lookup_text(alloc, text, *line, *col),
             by_index,
         );
-        check(&rt, text, looked_up_flat(alloc, text, *line, *col), by_flat);
+        check(
+            &rt,
+            text,
+            flat_lookup_text(alloc, text, *line, *col),
+            by_flat,
+        );
     }
 }

@@ -40,7 +40,7 @@ fn nested_text(alloc: Global, depth: usize) -> Result<String> {
     Ok(format!(in alloc; "{head}{INNERMOST}{tail}")?)
 }
 
-fn looked_up(alloc: Global, map: Result<Box<DecodedMap>>) -> Result<String> {
+fn first_token_text(alloc: Global, map: Result<Box<DecodedMap>>) -> Result<String> {
     match map {
         Ok(map) => token_text(alloc, map.lookup_token(0, 0)),
         error => error_of(alloc, error),
@@ -49,7 +49,7 @@ fn looked_up(alloc: Global, map: Result<Box<DecodedMap>>) -> Result<String> {
 
 fn read(alloc: Global, depth: usize) -> Result<String> {
     let text = nested_text(alloc, depth)?;
-    looked_up(alloc, map_of(alloc, text.as_str()))
+    first_token_text(alloc, map_of(alloc, text.as_str()))
 }
 
 // The number of nested index maps, and the result of decoding their JSON text. The result is the
@@ -69,7 +69,7 @@ fn nested_index_maps_are_looked_up(rt: HostRuntime) {
         check(
             &rt,
             "in memory",
-            looked_up(alloc, nested_index(alloc, *depth)),
+            first_token_text(alloc, nested_index(alloc, *depth)),
             "a.js:0:0",
         );
         check(&rt, want, read(alloc, *depth), want);
@@ -77,7 +77,7 @@ fn nested_index_maps_are_looked_up(rt: HostRuntime) {
 }
 
 // The text of the token at 0:0 in the flattened map, or `no index`.
-fn flat_looked_up(alloc: Global, map: &DecodedMap) -> Result<String> {
+fn flat_first_token_text(alloc: Global, map: &DecodedMap) -> Result<String> {
     match map {
         DecodedMap::Index(index) => flat_token_text(alloc, index, 0, 0),
         _ => Ok(String::from_str(alloc, "no index")?),
@@ -86,7 +86,7 @@ fn flat_looked_up(alloc: Global, map: &DecodedMap) -> Result<String> {
 
 fn flatten_nested(alloc: Global, depth: usize) -> Result<String> {
     let map = nested_index(alloc, depth)?;
-    again(|| flat_looked_up(alloc, &*map))
+    again(|| flat_first_token_text(alloc, &*map))
 }
 
 // The text of the token at 0:0 of `made`, and whether `made` equals `map`.

@@ -267,7 +267,7 @@ const FILED: &str =
 const FILED_LOWER: &str =
     r#"{"file":"test.js","debugId":"0123456789abcdef0123456789abcdef","sections":[{"offset":{"line":4294967294,"column":7},"url":"u"},{"offset":{"line":4294967295,"column":3},"map":{"sections":[{"offset":{"line":0,"column":1},"map":{"sources":["a.js"],"mappings":"AAAA"}}]}}]}"#;
 
-fn moved_beside(
+fn move_and_compare(
     alloc: Global,
     index: &mut SourceMapIndex,
     rows: u32,
@@ -277,9 +277,9 @@ fn moved_beside(
     Ok(format!(in alloc; "{fits} {}", *index == *after)?)
 }
 
-fn moved_to(alloc: Global, text: &str, rows: u32, after: &str) -> Result<String> {
+fn decode_and_move(alloc: Global, text: &str, rows: u32, after: &str) -> Result<String> {
     let after = index_of(alloc, after)?;
-    moved_beside(alloc, &mut *index_of(alloc, text)?, rows, &*after)
+    move_and_compare(alloc, &mut *index_of(alloc, text)?, rows, &*after)
 }
 
 // Each row: an index map, the number of lines to move its sections down, the expected index map
@@ -296,7 +296,7 @@ static MOVED_WHOLE: [(&str, u32, &str, &str); 4] = [
 fn only_rows_change_when_sections_move(rt: HostRuntime) {
     let alloc = rt.alloc();
     for (text, rows, after, want) in MOVED_WHOLE.iter() {
-        check(&rt, text, moved_to(alloc, text, *rows, after), want);
+        check(&rt, text, decode_and_move(alloc, text, *rows, after), want);
     }
 }
 
@@ -305,11 +305,11 @@ fn write_text(alloc: Global, text: &str) -> Result<String> {
     again(|| value_text(alloc, map.to_value()))
 }
 
-fn written_away(alloc: Global, text: &str) -> Result<String> {
+fn into_value_text(alloc: Global, text: &str) -> Result<String> {
     value_text(alloc, Box::into_inner(map_of(alloc, text)?).into_value())
 }
 
-fn index_written_away(alloc: Global, text: &str) -> Result<String> {
+fn into_record_text(alloc: Global, text: &str) -> Result<String> {
     let index = Box::into_inner(index_of(alloc, text)?);
     record_text(alloc, index.into_raw_sourcemap())
 }
@@ -329,13 +329,13 @@ fn text_of(bytes: Vec<u8>) -> Result<String> {
     }
 }
 
-fn written_to(alloc: Global, text: &str) -> Result<String> {
+fn to_writer_text(alloc: Global, text: &str) -> Result<String> {
     let mut bytes = Vec::new(alloc);
     put(alloc, text, &mut bytes)?;
     text_of(bytes)
 }
 
-fn index_written_to(alloc: Global, text: &str) -> Result<String> {
+fn index_to_writer_text(alloc: Global, text: &str) -> Result<String> {
     let mut bytes = Vec::new(alloc);
     put_index(alloc, text, &mut bytes)?;
     text_of(bytes)
@@ -391,10 +391,10 @@ fn indexes_are_written(rt: HostRuntime) {
     let alloc = rt.alloc();
     for (text, want) in WRITTEN.iter() {
         check(&rt, text, write_text(alloc, text), want);
-        check(&rt, text, written_away(alloc, text), want);
-        check(&rt, text, index_written_away(alloc, text), want);
-        check(&rt, text, written_to(alloc, text), want);
-        check(&rt, text, index_written_to(alloc, text), want);
+        check(&rt, text, into_value_text(alloc, text), want);
+        check(&rt, text, into_record_text(alloc, text), want);
+        check(&rt, text, to_writer_text(alloc, text), want);
+        check(&rt, text, index_to_writer_text(alloc, text), want);
     }
 }
 

@@ -16,14 +16,13 @@ const CUT: &[u8] = b"\xe5\xd1\x0b\xfb\x01\0\0\0\x02\0\0\0\x02\0\0\0\x04\0\0\0abx
 
 const LINES: &[u8] = b"\xe5\xd1\x0b\xfb\x01\0\0\0\x02\0\0\0\x02\0\0\0\x05\0\0\0abxy\nz\0";
 
-// Three modules.
-const THREE: &[u8] =
+const THREE_MODULES: &[u8] =
     b"\xe5\xd1\x0b\xfb\x03\0\0\0\0\0\0\0\0\0\0\0\x04\0\0\0\x04\0\0\0\x03\0\0\0\x07\0\0\0\x02\0\0\0xyz\0uv\0w\0";
 
 const AT_FIVE: &str =
     r#"{"sections":[{"offset":{"line":0,"column":0},"map":{"sources":["a.js"],"mappings":";;;;;AAAA,EAAE;AAAA"}}],"x_facebook_offsets":[5]}"#;
 
-// The index map of `THREE`. The three modules are on the generated lines 5, 6 and 7.
+// The index map of `THREE_MODULES`. The three modules are on the generated lines 5, 6 and 7.
 const LINE_BY_LINE: &str =
     r#"{"sections":[{"offset":{"line":0,"column":0},"map":{"sources":["a.js"],"sourcesContent":["A"],"names":["n"],"mappings":";;;;;AAAAA,EAAE;AAAA;AACAA"}}],"x_facebook_offsets":[5,6,7]}"#;
 
@@ -288,7 +287,7 @@ fn wanted_items(alloc: Global, bundle: &RamBundle<'_>, index: &SourceMapIndex) -
 
 fn split_where_memory_fails(alloc: Global) -> Result<String> {
     let index = index_of(alloc, LINE_BY_LINE)?;
-    let bundle = RamBundle::parse_indexed_from_slice(THREE)?;
+    let bundle = RamBundle::parse_indexed_from_slice(THREE_MODULES)?;
     // if memory runs out before the first item, the bundle is split again
     let count = match wanted_items(alloc, &bundle, &*index) {
         Err(Error::OutOfMemory) => wanted_items(alloc, &bundle, &*index)?,

@@ -1,6 +1,4 @@
-//! Facade that re-exports items of four crates. `sourcemap_records` has source map records.
-//! `sourcemap_headers` has junk headers and data URLs. `sourcemap_detection` detects source maps.
-//! `sourcemap_references` finds references to source maps.
+//! Facade of JSON: re-exports records, junk headers, data URLs, detection and references.
 #![tactic(auto)]
 
 pub mod decoder;

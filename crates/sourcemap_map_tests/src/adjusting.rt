@@ -1,6 +1,6 @@
 // Adjusting of mappings.
 use crate::checks::check;
-use crate::lookups::{looked_up, token_text};
+use crate::lookups::{lookup_text, token_text};
 use crate::samples::{Made, NONE, Row, make_map, map_text};
 use sourcemap::errors::{Error, Result};
 use sourcemap::types::{RawToken, SourceMap, Token};
@@ -139,7 +139,7 @@ fn adjusted_maps_are_looked_up(rt: HostRuntime) {
     let alloc = rt.alloc();
     for (originals, adjustments, (line, col), want) in ADJUSTED.iter() {
         let map = adjust_rows(alloc, originals, adjustments);
-        check(&rt, want, looked_up(alloc, map, *line, *col), want);
+        check(&rt, want, lookup_text(alloc, map, *line, *col), want);
     }
 }
 

@@ -104,7 +104,7 @@ static ANY_KIND: [(&str, &str, &str); 5] = [
     ),
 ];
 
-fn looked_up(alloc: Global, answer: Result<DecodedMap>) -> Result<String> {
+fn lookup_text(alloc: Global, answer: Result<DecodedMap>) -> Result<String> {
     match answer {
         Ok(map) => token_text(alloc, map.lookup_token(0, 0)),
         error => error_of(alloc, error),
@@ -115,9 +115,9 @@ fn looked_up(alloc: Global, answer: Result<DecodedMap>) -> Result<String> {
 fn maps_of_any_kind_are_read(rt: HostRuntime) {
     for (about, text, want) in ANY_KIND.iter() {
         let bytes = text.as_bytes();
-        let sliced = again(|| looked_up(rt.alloc(), decode_slice(rt.alloc(), bytes)));
+        let sliced = again(|| lookup_text(rt.alloc(), decode_slice(rt.alloc(), bytes)));
         check(&rt, about, sliced, want);
-        let read = again(|| looked_up(rt.alloc(), decode(rt.alloc(), bytes)));
+        let read = again(|| lookup_text(rt.alloc(), decode(rt.alloc(), bytes)));
         check(&rt, about, read, want);
     }
 }
@@ -128,7 +128,7 @@ fn maps_of_any_kind_are_read(rt: HostRuntime) {
 fn beginning_read(alloc: Global, text: &str, end: usize) -> Result<String> {
     match text.as_bytes().get(..end) {
         None => Ok(String::from_str(alloc, "none")?),
-        Some(bytes) => looked_up(alloc, decode_slice(alloc, bytes)),
+        Some(bytes) => lookup_text(alloc, decode_slice(alloc, bytes)),
     }
 }
 

@@ -38,7 +38,7 @@ pub fn token_text(alloc: Global, token: Option<Token<'_>>) -> Result<String> {
 }
 
 /// What the token closest to a position prints, or `none`.
-pub fn looked_up(alloc: Global, map: Made, line: u32, col: u32) -> Result<String> {
+pub fn lookup_text(alloc: Global, map: Made, line: u32, col: u32) -> Result<String> {
     let map = map?;
     token_text(alloc, map.lookup_token(line, col))
 }
@@ -55,11 +55,11 @@ fn tokens_out_of_order_are_looked_up(rt: HostRuntime) {
         check(
             &rt,
             want,
-            looked_up(alloc, readme(alloc), *line, *col),
+            lookup_text(alloc, readme(alloc), *line, *col),
             want,
         );
         let back = read_back(alloc, readme(alloc));
-        check(&rt, want, looked_up(alloc, back, *line, *col), want);
+        check(&rt, want, lookup_text(alloc, back, *line, *col), want);
     }
 }
 
@@ -70,11 +70,11 @@ fn ranges_reach_along_their_line(rt: HostRuntime) {
         check(
             &rt,
             want,
-            looked_up(alloc, range_map(alloc), *line, *col),
+            lookup_text(alloc, range_map(alloc), *line, *col),
             want,
         );
         let back = read_back(alloc, range_map(alloc));
-        check(&rt, want, looked_up(alloc, back, *line, *col), want);
+        check(&rt, want, lookup_text(alloc, back, *line, *col), want);
     }
 }
 

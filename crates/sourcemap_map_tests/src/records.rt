@@ -37,14 +37,14 @@ fn verdict(is_equal: bool, is_different: bool) -> char {
     }
 }
 
-fn compared_with(alloc: Global, one: &RawSourceMap, text: &str) -> Result<char> {
+fn compare_with(alloc: Global, one: &RawSourceMap, text: &str) -> Result<char> {
     let other = record(alloc, text)?;
     Ok(verdict(*one == other, *one != other))
 }
 
 fn compare_records(alloc: Global, one: &str, other: &str) -> Result<char> {
     let one = record(alloc, one)?;
-    compared_with(alloc, &one, other)
+    compare_with(alloc, &one, other)
 }
 
 #[test]

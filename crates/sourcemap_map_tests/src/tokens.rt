@@ -56,7 +56,7 @@ fn seek_text(alloc: Global, map: &SourceMap, line: u32, col: u32) -> Result<Stri
     next_text(alloc, found, left)
 }
 
-fn sought_in(alloc: Global, map: Made, line: u32, col: u32) -> Result<String> {
+fn seek_in_map(alloc: Global, map: Made, line: u32, col: u32) -> Result<String> {
     seek_text(alloc, &*map?, line, col)
 }
 
@@ -66,7 +66,7 @@ fn seeking_goes_on_after_the_closest_token(rt: HostRuntime) {
         check(
             &rt,
             about,
-            sought_in(rt.alloc(), mixed_map(rt.alloc()), *line, *col),
+            seek_in_map(rt.alloc(), mixed_map(rt.alloc()), *line, *col),
             want,
         );
     }
@@ -95,7 +95,7 @@ fn token_line(alloc: Global, token: Option<Token<'_>>) -> Result<String> {
     }
 }
 
-fn printed_at(alloc: Global, map: Made, line: u32, col: u32) -> Result<String> {
+fn lookup_line(alloc: Global, map: Made, line: u32, col: u32) -> Result<String> {
     let map = map?;
     token_line(alloc, map.lookup_token(line, col))
 }
@@ -106,7 +106,7 @@ fn tokens_are_printed(rt: HostRuntime) {
         check(
             &rt,
             want,
-            printed_at(rt.alloc(), mixed_map(rt.alloc()), *line, *col),
+            lookup_line(rt.alloc(), mixed_map(rt.alloc()), *line, *col),
             want,
         );
     }

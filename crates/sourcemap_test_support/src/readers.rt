@@ -10,7 +10,6 @@ pub struct NarrowReader<'a> {
     pub rest: &'a [u8],
     /// How many more reads succeed.
     pub left: Option<usize>,
-    /// The kind of the error.
     pub kind: ErrorKind,
 }
 
@@ -40,7 +39,6 @@ pub struct HaltingReader<'a> {
     pub rest: &'a [u8],
     /// How many more reads succeed.
     pub reads: usize,
-    /// The kind of the error.
     pub kind: ErrorKind,
     /// Whether the last read was interrupted.
     pub is_interrupted: bool,

@@ -316,7 +316,7 @@ fn section_of(offset: (u32, u32), source: &str) -> SourceMapSection {
 }
 
 /// The same sections as of [`two_sections`].
-fn two_made() -> SourceMapIndex {
+fn two_new_sections() -> SourceMapIndex {
     let sections = vec![section_of((0, 0), "a.js"), section_of((10, 4), "b.js")];
     SourceMapIndex::new(None, sections)
 }
@@ -327,7 +327,7 @@ fn written_index(index: &SourceMapIndex) -> String {
 
 #[test]
 fn an_index_that_is_made_is_that_of_its_text() {
-    let made = two_made();
+    let made = two_new_sections();
     assert_eq!(made, two_sections());
     assert_eq!(written_index(&made), written_index(&two_sections()));
     assert_eq!(made.get_section_count(), 2);
@@ -371,7 +371,7 @@ fn sections_of_any_kind_are_nested() {
     let made = SourceMapIndex::new(
         None,
         vec![
-            SourceMapSection::new((0, 0), None, Some(DecodedMap::Index(two_made()))),
+            SourceMapSection::new((0, 0), None, Some(DecodedMap::Index(two_new_sections()))),
             SourceMapSection::new((20, 0), None, Some(decoded_map(hermes))),
         ],
     );
@@ -385,7 +385,7 @@ fn sections_of_any_kind_are_nested() {
 
 #[test]
 fn sections_are_changed_in_their_index() {
-    for mut index in [two_sections(), two_made()] {
+    for mut index in [two_sections(), two_new_sections()] {
         index.set_file(Some("all.js"));
         let copy = index.clone();
         let text = written_index(&index);
