@@ -1,21 +1,21 @@
-"""What the scripts ask of the library where neither program of this repository has a word for it: a small program
-that calls it is written to a folder of its own and built by `rt try`, which proves nothing. It is built once for all
-questions. The reference program has words for the same:
+"""Asks the library questions for which neither sourcemap_tool nor sourcemap_bench has a command. This module writes a
+small program over the library to a temporary folder. `rt try` builds the program, once for all questions, and proves
+nothing about it. The program and the reference program have the same commands:
 
-    names    the name of the function at a line, a column and a minified name, as JSON, for each question; in a text
-             if there is one
-    slices   a slice of a text by a line, a column and a count of units, or a line by its length and a sum, as JSON,
-             for each question; at the end the count of lines
-    regular  why a map is refused where a regular one is wanted, or `none`
-    url      why the map in a data URL is refused, or `none`
+    names    for each question, a line, a column and a minified name: the original name of the function, as JSON. The
+             generated text is given if there is one
+    slices   for each question, a line, a column and a length in UTF-16 units: the slice of a text, as JSON. If the
+             question is a line alone, the length of the line in bytes and a checksum. After them, the count of lines
+    regular  the error if a map is read as a regular map, or `none`
+    url      the error if a data URL is decoded, or `none`
     equal    whether the first two tokens of a map are equal
-    sections why a map is refused where an index is wanted, or `none`
-    refused  why a writer that takes nothing does not get the text of a map
-    contents why a map is not rewritten where contents are to be read from files, or `none`
-    built    the columns, and those in the source, of the tokens of a map that is built of such pairs
+    sections the error if a map is read as an index map, or `none`
+    refused  the error if a map is written to a writer that fails on each write, or `none`
+    contents the error if a map is rewritten and contents are to be loaded from files, or `none`
+    built    the generated and the original columns of the tokens of a map that is built from such pairs of columns
     references
-             for each question what asking_references.py says
-    bundles  for each question what asking_bundles.py says
+             for each question, the answer that asking_references.py describes
+    bundles  for each question, the answer that asking_bundles.py describes
 """
 import collections, json, pathlib, re, shutil, subprocess, sys, tempfile
 import asking_bundles, asking_references
@@ -57,7 +57,7 @@ fn print_sum<W: io::Write>(line: Option<&str>, output: &mut W) -> Result<()> {
     }
 }
 
-fn tell_names<W: io::Write>(alloc: Global, map: &DecodedMap, view: Option<&SourceView>, questions: &[Value], output: &mut W) -> Result<()> {
+fn write_names<W: io::Write>(alloc: Global, map: &DecodedMap, view: Option<&SourceView>, questions: &[Value], output: &mut W) -> Result<()> {
     for question in questions {
         let name = question.get(2).and_then(Value::as_str);
         print(alloc, map.get_original_function_name(number(question, 0), number(question, 1), name, view), output)?;
@@ -65,7 +65,7 @@ fn tell_names<W: io::Write>(alloc: Global, map: &DecodedMap, view: Option<&Sourc
     Ok(())
 }
 
-fn tell_slices<W: io::Write>(alloc: Global, view: &SourceView, questions: &[Value], output: &mut W) -> Result<()> {
+fn write_slices<W: io::Write>(alloc: Global, view: &SourceView, questions: &[Value], output: &mut W) -> Result<()> {
     for question in questions {
         let (line, column) = (number(question, 0), number(question, 1));
         match question.get(1) {
@@ -83,7 +83,7 @@ fn write_error<T: Drop, W: io::Write>(answer: Result<T>, output: &mut W) -> Resu
     }
 }
 
-fn tell_equal<W: io::Write>(map: &SourceMap, output: &mut W) -> Result<()> {
+fn write_equality<W: io::Write>(map: &SourceMap, output: &mut W) -> Result<()> {
     if let (Some(first), Some(second)) = (map.get_token(0), map.get_token(1)) {
         writeln!(output, "{}", first == second)?;
     }
@@ -103,13 +103,13 @@ impl Write for Refusing {
     }
 }
 
-fn tell_contents<F: Files, W: io::Write>(rt: &F, map: SourceMap, output: &mut W) -> Result<()> {
+fn write_load_error<F: Files, W: io::Write>(rt: &F, map: SourceMap, output: &mut W) -> Result<()> {
     let mut options = RewriteOptions::default();
     options.load_local_source_contents = true;
     write_error(map.rewrite(rt, &options), output)
 }
 
-fn tell_built<W: io::Write>(alloc: Global, case: &Value, output: &mut W) -> Result<()> {
+fn write_built_tokens<W: io::Write>(alloc: Global, case: &Value, output: &mut W) -> Result<()> {
     let mut builder = SourceMapBuilder::new(alloc, None)?;
     if let Some(pairs) = case.get("questions").and_then(Value::as_array) {
         for pair in pairs.as_slice() {
@@ -127,7 +127,7 @@ fn part<'a>(case: &'a Value, key: &str) -> Option<&'a str> {
     case.get(key).and_then(Value::as_str)
 }
 
-fn tell_answers<W: io::Write>(alloc: Global, case: &Value, map: Option<&str>, text: Option<&str>, output: &mut W) -> Result<()> {
+fn write_answers<W: io::Write>(alloc: Global, case: &Value, map: Option<&str>, text: Option<&str>, output: &mut W) -> Result<()> {
     let view = match text {
         Some(text) => Some(SourceView::new(alloc, text)?),
         None => None,
@@ -138,9 +138,9 @@ fn tell_answers<W: io::Write>(alloc: Global, case: &Value, map: Option<&str>, te
     match (map, &view) {
         (Some(map), view) => {
             let map = decode_slice(alloc, map.as_bytes())?;
-            tell_names(alloc, &map, view.as_ref(), questions.as_slice(), output)
+            write_names(alloc, &map, view.as_ref(), questions.as_slice(), output)
         }
-        (None, Some(view)) => tell_slices(alloc, view, questions.as_slice(), output),
+        (None, Some(view)) => write_slices(alloc, view, questions.as_slice(), output),
         (None, None) => Ok(()),
     }
 }
@@ -151,14 +151,14 @@ fn write_answer<F: Files, W: io::Write>(rt: &F, alloc: Global, case: &Value, out
     match part(case, "word").unwrap_or("") {
         "regular" => write_error(SourceMap::from_slice(alloc, bytes), output),
         "url" => write_error(decode_data_url(alloc, text.unwrap_or("")), output),
-        "equal" => tell_equal(&SourceMap::from_slice(alloc, bytes)?, output),
+        "equal" => write_equality(&SourceMap::from_slice(alloc, bytes)?, output),
         "sections" => write_error(SourceMapIndex::from_slice(alloc, bytes), output),
         "refused" => write_error(SourceMap::from_slice(alloc, bytes)?.to_writer(Refusing), output),
-        "contents" => tell_contents(rt, SourceMap::from_slice(alloc, bytes)?, output),
-        "built" => tell_built(alloc, case, output),
+        "contents" => write_load_error(rt, SourceMap::from_slice(alloc, bytes)?, output),
+        "built" => write_built_tokens(alloc, case, output),
         "references" => put_answers(rt, alloc, case, output),
         "bundles" => put_bundle_answers(rt, alloc, case, output),
-        _ => tell_answers(alloc, case, map, text, output),
+        _ => write_answers(alloc, case, map, text, output),
     }
 }
 
@@ -176,14 +176,15 @@ fn main(rt: HostRuntime) -> Result<()> {
 }
 '''
 
-# one of the words above, a map or a text or both, with questions, and how many lines answer them
+# `word` is one of the commands above. `record` is a map and `text` a text, each of which may be None. `lines` is the
+# number of lines that answer the questions. `name` is for messages.
 Case = collections.namedtuple('Case', 'name word record text questions lines')
 # the libraries that the program calls
 LIBRARIES = 'sourcemap sourcemap_index serde_json'
-# how many bytes `rt try` gives a program; and how many bytes and lines are asked with in one run of it, if not with a
-# single case, so that the run is short and the lines have less than the 1 MB that it may print
+# MOST is the largest input, in bytes, that `rt try` gives a program. A run of several cases has at most MOST_AT_ONCE
+# bytes of input and MOST_LINES lines of output. So it is short, and prints less than the 1 MB that it may print.
 MOST, MOST_AT_ONCE, MOST_LINES = 64 << 20, 4 << 20, 1000
-# the line with the name of a run's input, before what that run prints
+# the line before the output of each run, with the file name of its input
 RUN = re.compile('^== [0-9]{6}\n', re.M)
 
 
@@ -198,7 +199,7 @@ def is_too_long(case):
 
 
 def inputs_of(cases):
-    """The cases as JSON, in so many parts as are needed, each with how many lines answer each of its cases."""
+    """Yields the input of each run: some of the cases as JSON, and how many lines answer each of these cases."""
     part, counts, size = [], [], 0
     for case in cases:
         data = data_of(case)
@@ -211,8 +212,9 @@ def inputs_of(cases):
     yield b'[' + b','.join(part) + b']', counts
 
 
-def printed_here(inputs, folder):
-    """What the program prints for each input. It is built in a folder, once for all of them."""
+def program_output(inputs, folder):
+    """What the program prints for each input. Builds the program in `folder`, once for all inputs. Exits if `rt try`
+    fails."""
     for path in CRATES.iterdir():
         shutil.copytree(path, pathlib.Path(folder, 'crates', path.name), ignore=shutil.ignore_patterns('out', 'must-fail'))
     source, given = pathlib.Path(folder, 'crates/asking/src'), pathlib.Path(folder, 'inputs')
@@ -223,7 +225,7 @@ def printed_here(inputs, folder):
     pathlib.Path(folder, 'crates.txt').write_text(f'{below}\nasking: {LIBRARIES}\n')
     for number, data in enumerate(inputs):
         (given / f'{number:06}').write_bytes(data)
-    # `rt try` compiles the program, and runs it on an interpreter too, which would take hours: that ends at its first step
+    # `rt try` also runs the program in an interpreter, which would take hours: `--steps 1` ends that at the first step
     ended = subprocess.run(['rt', 'try', '--seconds', '3000', '--steps', '1', '--cases', str(given)], cwd=source.parent,
                            stdin=subprocess.DEVNULL, stdout=subprocess.PIPE)
     if ended.returncode:
@@ -232,10 +234,10 @@ def printed_here(inputs, folder):
 
 
 def answers_here(cases):
-    """The lines that this library answers to each case, by a program that is built for it."""
+    """The lines that the library answers to each case. Builds the program that asks it."""
     inputs = list(inputs_of(cases))
     with tempfile.TemporaryDirectory() as folder:
-        printed = printed_here([data for data, _ in inputs], folder)
+        printed = program_output([data for data, _ in inputs], folder)
     answers = []
     for (_, counts), text in zip(inputs, printed):
         # `splitlines` would also split at characters that JSON does not escape, such as U+2028

@@ -1,18 +1,20 @@
-"""Questions to the library, and to the reference program, about RAM bundles. A question is a list of a word and what
-it asks with; each answer is a line of JSON, or `panic` of the reference:
+"""Questions to the library and to the reference program, about RAM bundles. A question is a list: a word and its
+arguments. Each answer is a line of JSON, or `panic` if the reference program panics. The questions and their answers:
 
-    modules BYTES NUMBERS   whether bytes begin with the header of a bundle, and its type, how many modules it may have,
-                            its startup code, the modules of these numbers, and the first twelve in turn, or what is
-                            wrong
-    folder PATH NUMBERS     the same of the file bundle with its startup code at a path
-    split BYTES INDEX       the first twenty texts and maps that a bundle is split into by an index map, or what is wrong
-    split-folder PATH INDEX the same of a file bundle
+    modules BYTES NUMBERS   whether bytes begin with the header of an indexed bundle; and the type of the bundle, its
+                            `module_count`, its startup code, the modules with these numbers and the first twelve
+                            modules, or the error
+    folder PATH NUMBERS     whether PATH is the startup code of a file bundle; and the same parts of this bundle, or the
+                            error
+    split BYTES INDEX       the first twenty items of `split_ram_bundle` of an indexed bundle, or the error
+    split-folder PATH INDEX the same for a file bundle
 
-BYTES is a text with a character for each byte; so are modules and startup codes that are answered. INDEX is the text of
-an index map. Of a module's map all is answered: its file, its sources with their contents, its names, and of each token
-line, column, source line, source column, source, name, and whether it is a range token.
+In BYTES, and in answered modules and startup code, each character stands for a byte. INDEX is the text of an index map.
+An item has the name and the text of a module, and these parts of its map: the file, the sources with their contents,
+the names, and the tokens. A token has its generated and its original line and column, its source, its name, and whether
+it is a range token.
 """
-# what the program over the library uses for these questions, and its functions for them
+# the imports and the functions that these questions add to the program of asking.py
 USES = '''use sourcemap::RawToken;
 use sourcemap::ram_bundle::{RamBundle, RamBundleModule, is_ram_bundle_slice, is_unbundle_path, split_ram_bundle};
 '''

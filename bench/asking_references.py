@@ -1,26 +1,28 @@
-"""Questions to the library, and to the reference program, about references to maps, paths, texts of maps and
-contents from files. A question is a list of a word and what it asks with; each answer is a line of JSON, or `panic` of
-the reference:
+"""Questions to the library and to the reference program, about references to maps, paths, texts of maps and contents
+from files. A question is a list: a word and its arguments. Each answer is a line of JSON, or `panic` if the reference
+program panics. The questions and their answers:
 
-    locate BYTES            the reference in a text, by a slice and by a reader: its kind and URL, null without one, or
-                            what is wrong
-    view TEXT               the same by a view of the text
-    resolve URL BASE        the URL that a reference resolves to, or null
-    path URL PATH           the same of paths
-    embedded URL            the kind of the map in a data URL, null for another URL, or what is wrong
+    locate BYTES            the kind and the URL of the reference in a text, null if there is no reference, or the
+                            error: once by a slice, and once by a reader
+    view TEXT               the same once, by a view of the text
+    resolve URL BASE        the URL that a reference resolves to against the URL BASE, or null
+    path URL PATH           the path that a reference resolves to against PATH, or null
+    embedded URL            the kind of the map in a data URL, null for another URL, or the error
     relative BASE TARGET    the path from the folder of the file BASE to TARGET
     map BYTES               whether bytes are a map, by a slice and by a reader
     load CURRENT BASE SOURCES
-                            how many contents a builder loads of sources, or what is wrong, and all contents then
+                            for how many sources a builder loads contents, or the error; and then the contents of all
+                            sources
     rewrite CURRENT BASE SOURCES
-                            the sources and the contents of a map, after a rewriting that loads contents
-    cut null null SOURCES   the same after one that strips the common prefix of the absolute sources
+                            the sources and the contents of a map after `rewrite` with contents loaded from files, or
+                            the error
+    cut null null SOURCES   the same after `rewrite` with the common prefix of the absolute sources stripped
 
-BYTES is a text with a character for each byte; so is a path that is answered. CURRENT is the folder that the program
-runs in. After CURRENT, BASE is null or a path. A BASE that is not absolute is joined to CURRENT. SOURCES are lists of a
-source and its contents, or null.
+In BYTES, and in the answer of `path`, each character stands for a byte. CURRENT is the current folder: the library gets
+it as an argument, and the reference program changes to it. After CURRENT, BASE is null or a path. If BASE is not
+absolute, it is joined to CURRENT. SOURCES is a list of pairs: a source, and its contents or null.
 """
-# what the program over the library uses for these questions, and its functions for them
+# the imports and the functions that these questions add to the program of asking.py
 USES = '''use sourcemap::detector::{
     EmbeddedSourceMap, SourceMapRef, is_sourcemap, is_sourcemap_slice, locate_sourcemap_reference, locate_sourcemap_reference_slice,
 };

@@ -1,6 +1,7 @@
-"""What the scripts know of RAM bundles: which modules one holds, and the texts and maps that it is split into. It is
-stated here anew, by the rules of the format, and takes nothing from the programs that are compared. `ways` are the
-ways of the reference that compare-bundles.py lists."""
+"""The rules of RAM bundles: which modules a bundle contains, and the texts and maps that it is split into. The code
+follows the rules of the format, and takes nothing from the programs that are compared. `ways` are known departures of
+the reference program from the rules, by the names that compare-bundles.py lists. A result departs from the rules in
+these ways only."""
 import os, re, struct
 from composing import tokens_of_record
 from index_maps import LAST, in_order, is_index, offset_of, absolute_position
@@ -14,11 +15,11 @@ MOST_MODULES, MOST_ITEMS = 12, 20
 
 
 class Refused(Exception):
-    """Why a bundle, a module or a split is refused."""
+    """A bundle, a module or a split is refused with this error text."""
 
 
 def answer_of(call, *given):
-    """What a call answers, or the text of its error."""
+    """The result of a call, or the error text if the call raises `Refused`."""
     try:
         return call(*given)
     except Refused as error:
@@ -26,7 +27,7 @@ def answer_of(call, *given):
 
 
 def byte_text(data):
-    """Bytes as a text with a character for each."""
+    """A text with one character for each byte."""
     return data.decode('latin-1')
 
 
@@ -37,7 +38,7 @@ def range_of(data, start, size, ways):
 
 
 class Indexed:
-    """A bundle of one file."""
+    """An indexed bundle: one file with a table of its modules."""
     kind = 'Indexed'
 
     def __init__(self, data, ways):
@@ -60,7 +61,7 @@ class Indexed:
 
 
 def file_number(name, ways):
-    """The number of a module by the name of its file."""
+    """The number of the module whose file has this name. Raises `Refused` for other names."""
     found = re.fullmatch(r'\+?[0-9]+\.js' if 'sign' in ways else r'[0-9]+\.js', name, re.ASCII)
     most = LAST_ID if 'last' in ways else LAST_ID - 1
     if not found or int(name[:-3]) > most:
@@ -69,7 +70,7 @@ def file_number(name, ways):
 
 
 class Files:
-    """A bundle of files beside the one of its startup code."""
+    """A file bundle: a file with the startup code, and a file for each module in the folder `js-modules` beside it."""
     kind = 'Unbundle'
 
     def __init__(self, path, ways):
@@ -110,7 +111,7 @@ def is_file_bundle(path):
 
 
 def modules_in_turn(bundle, most):
-    """The numbers and texts, or the errors, of the first modules."""
+    """The first `most` modules that are not missing, as pairs: the number, and the bytes or the error text."""
     found = []
     for number in range(bundle.count):
         text = answer_of(bundle.module, number)
@@ -125,7 +126,8 @@ def module_text(number, text):
 
 
 def parts_of(make, given, numbers, ways):
-    """All that a bundle answers, or why it is none."""
+    """The parts of a bundle: its kind, the number of its modules, its startup code, the modules with these numbers, and
+    the first modules. A part that is refused is an error text. Raises `Refused` if the bundle is refused."""
     bundle = make(given, ways)
     code = answer_of(bundle.startup)
     return [bundle.kind, bundle.count, [byte_text(code)] if isinstance(code, bytes) else code,
@@ -134,14 +136,15 @@ def parts_of(make, given, numbers, ways):
 
 
 def source_text(root, source):
-    """A source resolved against its root."""
+    """A source resolved against `sourceRoot`."""
     if not root or source and (source[0] == '/' or source.startswith(('http:', 'https:'))):
         return source
     return root.removesuffix('/') + '/' + source
 
 
 class Flat:
-    """The tokens of a map, with texts for ids, and what the sources hold."""
+    """The tokens of a map, with texts instead of ids, and its contents by the texts of the sources. An index map is
+    flattened. Raises `Refused` if it cannot be flattened."""
 
     def __init__(self, record, ways):
         self.tokens, self.contents = [], {}
@@ -177,7 +180,8 @@ class Flat:
 
 
 def first_of(tokens, line, ways):
-    """The index of the first token of a module that begins at this line."""
+    """The index of the first token of a module that begins at column 0 of this line: the first token at or after this
+    position. Raises `Refused` if no token is at or before it."""
     before = sum(token[:2] < (line, 0) for token in tokens)
     is_there = before < len(tokens) and tokens[before][:2] == (line, 0)
     if before == 0 and not is_there:
@@ -186,7 +190,8 @@ def first_of(tokens, line, ways):
 
 
 def tokens_in(tokens, line, text, ways):
-    """The tokens of a module that begins at this line and has this text."""
+    """Yields the tokens of a module that begins at this line and has this text. Their generated lines are counted from
+    this line."""
     lines = re.split('\r\n|\n|\r', text)
     width = len(lines[-1].encode('utf-16-le')) // 2
     end = (line + len(lines)) % 2**32 if 'line' in ways else line + len(lines)
@@ -198,7 +203,7 @@ def tokens_in(tokens, line, text, ways):
 
 
 def module_item(flat, line, number, data, ways):
-    """The name, the text and the map of a module."""
+    """The name, the text and the parts of the map of a module, as asking_bundles.py lists them."""
     first_of(flat.tokens, line, ways)
     if not is_text(data):
         raise Refused(NO_ENTRY)
@@ -209,7 +214,8 @@ def module_item(flat, line, number, data, ways):
 
 
 def items_of(make, given, record, ways):
-    """The texts and maps that a bundle is split into, or why it is not."""
+    """The first items that a bundle is split into, each with its parts or as an error text. Raises `Refused` if the
+    split is refused."""
     bundle, flat, lines, items = make(given, ways), Flat(record, ways), record.get('x_facebook_offsets'), []
     if lines is None:
         raise Refused(NO_BUNDLE)

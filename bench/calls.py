@@ -1,6 +1,6 @@
-"""What the scripts know of the calls that `sourcemap_bench_calls` and `sourcemap_bench_bundles` make: inputs for each,
-drawn by chance, and what each prints by the rules of the formats. The rules are those of `bundles.py`, `references.py`,
-`walks.py` and `rules.py`, and nothing is taken from the programs."""
+"""Random inputs for calls that `sourcemap_bench_calls` and `sourcemap_bench_bundles` make, and what each call prints by
+the rules of the formats. The rules are those of `bundles.py`, `references.py`, `walks.py` and `rules.py`. Nothing is
+taken from the two programs."""
 import base64, binascii, collections, json, re, types
 import bundles, references, rules, walks
 from drawn_bundles import TEXTS, bundle_bytes, drawn_index
@@ -15,18 +15,19 @@ URL_FRONTS = [b'data:application/json;base64,', b'data:application/json;charset=
 CODE = ['a', 'b', 'function', 'f1', '$', '_x', 'é', '结', '👌', ' ', '  ', '\t', '\xa0', '(', ')', '{', '}', ';', '.', '1', '\u200d', 'aVeryLongName']
 ENDS = ['\n', '\n', '\n', '\r\n', '\r']
 MINIFIED_URL, MINIFIED_PATH = 'https://example.org/a/b/c.js', '/a/b/c.js'
-# a bundle that claims more modules would take seconds
+# a run takes seconds if the header of a bundle claims many more modules than this
 MOST_MODULES = 4096
 PREFIXES = ['', '/', 'a', '/a', '/a/', 'a/b', 'a/é', 'http://a', '~', 'A']
 NO_URL = 'the provided data URL is invalid'
 
 
-# what draws maps and mutates them: the record of any map and of a regular one, the bytes of a map, which may be mutated, a
-# record with other mappings, and other bytes, for bytes and more of their kind
+# The functions that draw and mutate maps. `whole` returns the record of a map of any kind, `regular` the record of a
+# regular map, and `map_bytes` the bytes of a map, which may be mutated. `changed_mappings` mutates the mappings of a
+# record. `changed_bytes` mutates bytes, and may splice in a part of other bytes of the same kind.
 Maps = collections.namedtuple('Maps', 'whole regular map_bytes changed_mappings changed_bytes')
 
 
-# inputs: each takes what draws
+# Functions that draw inputs, from the random generator `chance` and the functions in `maps`.
 
 def generated_text(chance):
     lines = [''.join(chance.choice(CODE) for _ in range(chance.randrange(12))) for _ in range(chance.choice([0, 1, 1, 2, 3, 8]))]
@@ -107,10 +108,10 @@ def index_and_bundle(chance, maps):
     return index.encode() + b'\n' + made
 
 
-# what is printed: each takes the bytes, and answers a number or a text
+# Functions that return the number that a call prints, from the bytes of its input; and their helpers.
 
 def text_of(data):
-    """The text of some bytes; what is not UTF-8 is refused."""
+    """Decodes UTF-8. Raises `rules.Refusal` with the text of the first error if the bytes are not UTF-8."""
     try:
         return data.decode()
     except UnicodeDecodeError as error:
@@ -124,18 +125,18 @@ def size_of(text):
 
 
 def lines_of(text):
-    """Lines that end at `\\n`, which a `\\r` may precede."""
+    """The lines of a text, without the `\\n` or `\\r\\n` at their ends."""
     return [line[:-1].removesuffix('\r') if line.endswith('\n') else line for line in re.findall('[^\n]*\n|[^\n]+', text)]
 
 
 def parts_of(data):
-    """The first line, and what follows it."""
+    """The first line and the text after it. Both are empty if the bytes have no `\\n`."""
     line, found, text = text_of(data).partition('\n')
     return (line, text) if found else ('', '')
 
 
 def map_and_rest(data):
-    """The regular map on the first line, and the text after it."""
+    """The regular map on the first line, and the text after it. A map of another kind is refused."""
     line, text = parts_of(data)
     record = rules.record(rules.json_of(line.encode()))
     if record['sections'] is not None or record['x_facebook_sources'] is not None:
@@ -162,7 +163,8 @@ def slice_sum(data):
 
 
 def url_of(data):
-    """The URL of the reference in a text, None without one."""
+    """The URL of the reference in a text, None if there is none. Raises `rules.Refusal` if a line is not UTF-8,
+    unless it is after the reference."""
     found = references.locate_reference(data)
     if found == 'InvalidData':
         raise rules.Refusal('invalid data')
@@ -185,7 +187,7 @@ def resolved_url_size(data):
 
 def resolved_path(data):
     url = url_of(data)
-    # a character stands for each byte
+    # the path has one character for each byte, so this is its size in bytes
     return 0 if url is None else len(references.resolved_path(url, MINIFIED_PATH) or '')
 
 
@@ -225,7 +227,7 @@ def count_distinct_lines(data):
 
 
 def map_text(data):
-    """The text of a regular map, or of a flattened index map."""
+    """The JSON text of a regular map, or of a flattened index map. A Hermes map is refused."""
     found = rules.decode_map(data)
     found = found.flat() if isinstance(found, rules.Index) else found
     if not rules.is_regular(found):
@@ -305,7 +307,7 @@ def mix(total, number):
 
 
 def checksum_of(data):
-    """The checksum of the modules that a bundle is split into."""
+    """The checksum of the modules that a bundle is split into. The first line is the index map, the rest the bundle."""
     line, _, rest = data.partition(b'\n')
     record = rules.record(rules.json_of(line))
     if record['sections'] is None:
@@ -338,7 +340,7 @@ def split_sum(index, held):
     return total
 
 
-# the words of each call, what draws its input, and what it answers by the rules
+# for the words of each call: the function that draws its input, and the function that returns the number it prints
 CALLS = {('walk',): (map_and_text, identifier_sum), ('view',): (referring_text, line_sum), ('locate',): (referring_text, url_size),
          ('locate-reader',): (referring_text, url_size), ('locate-view',): (referring_text, located_by_view),
          ('resolve',): (referring_text, resolved_url_size), ('resolve-path',): (referring_text, resolved_path),
@@ -354,7 +356,7 @@ ALL = {**CALLS, SPLIT: (index_and_bundle, checksum_of)}
 
 
 def draw_call(chance, maps):
-    """The words of a call and its input, mutated or not."""
+    """The words of a random call, and its input, which may be mutated."""
     words = chance.choice([*ALL, ('walk',), ('data-url',), ('bundle',), SPLIT, SPLIT])
     make = ALL[words][0]
     data = make(chance, maps)
@@ -366,7 +368,8 @@ def draw_call(chance, maps):
 
 
 def outcome_of(words, data):
-    """The status and the line of a run by the rules, None where they leave it open."""
+    """The status and the printed line by the rules. None if the rules leave them open, or if the text of a map has too
+    many lines to be made here."""
     try:
         return 0, f'{ALL[words][1](data)}\n'.encode()
     except rules.Refusal as refused:

@@ -1,29 +1,31 @@
 #!/usr/bin/env python3
-"""Compares names of functions, lines and slices of texts with those of a reference program, and with the rules as
-walks.py and hermes_maps.py state them.
+"""Compares names of functions, lines of texts and slices of texts with those of a reference program, and with the
+rules as walks.py and hermes_maps.py state them.
 
     bench/compare-functions.py REFERENCE MAPS [--questions N]
 
-REFERENCE    bench/reference, which is then built, or a program over the Rust crate that knows `names QUESTIONS
-             [TEXT]` and `slices QUESTIONS TEXT` (an answer, as JSON, for each list in a file of questions)
-MAPS         a folder with maps, at any depth. A file a.js beside a.js.map, or beside a.map, is the generated
-             text: its lines and slices are read, and names of functions in it, of the map and, unless that is an
-             index already or has more than 1 MB, of an index that holds it twice. In a map with function maps
-             names are looked up by columns of line 0
---questions  of each kind and map (120)
+REFERENCE    the folder bench/reference, whose program is then built, or a program over the Rust crate with the
+             commands `names QUESTIONS [TEXT]` and `slices QUESTIONS TEXT`. QUESTIONS is a file with a list of lists,
+             and each inner list gets an answer as JSON
+MAPS         a folder with maps, at any depth. A file a.js beside a.js.map, or beside a.map, is the generated text. Its
+             lines and slices are read, and names of functions in it are looked up by the map. They are also looked up
+             by an index map that has this map twice, unless the map is an index map or has more than 1 MB. In a map
+             with function maps, names are looked up by columns of line 0, and no text is used
+--questions  how many questions of each kind to ask for each map (120)
 
-Neither program of this repository has words for this, so a small one is built that has (asking.py); nothing of it
-is proved. Each answer but a whole line is held to the rules, where they leave none open, and each is compared with
-the reference's. A difference is printed with its reason, but for those of `line wraps` and `no order`, of which there
-may be many and which are only counted; or as UNEXPLAINED, and then the status is 1; so it is where
-no map has a text or functions. No reason excuses an answer that is not that of the rules:
+No command of this repository's programs answers these questions. So a small program is built that does (asking.py);
+nothing of it is proved. Each answer is compared with the reference's. It is also compared with the rules, unless it is
+a whole line, or the rules leave it open. A difference is printed with its reason, or as UNEXPLAINED. The reasons `line
+wraps` and `no order` may be many, and are only counted. If a difference is unexplained, or if no map has a text or
+function maps, the status is 1. An answer that contradicts the rules has no reason. The reasons are:
 
 - panic: the reference panicked
-- line wraps: by the rules a token leads to line 4294967295 of its source, which the reference counts as before all
-- token twice: the reference's walk comes to its first token twice, since that token's index is one too high where it
-  stands before the position
-- pairs: the text has characters of two UTF-16 units, where the reference counts on from the middle of one
-- no order: functions of a source are unsorted, so that the rules leave the name open
+- line wraps: by the rules, a token maps to line 4294967295 of its source. The reference counts this line from 1, and the
+  sum wraps
+- token twice: the reference's walk visits its first token twice. If this token is before the position, its index in the
+  reference is one too high
+- pairs: the text has characters of two UTF-16 units. The reference may count from the middle of such a character
+- no order: the functions of a source are not sorted, so the rules leave the name open
 """
 import argparse, collections, json, pathlib, random, re, sys
 from asking import Case, answers_here, answers_there, is_too_long
@@ -37,20 +39,20 @@ WORD = re.compile(r'[A-Za-z_$][A-Za-z0-9_$]*')
 PAIR = re.compile('[\U00010000-\U0010ffff]')
 MOST = 1 << 20
 COUNT = ['count']
-# what is due where the rules leave it open
+# stands for the expected answer if the rules leave it open
 OPEN = object()
 
 
 def names_to_ask(lines, tokens, words, draws):
-    """The name to look up at the last of these tokens: mostly one at a token of the walk, and half of those after
-    `function`, if there is one."""
+    """A minified name to look up at the last of these tokens. Mostly it is the identifier at one of the tokens. If some
+    tokens follow a token at `function`, half of the draws choose among those."""
     after_function = [token for last, token in zip(tokens, tokens[1:]) if identifier_at(lines, last) == 'function']
     identifier = identifier_at(lines, draws.choice(after_function if after_function and draws.randrange(2) else tokens))
     return identifier if identifier and draws.randrange(8) else draws.choice(words)
 
 
 def named_positions(record, text, draws, count):
-    """Positions at tokens of a regular map and beside them, each with an identifier."""
+    """Questions about a regular map: a position at a token, or up to two columns after it, and a minified name."""
     lines = lines_of(text)
     tokens = [token for token in tokens_of_record(record) if token.line < len(lines)]
     words = WORD.findall(text[:1 << 16]) or ['x']
@@ -61,7 +63,8 @@ def named_positions(record, text, draws, count):
 
 
 def positions_of(record, text, draws, count):
-    """The same for a map of any kind: for an index those of its sections' maps, as positions of the whole."""
+    """Such questions about a map of any kind. For an index map they are about the maps of its sections, at positions
+    in the whole generated text."""
     if not is_index(record):
         yield from named_positions(record, text, draws, count)
         return
@@ -80,7 +83,7 @@ def slices_of(text, draws, count):
 
 
 def in_an_index(record):
-    """An index with a map as a section at the start, and again as a section at its middle token."""
+    """An index map that has this map twice: in a section at the start, and in a section at its middle token."""
     tokens = tokens_of_record(record)
     line, column = tokens[len(tokens) // 2][:2] if tokens else (1, 0)
     return {'version': 3, 'sections': [{'offset': {'line': 0, 'column': 0}, 'map': record},
@@ -115,7 +118,7 @@ def cases_of(folder, count):
 
 
 class SliceRules:
-    """Slices of a text and the count of its lines; whole lines are left open, since they may be long."""
+    """The rules of slices of a text, and of its number of lines. Whole lines are left open, since they may be long."""
 
     def __init__(self, case):
         self.text = case.text
@@ -130,7 +133,7 @@ class SliceRules:
 
 
 class NameRules:
-    """Names that are guessed by a text."""
+    """The rules of names that are guessed from a text."""
 
     def __init__(self, case):
         self.guesses, self.has_pairs = Guesses(case.record, case.text), bool(PAIR.search(case.text))
@@ -146,7 +149,7 @@ class NameRules:
 
 
 class FunctionRules:
-    """Names of functions that a map knows; left open where a source's functions are in no order."""
+    """The rules of names from function maps. All are left open if the functions of a source are not sorted."""
 
     def __init__(self, case):
         self.record, self.tokens = case.record, tokens_of_record(case.record)
@@ -171,7 +174,7 @@ def rules_of(case):
 
 
 def notes_of(case, here, there):
-    """Each answer beside what is due by the rules, and beside the reference's."""
+    """Compares each answer with the rules and with the reference's answer."""
     rules = rules_of(case)
     for question, own, other in zip([*case.questions, COUNT], here, there):
         what, due = f'{case.name}, {question}', rules.due(question)

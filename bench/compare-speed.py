@@ -1,41 +1,44 @@
 #!/usr/bin/env python3
-"""Times this library and a reference program side by side, and writes the ratios as Markdown.
+"""Measures the time and memory of this library and of a reference program, and prints their ratios as Markdown.
 
     bench/compare-speed.py REFERENCE [MAP..] [--pairs FOLDER] [--views] [--bundles] [--rounds N] [--no-made] [--no-maps]
                            [--lookups N..] [--growth N..] [--instructions]
 
-REFERENCE       bench/reference, which is then built, from the public registry if it needs one; or a program
-                over the Rust crate that knows its words `bench OPERATION N`, `stat`, and `slice` and
-                `stream` before `lookup LINE COL`, `rewrite`, `flatten` and `compose FILE`
-MAP             maps to take, as files, index maps too; without any, those that bench/get-maps.sh gathers, and
-                small and odd ones and indexes that bench/make-map.py makes
---pairs         a folder with pairs NAME.original.map and NAME.adjustment.map, at any depth, each of which is
-                composed, again and again and in a whole run
---views         views of texts, made and walked along line by line, and walks back along tokens that guess names: in
-                a made line, and in each regular map of those above that has its generated text beside it, as a.js
-                beside a.js.map or a.map
---bundles       made RAM bundles, split by their index maps
---rounds        rounds of each figure, of which the least counts (7)
---no-made       no small and odd maps, and no indexes
---no-maps       no maps at all
---lookups       tokens of made maps, in lines of ten and in one line, of which only lookups are timed
-                (300 1000 5000 20000 100000 2300000), and none for 0
---growth        tokens of the smallest of four made maps, each with twice the tokens of the one before;
-                a table for each such number (75000 250000), and none for 0
---instructions  counts instructions with valgrind too, which is slow
+REFERENCE       the folder bench/reference, whose program is then built, from the public registry only if crates are
+                missing. Or a program over the Rust crate with the commands `bench OPERATION N` and `stat`, which
+                takes `slice` and `stream` before `lookup LINE COL`, `rewrite`, `flatten` and `compose FILE`
+MAP             files of maps, which may be index maps. Without MAP, the maps that bench/get-maps.sh gathers are
+                measured. In both cases bench/make-map.py makes small and odd maps and index maps besides
+--pairs         a folder with pairs NAME.original.map and NAME.adjustment.map, at any depth. Each pair is composed
+                many times in one process, and in whole runs of `compose`
+--views         measures views of texts, which are made and then read line by line, and walks back over tokens,
+                which guess names. The walks are on a made line, and on each regular map from above that has its
+                generated text beside it, as a.js beside a.js.map or a.map
+--bundles       measures made RAM bundles, which are split by their index maps
+--rounds        the number of rounds for each figure, of which the smallest result counts (7)
+--no-made       leaves out the maps and index maps that are made besides
+--no-maps       leaves out the tables of regular maps and of index maps
+--lookups       numbers of tokens (300 1000 5000 20000 100000 2300000). For each number, lookups alone are timed, on
+                a made map with ten tokens in each line, and on one with all tokens in one line. 0 gives no row
+--growth        numbers of tokens (75000 250000). For each number, a table compares four made maps. The smallest has
+                this number of tokens, and each other one has twice as many as the one before. 0 gives no table
+--instructions  also counts instructions, with valgrind, which is slow
 
-The programs of this repository are built where they are missing. SOURCEMAP_TOOL, SOURCEMAP_BENCH and, for views and
-bundles, SOURCEMAP_BENCH_VIEWS and SOURCEMAP_BENCH_BUNDLES in the environment name others instead.
+If a program of this repository is missing, it is built first. With --no-maps, only the programs for views and bundles
+are built. SOURCEMAP_TOOL, SOURCEMAP_BENCH and, for views and bundles, SOURCEMAP_BENCH_VIEWS and
+SOURCEMAP_BENCH_BUNDLES in the environment name other programs.
 
-An operation's time is that of a process that repeats it often, less that of one that does it once, by the
-number of repetitions between: so process start, the reading of the map, its first decoding and the drawing
-of positions fall out. The two programs take turns within a round; of each figure the least of the rounds
-counts, in processor time (user and system). Memory is the most that a process held, in one run.
+The time of an operation comes from two processes: one repeats the operation often, and the other does it once. The
+difference of their times is divided by the difference of their numbers of repetitions. So the figure does not contain
+the start of the process, reading the map, decoding it for the first time, or drawing positions. The two programs take
+turns within a round. The smallest time of all rounds counts. Times are processor times, user and system together.
+Memory is the peak of a process, in one run.
 
-The reference is taken at its strongest: its time is that of `slice`, which reads all input before it decodes
-it, and its memory is that of `stream`, which holds no more of the input than it decodes at a time. A checksum
-that the two programs do not share is printed on standard error, and the status is then 1. Rows are printed there too
-as they come; a cell has the ratio and, in brackets, the figure here.
+For whole runs, the reference is measured in its best modes. Its time is that of `slice`, which reads all input before
+it decodes it. Its memory is that of `stream`, which decodes the input while it reads it. If the two programs have
+different checksums for an operation, these are printed on standard error, and the status is 1. Each row is also printed
+there as soon as it is measured, except in tables of growth. A cell has the ratio of the figure here to the reference's,
+and in parentheses the figure here. A row of growth has the figure on the smallest map, and then the ratios to it.
 """
 import argparse, json, os, pathlib, shutil, subprocess, sys, tempfile
 from comparing import BENCH, BENCH_BUNDLES, BENCH_VIEWS, CRATES, TOOL, build_missing, reference_program, text_beside
@@ -50,7 +53,7 @@ TITLES = {'decode': 'decode a slice', 'decode-reader': 'decode a reader', 'looku
           'tokens': 'all tokens', 'encode': 'encode', 'rewrite': 'copy and rewrite', 'flatten': 'flatten',
           'compose': 'copy and compose', 'lines': 'a view and all its lines', 'names': 'walks over all tokens', 'split': 'flatten and split'}
 OF_VIEWS = ['lines', 'names']
-# the programs of the operations that BENCH does not know
+# the programs for the operations that BENCH does not have
 PROGRAMS = {**dict.fromkeys(OF_VIEWS, BENCH_VIEWS), 'split': BENCH_BUNDLES}
 BUNDLES = {'2,500 modules': ['2500', '250000'], '5,000 modules': ['5000', '500000'], '10,000 modules': ['10000', '1000000'],
            '5,000 modules in one section': ['5000', '500000', '--sections', '1'],
@@ -63,14 +66,15 @@ MADE = {'300-tokens': ['300'], '1000-tokens': ['1000'], '5000-tokens': ['5000'],
         'functions': ['300000', '--line', '300000', '--functions', '400'],
         '500-sections': ['400000', '--sections', '500'], '100000-sections': ['400000', '--sections', '100000'],
         'within-40-indexes': ['20000', '--within', '40']}
-# texts of 5 MB
+# texts of about 5 MB
 LINE = 'const value = "text of a line" + other(name, 17);'
 TEXTS = {'100000-lines.js': (LINE + '\n') * 100_000, '100000-wide-lines.js': (LINE.replace('text', 'täxt👌') + '\n') * 100_000,
          'one-line.js': LINE * 100_000}
 
 
 def run(command, path):
-    """Seconds of processor time, and what was printed; None for a program that is missing or refuses."""
+    """The processor time of a run in seconds, and its output. None if the program is missing, if its status is not 0,
+    or if it prints its usage."""
     if not os.path.exists(command[0]):
         return None
     with open(path, 'rb') as source, tempfile.TemporaryFile() as sink:
@@ -85,7 +89,7 @@ def run(command, path):
 
 
 def peak(command, path):
-    """The most memory of a run, in MB."""
+    """The peak memory of a run, in MB."""
     with open(path, 'rb') as source, tempfile.NamedTemporaryFile('r') as result:
         subprocess.run(['/usr/bin/time', '-o', result.name, '-f', '%M', *command], stdin=source,
                        stdout=subprocess.DEVNULL, check=True)
@@ -93,7 +97,7 @@ def peak(command, path):
 
 
 def instructions(command, path):
-    """Instructions of a run, in millions, or None where valgrind is not there."""
+    """The instructions of a run, in millions. None if valgrind is missing."""
     if not shutil.which('valgrind'):
         return None
     with open(path, 'rb') as source, tempfile.NamedTemporaryFile() as log:
@@ -103,7 +107,7 @@ def instructions(command, path):
 
 
 def repetitions(path, operation):
-    """How many rounds of an operation make most runs take at least some tenths of a second."""
+    """How often to repeat an operation, so that most runs take at least some tenths of a second."""
     size = os.path.getsize(path)
     if operation == 'lookup':
         return 2
@@ -129,7 +133,7 @@ class Pair:
             print(f'{path}, {operation}: the checksums differ, {sorted(sums)}', file=sys.stderr, flush=True)
 
     def times(self, path, operation, rounds):
-        """Seconds of one operation, here and there; None where a program refuses."""
+        """The processor time of one operation in seconds, here and the reference's. None if a program fails."""
         more = repetitions(path, operation)
         least, sums = {}, set()
         for _ in range(rounds):
@@ -144,12 +148,12 @@ class Pair:
         return tuple((least[name, 1 + more] - least[name, 1]) / more for name in self.commands)
 
     def counts(self, path, operation):
-        """Millions of instructions of one operation, here and there."""
+        """The instructions of one operation in millions, here and the reference's."""
         many = [[instructions(command(operation, n), path) for n in (1, 2)] for command in self.commands.values()]
         return tuple(two - one for one, two in many)
 
     def whole(self, path, words, rounds):
-        """Seconds of a whole run."""
+        """The processor time of a whole run in seconds, here and the reference's. None if a program fails."""
         least = [9e9, 9e9]
         for _ in range(rounds):
             for i, command in enumerate(([TOOL, *words], [self.reference, 'slice', *words])):
@@ -160,7 +164,7 @@ class Pair:
         return tuple(least)
 
     def memory(self, path, words):
-        """MB of a whole run."""
+        """The peak memory of a whole run in MB, here and the reference's. None if a program fails."""
         commands = [TOOL, *words], [self.reference, 'stream', *words]
         if None in [run(command, path) for command in commands]:
             return None
@@ -180,13 +184,13 @@ def made_map(words, folder, name):
 
 
 def figure_text(figure):
-    """A figure with three digits that count, or more before the point."""
+    """A figure with three significant digits, or with all digits before the point. Below 0.1: with four decimals."""
     decimals = next((n for n, least in enumerate((100, 10, 1, 0.1)) if figure >= least), 4)
     return f'{figure:.{decimals}f}'
 
 
 def cell(pair, unit, scale):
-    """The ratio, and the figure here."""
+    """The ratio of the figure here to the reference's, and in parentheses the figure here."""
     if pair is None:
         return 'not there'
     here, there = pair
@@ -194,7 +198,7 @@ def cell(pair, unit, scale):
 
 
 class Table:
-    """Rows under one head, which are printed together once all are there."""
+    """A table. `add` prints each row on standard error, and `show` prints the table if it has rows."""
 
     def __init__(self, head):
         self.lines = ['| ' + ' | '.join(head) + ' |', '|---' * len(head) + '|']
@@ -209,7 +213,7 @@ class Table:
 
 
 class Maps:
-    """The tables of maps of one kind: of operations, and of whole runs."""
+    """The tables of maps of one kind: of operations, of whole runs and of instructions."""
 
     def __init__(self, operations, runs):
         self.operations, self.runs = operations, runs
@@ -246,7 +250,7 @@ def map_tables(programs, paths, rounds, is_counted):
 
 
 def lines_of(paths, folder):
-    """A file with these maps, each as compact JSON on a line."""
+    """Writes these maps to a file in the folder, each as compact JSON on its own line. Returns the path of the file."""
     lines = os.path.join(folder, 'lines')
     with open(lines, 'w') as sink:
         for path in paths:
@@ -270,14 +274,14 @@ def pair_table(programs, paths, rounds):
 
 
 def map_of_last_tokens(text):
-    """The record of a map of tokens at the end of a text of one line, as many as a walk goes over."""
+    """The record of a map with tokens at the end of a text of one line. A walk visits all these tokens."""
     columns = range(len(text) - 8 * TOKENS, len(text), 8)
     tokens = [Token(0, column, 0, column, 0, LAST, False) for column in columns]
     return {'version': 3, 'sources': ['a.js'], 'names': [], 'mappings': mappings_of(tokens)[0]}
 
 
 def walked_texts(paths):
-    """Names of texts, each with the record of a map and the text that it is of."""
+    """The texts to walk in: the name of each, the record of its map, and the text."""
     yield f'{TOKENS} tokens at the end of `one-line.js`', map_of_last_tokens(TEXTS['one-line.js']), TEXTS['one-line.js']
     for path in paths:
         record, text = record_of(pathlib.Path(path).read_bytes()), text_beside(path)
@@ -286,7 +290,7 @@ def walked_texts(paths):
 
 
 def view_table(programs, paths, rounds):
-    """Views of texts, and walks along tokens; the size is that of the text."""
+    """Measures views of texts, and walks over tokens. The size in a row is that of the text."""
     table = Table(['Text', 'Size', 'What is done', 'Time'])
     inputs = [(f'`{name}`', text, 'lines', text) for name, text in TEXTS.items()]
     inputs += [(name, text, 'names', json.dumps(record, separators=(',', ':')) + '\n' + text)
@@ -307,7 +311,8 @@ def made_bundle(words, folder):
 
 
 def bundle_table(programs, rounds, is_counted):
-    """Bundles split by their index maps; memory is that of a process that reads both and splits once."""
+    """Measures bundles that are split by their index maps. Memory is the peak of a process that reads both and splits
+    once."""
     table = Table(['Bundle', 'Size', TITLES['split'], 'its most memory', *(['instructions'] * is_counted)])
     with tempfile.TemporaryDirectory() as folder:
         for name, words in BUNDLES.items():
@@ -329,7 +334,8 @@ def lookup_table(programs, counts, rounds):
 
 
 def growth_row(title, programs, figures):
-    """A line for each program, of pairs of figures on maps of 1, 2, 4 and 8 times the tokens."""
+    """Prints a row for each program. `figures` has the pairs of figures on maps with 1, 2, 4 and 8 times the tokens. If
+    one is missing, prints nothing."""
     if None in figures:
         return
     for i, name in enumerate(programs.commands):

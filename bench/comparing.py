@@ -1,5 +1,5 @@
-"""What the scripts share: the two programs of this repository, running programs, comparing lists of tokens,
-and counting."""
+"""Shared by the scripts: the programs of this repository, running a program, comparing answers and lists of tokens,
+finding reasons for differences, and counting them."""
 import collections, concurrent.futures, json, os, pathlib, re, subprocess, sys
 from hermes_maps import KEY, kept_entries
 from index_maps import LISTS, bytes_of, flat_tokens, is_index, pieces, record_of
@@ -12,7 +12,7 @@ BENCH_CALLS = os.environ.get('SOURCEMAP_BENCH_CALLS', str(CRATES / 'sourcemap_be
 BENCH_VIEWS = os.environ.get('SOURCEMAP_BENCH_VIEWS', str(CRATES / 'sourcemap_bench_views/out/sourcemap_bench_views'))
 MAPS_AT_ONCE = 3
 MARK = b' range'
-# a token's position and text, in which a line may end
+# the position and the text of a token; the text may contain line ends
 TOKEN = re.compile(rb'(\d+):(\d+) (.*?)\n(?=\d+:\d+ |\Z)', re.DOTALL)
 PANICKED = 101
 
@@ -20,19 +20,20 @@ Note = collections.namedtuple('Note', 'what why here there')
 
 
 def text_beside(path):
-    """The path of the generated text beside that of a map, None if there is none: a.js of a.js.map or of a.map."""
+    """The path of the generated text beside a map, None if there is none: the path of the map without its suffix, or
+    with `.js` instead of the suffix."""
     beside = pathlib.Path(path).with_suffix('')
     return next((each for each in (beside, beside.with_name(f'{beside.name}.js')) if each.is_file()), None)
 
 
 def answer(command, data):
-    """The status of a program that is given these bytes, and what it prints."""
+    """The status and the standard output of a command whose standard input is `data`."""
     ended = subprocess.run(command, input=data, stdout=subprocess.PIPE, stderr=subprocess.DEVNULL)
     return ended.returncode, ended.stdout
 
 
 def build_missing(programs=(TOOL, BENCH)):
-    """Proves and builds those of this repository's programs that are not there."""
+    """Proves and builds each of `programs` whose file does not exist. Exits if it cannot be built."""
     for program in map(pathlib.Path, programs):
         if not program.exists():
             print(f'{program} is not there: it is proved and built first', file=sys.stderr, flush=True)
@@ -42,7 +43,7 @@ def build_missing(programs=(TOOL, BENCH)):
 
 
 def reference_program(given):
-    """The path of a reference program, which is built where the folder of its Cargo project is given."""
+    """The path of the reference program. If `given` is the folder of its Cargo project, Cargo builds the program."""
     if not os.path.isdir(given):
         return given
     build = ['cargo', 'build', '--release']
@@ -58,7 +59,8 @@ def kind_of(reference, data):
 
 
 def tokens_of(text):
-    """The position and the text of each token in the output of `tokens`; of an error, its text."""
+    """The position and the text of each token in the output of `tokens`. If the output is an error, one pair: an empty
+    position and the text of the error."""
     return [(b'%b:%b' % found[:2], found[2]) for found in TOKEN.findall(text)] or [(b'', text)]
 
 
@@ -76,20 +78,20 @@ def without_marks(text):
 
 
 def is_reordered(here, there):
-    """Whether two texts have the same tokens at the same positions, those of one position in another order."""
+    """Whether two outputs of `tokens` differ at most in the order of tokens that have the same position."""
     here, there = tokens_of(here), tokens_of(there)
     return [position for position, _ in here] == [position for position, _ in there] and sorted(here) == sorted(there)
 
 
 def tokens_with_positions(record):
-    """The positions and the texts of the tokens of a map, of an index those of the flattened map."""
+    """The positions and the texts of the tokens of a map. Empty for an index map, which `tokens` refuses."""
     found = TOKEN.findall(answer([TOOL, 'tokens'], bytes_of(record))[1])
     return [((int(line), int(column)), text) for line, column, text in found]
 
 
 def tokens_here(data):
-    """What `tokens` of this program says of a map; of an index, what it has to say of the flat map, by what it
-    says of the maps of its sections."""
+    """What `tokens` of this repository's program prints for a map. For an index map, what it must print for the
+    flattened map, computed from what it prints for the maps of the sections."""
     if b'"sections"' in data and is_index(record := record_of(data)):
         tokens = flat_tokens(record, tokens_with_positions)
         return b''.join(b'%d:%d %b\n' % (*position, text) for position, text in tokens)
@@ -101,7 +103,8 @@ def reads_back(data, written):
 
 
 def without_order(record):
-    """The parts of a record, but for its mappings and for the order of its sources and names."""
+    """The parts of a record without its mappings. Its names, and its sources with their contents, are sorted, so that
+    their order does not count."""
     parts = {key: part for key, part in record.items() if key not in ('mappings', 'rangeMappings')}
     contents = parts.pop('sourcesContent', [None] * len(parts['sources']))
     parts['sources'] = sorted(map(repr, zip(parts['sources'], contents)))
@@ -110,16 +113,18 @@ def without_order(record):
 
 
 def reason_of_record(data, here, there):
-    """Why two answers differ that are records written of a map, or of the flat map of an index, None if nothing
-    bears a reason out.
+    """The reason why two records differ that the programs wrote for a map, or for the flattened map of an index map.
+    None if no reason fits.
 
-    - range bits: but for `rangeMappings` the records are equal, and what is written here reads back as the
-      tokens of the map, less those that repeat the one before
-    - panic: the reference panicked, what is written here has range bits, and it reads back as above
-    - stable sort: the same sources with the same contents and the same names, in whatever order; the same tokens
-      at the same positions, those of one position in another order, so that not the same ones repeat the one
-      before; and what is written here reads back as above
-    - stable sort, range bits: the same where there are range bits, but for which of them are range tokens
+    With each reason, the record that was written here reads back: it has the tokens of the map. A token that is equal
+    to the token before it does not count.
+
+    - range bits: the record here has `rangeMappings`, and the records differ in nothing else
+    - panic: the reference panicked, and the record here has `rangeMappings`
+    - stable sort: the records may differ in the order of tokens at one position, in which tokens repeat the token
+      before them, and in the order of sources and of names. They differ in nothing else
+    - stable sort, range bits: the same, but the record here has `rangeMappings`, and the records may also differ in
+      which tokens are range tokens
     """
     if here[0] or there[0] not in (0, PANICKED):
         return None
@@ -139,19 +144,21 @@ def reason_of_record(data, here, there):
 
 
 def without_scopes(ended):
-    """An answer that is a record, without the scopes of its sources, and these."""
+    """An answer without the `x_facebook_sources` of its record, and the removed value."""
     record = json.loads(ended[1])
     scopes = record.pop(KEY, None)
     return (ended[0], bytes_of(record)), scopes
 
 
 def reason_of_rewritten_hermes(data, here, there):
-    """Why two answers differ that are records of a map with function maps, rewritten; None if nothing bears a reason
-    out.
+    """The reason why two records differ that the programs wrote for a rewritten Hermes map. None if no reason fits.
 
-    - scopes: what is written here has the scopes of each source that the rules say, and the reference has others,
-      or panicked, since the map's list of scopes is no longer than that of its sources that are kept
-    - else the reasons of records
+    With each reason, the record that was written here has the list of scopes that the rules prescribe.
+
+    - scopes: the records differ only in this list, and the list of the map is shorter than the list of sources of the
+      rewritten map; or the reference panicked, and the list of the map is shorter than the map's list of sources
+    - panic: the reference panicked, and the list of the map is not shorter than the map's list of sources
+    - otherwise the reason of `reason_of_record` for the records without this list
     """
     if here[0] or there[0] not in (0, PANICKED):
         return None
@@ -169,7 +176,8 @@ def reason_of_rewritten_hermes(data, here, there):
 
 
 def reason_of_piece(own, here, there):
-    """Why what is written of one map within an index differs, None if nothing bears a reason out."""
+    """The reason why the records differ that the programs wrote for one piece of an index map. `same` if they do not
+    differ, None if no reason fits."""
     if here == there:
         return 'same'
     if not is_index(own):
@@ -179,11 +187,12 @@ def reason_of_piece(own, here, there):
 
 
 def reason_of_index(data, here, there):
-    """Why two answers differ that are records written of an index, None if nothing bears a reason out.
+    """The reasons why two records differ that the programs wrote for an index map, joined by commas. None if a piece
+    differs without a reason. The pieces are the index map without its inner maps, and the pieces of these.
 
-    - bundle lists: only what is written here has the lists of a bundle, and they are those of the index
-    - panic: the reference panicked, a map within has range bits, and all those maps read back as they were
-    - else the reasons of records, map by map
+    - bundle lists: only the record here has the RAM bundle lists of the index map, and nothing else differs
+    - panic: the reference panicked, an inner map has `rangeMappings`, and all inner maps read back
+    - otherwise the reason of `reason_of_record` for each inner map
     """
     if here[0] or there[0] not in (0, PANICKED):
         return None
@@ -200,7 +209,7 @@ def reason_of_index(data, here, there):
 
 
 def first_difference(here, there):
-    """The two texts from some bytes before the first at which they differ."""
+    """At most 200 bytes of both texts, from up to 80 bytes before the first difference on."""
     both = zip(here, there)
     at = next((i for i, (a, b) in enumerate(both) if a != b), min(len(here), len(there)))
     start = max(0, at - 80)
@@ -208,8 +217,8 @@ def first_difference(here, there):
 
 
 def note_of(what, here, there, reason):
-    """A comparison of two answers. For the reason of a difference `reason` is called, which answers None
-    where nothing bears one out."""
+    """The note of a comparison. If the answers differ, `reason` is called, which returns None if it finds no reason.
+    Then the note is UNEXPLAINED."""
     if here == there:
         return Note(what, 'same', b'', b'')
     return Note(what, reason() or 'UNEXPLAINED', *first_difference(here[1], there[1]))
@@ -223,9 +232,9 @@ def report(note):
 
 
 def compare_all(folder, compare):
-    """Calls `compare` with the name and the bytes of each map below a folder, prints the notes that it
-    answers and their counts, and ends the run."""
-    # packages have links that lead nowhere
+    """Calls `compare` with the name and the bytes of each map below a folder. Prints the notes of differences that it
+    returns, and the counts of all notes. Then exits, with status 1 if a difference is unexplained."""
+    # packages have broken symbolic links
     paths = sorted(path for path in pathlib.Path(folder).rglob('*.map') if path.is_file())
     counts = collections.Counter()
     with concurrent.futures.ThreadPoolExecutor(MAPS_AT_ONCE) as pool:

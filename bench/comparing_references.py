@@ -10,7 +10,7 @@ MOST_PRINTED = 10
 OPEN = object()
 
 
-def answered_there(reference, questions, word):
+def reference_answers(reference, questions, word):
     """The answer of the reference program to each question of a command."""
     with tempfile.TemporaryDirectory() as folder:
         file = pathlib.Path(folder, 'questions')
@@ -53,7 +53,7 @@ def notes_of(question, here, there, due, ways):
 def compare_answers(reference, questions, due, ways_of, word='references'):
     """Asks all questions, prints unexplained differences, the first of each reason and all counts, and ends the run.
     `due` says what is due for a question if the reference goes some ways, and `ways_of` which it may go."""
-    there = answered_there(reference, questions, word)
+    there = reference_answers(reference, questions, word)
     here = answers_here([Case(question[0], word, None, None, [question], 1) for question in questions])
     counts, asked = collections.Counter(), collections.Counter(question[0] for question in questions)
     for question, (own,), other in zip(questions, here, there):

@@ -1,17 +1,18 @@
-"""What the scripts know of regular maps as lists of tokens, and of how one map adjusts another. Each is stated
-here anew, by the rules of the format, and takes nothing from the programs that are compared."""
+"""The rules of regular maps as lists of tokens, and of composition, in which one map adjusts another. The code follows
+the rules of the format, and takes nothing from the programs that are compared."""
 import bisect, collections, itertools
 from index_maps import LAST
 
 DIGITS = 'ABCDEFGHIJKLMNOPQRSTUVWXYZabcdefghijklmnopqrstuvwxyz0123456789+/'
 
-# a token's generated and original position, its ids, and whether it is a range token; LAST for a missing id
+# A token's generated and original position, its ids, and whether it is a range token. A missing id is LAST. If the
+# source is missing, the original line and column are LAST too.
 Token = collections.namedtuple('Token', 'line column source_line source_column source name is_range')
 Stretch = collections.namedtuple('Stretch', 'token start end')
 
 
 def numbers_of(segment):
-    """The numbers that the digits of a segment stand for."""
+    """The numbers that the base64 digits of a segment encode."""
     numbers, raw, shift = [], 0, 0
     for digit in map(DIGITS.index, segment):
         raw, shift = raw | (digit & 31) << shift, shift + 5
@@ -29,12 +30,12 @@ def digits_of(number):
 
 
 def is_marked(bits, at):
-    """Whether the bits of a line mark the segment of this index, empty ones counted."""
+    """Whether the range bits of a line mark the segment with this index. The index counts empty segments too."""
     return at // 6 < len(bits) and bool(DIGITS.index(bits[at // 6]) >> at % 6 & 1)
 
 
 def tokens_of_record(record):
-    """The tokens of a valid regular map, in its order."""
+    """The tokens of a valid regular map, sorted by generated position. Tokens at one position keep their order."""
     lines = (record.get('mappings') or '').split(';')
     marks = (record.get('rangeMappings') or '').split(';')
     tokens, there = [], [0, 0, 0, 0]
@@ -53,7 +54,8 @@ def tokens_of_record(record):
 
 
 def stretches(tokens, position_of):
-    """The tokens sorted by one of their positions, and what each covers: up to the next one, or to the end of its line."""
+    """Sorts tokens by one of their positions, and returns the stretch that each covers: up to the position of the next
+    token, or to the end of its own line."""
     ordered = sorted(tokens, key=position_of)
     ends = [position_of(token) for token in ordered[1:]] + [(2**33, 0)]
     return [Stretch(token, position_of(token), min(end, (position_of(token)[0], LAST)))
@@ -61,7 +63,8 @@ def stretches(tokens, position_of):
 
 
 def pair_token(adjustment, original, takes_cut):
-    """The token of two stretches that overlap."""
+    """The composed token of two stretches that overlap. The adjustment moves the start of the overlap to the generated
+    position of this token."""
     start = max(adjustment.start, original.start)
     column = start[1] - adjustment.token.source_column + adjustment.token.column
     token, source_column = original.token, original.token.source_column
@@ -79,7 +82,8 @@ class Originals:
         self.ends = [stretch.end for stretch in self.stretches]
 
     def pairs(self, stretch, takes_cut):
-        """The tokens of one stretch of an adjustment: both lists rise, so those that overlap are neighbours."""
+        """The composed tokens of one stretch of the adjustment. `starts` and `ends` are both sorted, so the original
+        stretches that overlap it are neighbours."""
         first, last = bisect.bisect_right(self.ends, stretch.start), bisect.bisect_left(self.starts, stretch.end)
         return [pair_token(stretch, other, takes_cut) for other in self.stretches[first:last]]
 
@@ -89,8 +93,9 @@ def source_of(token):
 
 
 def compose_tokens(original, adjustment, takes_cut=True):
-    """The tokens of a map adjusted by those of another one, None where one would pass the end of its line. With
-    `takes_cut` a range token that is cut leads to where its rest does, else to where it did."""
+    """The tokens of the composed map, sorted by generated position, or None if a generated column is greater than LAST.
+    If `takes_cut` is true, a range token that is shortened at its start maps to the original position of its remaining
+    part. Otherwise it keeps its original position."""
     originals = Originals(original)
     tokens = [token for stretch in stretches(adjustment, source_of) for token in originals.pairs(stretch, takes_cut)]
     if any(token.column > LAST for token in tokens):
@@ -99,8 +104,9 @@ def compose_tokens(original, adjustment, takes_cut=True):
 
 
 def with_others_last(original, adjustment, theirs):
-    """The tokens of an adjustment, ordered so that of those with one original position the last is one all of whose
-    moved tokens are in `theirs`, if there is one. The last one covers what follows that position, the others nothing."""
+    """The tokens of an adjustment, sorted by original position. Of the tokens at one original position, only the last
+    can cover a stretch that is not empty. This function makes one token the last if all of the composed tokens that it
+    then has are in `theirs`."""
     originals, theirs, ordered = Originals(original), set(theirs), []
     for _, group in itertools.groupby(stretches(adjustment, source_of), key=lambda stretch: stretch.start):
         group = list(group)
@@ -116,12 +122,12 @@ def with_others_last(original, adjustment, theirs):
 
 
 def without_repeats(tokens):
-    """Tokens as they are written: without each one that is equal to the one before it."""
+    """Tokens as they are written: without each token that is equal to the token before it."""
     return [token for i, token in enumerate(tokens) if i == 0 or tokens[i - 1] != token]
 
 
 def mappings_of(tokens):
-    """The mappings and the range mappings of tokens in any order within their lines."""
+    """The texts of `mappings` and `rangeMappings`. The tokens of a line are written in the given order."""
     lines, marks, there, by_line = [], [], [0, 0, 0, 0], collections.defaultdict(list)
     for token in tokens:
         by_line[token.line].append(token)

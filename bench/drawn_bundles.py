@@ -1,4 +1,4 @@
-"""RAM bundles, with tables that may lie, and index maps of their modules, drawn by chance."""
+"""Draws random RAM bundles, some with a wrong table, and random index maps of their modules."""
 import json, struct
 from bundles import MAGIC
 from composing import Token, mappings_of
@@ -13,7 +13,7 @@ CONTENTS = [None, 'x', 'y\n', '']
 
 
 def bundle_bytes(draws, texts):
-    """The bytes of a bundle of these modules, with a table that may lie."""
+    """The bytes of an indexed bundle of these modules. Entries of its table and numbers of its header may be wrong."""
     startup, table, start = draws.choice(STARTUPS), [], 0
     body = startup + b''.join(text + b'\0' for text in texts)
     is_lying = draws.randrange(3) == 0
@@ -30,7 +30,7 @@ def bundle_bytes(draws, texts):
 
 
 def lying_entry(draws, body):
-    """An offset and a length that are not those of a module."""
+    """An offset and a length that need not be those of a module."""
     start = draws.randrange(len(body) + 2)
     return draws.choice([(0, 0), (0, 0), (start, 0), (start, draws.randrange(len(body) + 3)), (len(body), 1), (len(body) - 1, 1), (2**32 - 1, 2),
                          (start, 2**32 - 1), (2**32 - 1, 2**32 - 1), (0, 1)])
@@ -41,7 +41,8 @@ def height(text):
 
 
 def drawn_offsets(draws, texts, first):
-    """The line of each module, or None: laid below one another from a line on, or otherwise."""
+    """The line of each module, or None. Mostly, the first module starts at line `first`, and each other module below
+    the one before. The list may have one entry too many or too few, or be empty."""
     way = draws.choice(['below'] * 6 + ['apart', 'one line', 'anywhere', 'last'])
     lines, line = [], first
     for text in texts:
@@ -56,7 +57,7 @@ def drawn_offsets(draws, texts, first):
 
 
 def drawn_map(draws, count):
-    """A regular map of so many tokens on up to seven lines, with sources and names of its own and shared ones."""
+    """A regular map with at most `count + 4` tokens, on up to seven lines. Maps may share sources and names."""
     sources, names = draws.sample(SOURCES, draws.randrange(1, 4)), draws.sample(['n', 'm', 'o', ''], draws.randrange(3))
     offsets = sorted((draws.randrange(7), draws.randrange(9)) for _ in range(count))
     if draws.randrange(2):
@@ -77,7 +78,8 @@ def drawn_map(draws, count):
 
 
 def drawn_index(draws, texts):
-    """The text of an index map for these modules, with no more tokens than sorts of the reference leave in order."""
+    """The text of an index map of these modules. It has so few tokens that the sorts of the reference program keep the
+    order of tokens at one position."""
     count, first = draws.choice([1, 1, 1, 2, 3]), draws.choice([0, 0, 0, 1, 5])
     is_far = draws.randrange(12) == 0
     sections, line = [], LAST - draws.randrange(12) if is_far else first

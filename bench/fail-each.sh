@@ -1,19 +1,23 @@
 #!/usr/bin/env bash
-# Fails each allocation of the tests and of the program in turn, and all from each on; and each read and
-# each write: it fails, it is interrupted, it moves one byte, it moves none.
+# Reruns the tests and the program, and makes allocations, reads and writes fail. Fails each allocation
+# in turn: once this one alone, and once this one and all later ones. Also fails and interrupts each read
+# and each write in turn, and lets them move one byte or none.
 #
 #   bench/fail-each.sh [--build] [--millis N] [--jobs N] [CRATE ..]
 #
-# Takes the tests and the program that are proved and built already, as `rt ci` leaves them in each
-# crate's `out`, or with --build proves and builds those that are missing first. CRATE is a crate with
-# tests, or `sourcemap_tool` for the program; without CRATE it takes all of them. `failing.py` says how a run
+# Uses the tests and the program that `rt ci` has proved and built in the folder `out` of each crate. With
+# --build the script first proves and builds those that are missing. CRATE is a crate with tests, or
+# `sourcemap_tool` for the program. Without CRATE the script takes all of them. `failing.py` says how a run
 # may end.
-# Each call of a test fails in turn, unless that takes more than N processor milliseconds for one way to
-# fail; of a longer test some calls do, spread over all, and the number of the others is printed. N is 1000,
-# with which all crates take less than ten processor minutes; `--millis all` leaves no call out.
 #
-# Its last line is `N passed, M failed`, of runs. The status is 1 if M is not 0; a program that is not built,
-# or that cannot be started, counts as a failed run, and so does a machine without a compiler.
+# For each way to fail, each call of a test or of a command fails in turn. If this would take more than N
+# processor milliseconds, only some of the calls fail, spread over all, but at least 40. The number of the
+# other calls is printed. N is 1000 by default. Then all crates take less than ten processor minutes.
+# `--millis all` leaves no call out.
+#
+# The last line is `N passed, M failed`, and counts runs. The exit status is 1 if a run failed, or if none
+# passed. If a program is not built or cannot be started, or if no C compiler works, this counts as a failed
+# run.
 #
 # Needs a C compiler (CC, or else cc, gcc or clang) and Python 3.8.
 set -euo pipefail
@@ -24,7 +28,7 @@ exec < /dev/null
 for compiler in "${CC:-}" cc gcc clang; do
     [ -n "$compiler" ] || continue
     if "$compiler" -shared -fPIC -O1 -o "$work/failing.so" "$here/failing.c" -ldl 2> "$work/why"; then
-        # in a process group of its own, so that a signal ends the runs too
+        # its own process group, so that the trap ends the runs too
         set -m
         TMPDIR=$work python3 "$here/failing.py" "$work" "$@" &
         trap 'kill -- -$!; exit 1' INT TERM HUP

@@ -1,20 +1,25 @@
-/* Stands before the C library in a program, and fails its allocations, its reads or its writes, each in
- * turn. The program is started once; before its own start it is forked for each call that is to fail.
+/* A library that is loaded with LD_PRELOAD. It replaces functions of the C library, and makes the
+ * allocations, the reads or the writes of a program fail, each in another run. The program is
+ * started once. It is forked for each run, before `main` runs.
  *
- *   FAILING_CALL     allocation, read or write
- *   FAILING_HOW      fails: this call alone. onward: this call and all after it.
- *                    interrupted: this call alone. ends: this call and all after it move nothing.
- *                    each_interrupted: every second call, in one run. nothing: none, in one run.
- *   FAILING_SHORT    if it is set, each read or write moves one byte at most
+ *   FAILING_CALL     which calls fail: allocation, read or write
+ *   FAILING_HOW      fails: this call alone fails. onward: this call and all later ones fail.
+ *                    interrupted: this call alone is interrupted.
+ *                    ends: this call and all later ones move nothing.
+ *                    each_interrupted: every second call is interrupted, in one run.
+ *                    nothing: no call fails, in one run.
+ *   FAILING_SHORT    if it is set, each read, or each write, moves at most one byte
  *   FAILING_INPUT    the file that is the standard input of each run
- *   FAILING_MILLIS   about how long all runs take together, at most, by the time of the one in which no
- *                    call fails; fewer than 40 runs are made in any case, and all are spread over the calls
- *   FAILING_SECONDS  after how many seconds a run is ended
+ *   FAILING_MILLIS   about how many processor milliseconds all runs may take together, by the time
+ *                    of the run in which no call fails. This limits the number of runs, but not
+ *                    below 40. The runs are spread over the calls.
+ *   FAILING_SECONDS  the number of seconds after which a run is ended
  *
- * Prints a line with the count of calls that a run has where nothing fails, and then for each way in
- * which runs ended the status (128 and the signal's number, where one ended it), what stood on standard
- * output and on standard error, as hexadecimal digits after an `x`, and which calls failed in these
- * runs, with 0 for the run in which none did.
+ * Prints a line with the number of calls of a run in which none fails. Then prints a line for each
+ * way in which runs ended. First in this line is the status, or the sum of 128 and the number of
+ * the signal that ended the run. Then come standard output and standard error, each as hexadecimal
+ * digits after an `x`. Last are the numbers of the calls that failed in these runs. Number 0 is the
+ * run in which no call fails.
  */
 #define _GNU_SOURCE
 #include <dlfcn.h>
@@ -40,9 +45,9 @@ static const char *const NAMES[HOWS] = {
 static enum call failing = NONE;
 static enum how how;
 static int is_short;
-/* the call that fails, from 1; 0 for none */
+/* the number of the call that fails, counted from 1; 0 if none fails */
 static long at;
-/* how many calls there were: shared with the runs */
+/* the number of calls so far, in memory that the forked runs share */
 static long *calls;
 
 static void *(*next_malloc)(size_t);
@@ -51,7 +56,7 @@ static void *(*next_realloc)(void *, size_t);
 static int (*next_memalign)(void **, size_t, size_t);
 static void *(*next_aligned)(size_t, size_t);
 
-/* Whether this call is one of those that fail. */
+/* Counts this call if it is of the kind that fails. Returns whether it must fail. */
 static int is_failing(enum call call) {
     if (call != failing) return 0;
     long number = ++*calls;
@@ -104,7 +109,7 @@ static ssize_t fails_with(int error) {
     return -1;
 }
 
-/* What a read or a write of so many bytes does: -1 and an error, 0 at the end, or how many it may move. */
+/* How many of `size` bytes a read or a write may move. If it must fail, -1, and `errno` is set. */
 static ssize_t allowed(enum call call, size_t size) {
     if (!is_failing(call)) return is_short && call == failing && size > 1 ? 1 : (ssize_t)size;
     if (how == INTERRUPTED || how == EACH_INTERRUPTED) return fails_with(EINTR);
@@ -130,14 +135,14 @@ ssize_t __read(int file, void *to, size_t size) __attribute__((alias("read")));
 ssize_t pread64(int file, void *to, size_t size, off_t offset) __attribute__((alias("pread")));
 ssize_t __write(int file, const void *from, size_t size) __attribute__((alias("write")));
 
-/* The first part that is not empty. */
+/* Writes only the first part that is not empty, by one call of `write`. Short writes are allowed. */
 ssize_t writev(int file, const struct iovec *parts, int count) {
     for (int part = 0; part < count; part++)
         if (parts[part].iov_len > 0) return write(file, parts[part].iov_base, parts[part].iov_len);
     return 0;
 }
 
-/* A way in which runs ended. */
+/* A way in which runs ended, and the numbers of the calls that failed in these runs. */
 struct ending {
     long runs;
     long *failed;
@@ -191,7 +196,7 @@ static void note(long call, int status, int const files[2]) {
         **slot = found;
     }
     struct ending *one = *slot;
-    /* the capacity doubles */
+    /* the list is full: its capacity doubles */
     if ((one->runs & (one->runs - 1)) == 0) {
         size_t capacity = one->runs ? 2 * one->runs : 1;
         if (!(one->failed = next_realloc(one->failed, capacity * sizeof *one->failed))) give_up("no memory");
@@ -213,8 +218,8 @@ static void report(long count) {
     fflush(stdout);
 }
 
-/* Makes the run in which this call fails. Returns 1 in that, to go on as the program, and 0 here once it
- * has ended. */
+/* Forks the run in which call `number` fails. Returns 1 in the run, which continues as the program.
+ * Returns 0 in the parent when the run has ended. */
 static int run(enum call call, long number, const char *input, int seconds, int const files[2]) {
     for (int i = 0; i < 2; i++)
         if (ftruncate(files[i], 0) || lseek(files[i], 0, SEEK_SET)) give_up("no room for what runs write");
@@ -242,7 +247,7 @@ static int run(enum call call, long number, const char *input, int seconds, int 
     return 0;
 }
 
-/* What the run before took, and half a millisecond for its start. */
+/* The processor milliseconds of the only run so far, plus 0.5 for its start. */
 static double millis_of_run(void) {
     struct rusage used;
     getrusage(RUSAGE_CHILDREN, &used);
@@ -266,12 +271,12 @@ __attribute__((constructor)) static void begin(void) {
     int files[2] = {memfd_create("output", 0), memfd_create("errors", 0)};
     calls = mmap(NULL, sizeof *calls, PROT_READ | PROT_WRITE, MAP_SHARED | MAP_ANONYMOUS, -1, 0);
     if (files[0] < 0 || files[1] < 0 || calls == MAP_FAILED) give_up("no room");
-    /* as the program runs where nothing fails */
+    /* the run in which no call fails */
     if (run(call, 0, input, seconds, files)) return;
     most /= millis_of_run();
     if (most < 40) most = 40;
     long count = *calls;
-    /* in one run, a call is only to be any */
+    /* these two ways make only one run, whatever the number of its call */
     long whole = how == EACH_INTERRUPTED || how == NOTHING ? 1 : count, runs = whole < most ? whole : (long)most;
     for (long i = 0; i < runs; i++)
         if (run(call, 1 + i * (whole / runs) + (i < whole % runs ? i : whole % runs), input, seconds, files)) return;

@@ -1,19 +1,19 @@
 #!/usr/bin/env python3
-"""Runs tests and the program with an allocation, a read or a write that fails, each in turn, as `fail-each.sh`
-says, by the library that that script makes of `failing.c`.
+"""Runs the tests and the program while an allocation, a read or a write fails, and checks how each run ends. In each
+run another call fails. `fail-each.sh` describes the options, and makes a library of `failing.c`. This library makes
+the calls fail.
 
-A test whose allocation is refused passes all the same, since what it calls goes on as before or is called
-again, or it ends with the error that memory ran out: as its result, or as the answer in the words of the
-assertion that stops it. A test that hides the cause in a failed assertion counts as a failure. A test of
-which a read or a write is interrupted or moves one byte passes; where one fails or moves nothing, the test ends
-by itself.
+If an allocation of a test fails, the test may still pass, because the code under test needs no memory there or is
+called again. Otherwise the test must end with an error that says that memory ran out. The test returns this error, or a
+failed assertion prints it. A failed assertion that hides this cause counts as a failure. If a read or a write of a test
+is interrupted, or moves one byte, the test must pass. If it fails or moves nothing, the test must end by itself.
 
-The program gives the answer, or says `out of memory` with status 1: on standard output, or on standard error
-alone where the run had not begun. A read that is interrupted or short changes nothing. One that fails is
-refused, with status 1 and the text of the error; where one says that nothing is left, the answer is that for
-the beginning of the input, or of the file, that was read. A write that is interrupted or short changes nothing.
-Where one fails or takes nothing, the status is 1, standard output holds what was written before, and standard
-error has the error, if it can be written.
+If an allocation of the program fails, the program must give its usual answer, or print `out of memory` with status 1.
+It prints this on standard output, or only on standard error if the run has not begun yet. A read or a write that is
+interrupted or short must change nothing. If a read fails, the status must be 1, and the output the text of the error.
+If a read returns the end of the file early, the answer must be that for the part of the input, or of the file, that was
+read. If a write fails or moves nothing, the status must be 1, and standard output must have what was written before.
+Standard error must have the error, if it can be written.
 """
 import argparse, collections, concurrent.futures, os, pathlib, re, resource, subprocess, sys, tempfile
 
@@ -21,9 +21,9 @@ CRATES = pathlib.Path(__file__).resolve().parent.parent / 'crates'
 TOOL = 'sourcemap_tool'
 ABORTED = 128 + 6
 TIMED_OUT = 128 + 14
-# what ends a test by itself: it passes, returns an error or fails an assertion
+# the statuses of a test that ends by itself: it passes, returns an error or fails an assertion
 ENDED = (0, 101, ABORTED)
-# the error that a test returns, or the answer in the words of an assertion
+# the out-of-memory error that a test returns, or that a failed assertion prints
 OUT_OF_MEMORY = re.compile(
     rb'^[Ee]rror: .*(OutOfMemory|AllocError|AllocFailed|out of memory)|: OutOfMemory\s*\Z|^ *left: "out of memory"$'
     rb'|(Err\(|: Ok\(")[^\n]*(OutOfMemory|AllocError|AllocFailed|out of memory)[^\n]*\)\s*\Z', re.MULTILINE)
@@ -47,7 +47,7 @@ READ_ERROR = b'Input/output error (os error 5)\n'
 WRITE_ERROR = b'No space left on device (os error 28)\n'
 
 Case = collections.namedtuple('Case', 'words input file', defaults=('',))
-# words, of which FILE stands for a file with the last text, and the input
+# the arguments of a run, its input, and the text of the file that the argument FILE stands for
 CASES = [
     Case('lookup 0 5', MAP), Case('lookup 9 9', FULL), Case('lookup 10 9', INDEX), Case('lookup 0 1', HERMES),
     Case('tokens', MAP), Case('tokens', FULL), Case('tokens', INDEX),
@@ -60,14 +60,14 @@ CASES = [
     Case('lookup 0 0', '{"mappings":"A!"}'), Case('lookup 0', MAP), Case('compose gone.map', MAP),
 ]
 
-# which calls fail, how, and whether reads and writes move a byte each
+# which calls fail, how they fail, and whether each read or write moves at most one byte
 WAYS_OF_TESTS = [('allocation', 'fails', False), ('allocation', 'onward', False)] + [
     (call, how, is_short) for call in ('read', 'write') for how, is_short in
     (('fails', False), ('interrupted', False), ('ends', False), ('nothing', True), ('each_interrupted', False))]
 WAYS_OF_RUNS = [('allocation', 'fails', False), ('allocation', 'onward', False)] + [
     (call, how, is_short) for call in ('read', 'write') for how in ('fails', 'interrupted', 'ends')
     for is_short in (False, True)] + [
-    # a text of which each byte is interrupted is given up by the kit's writer after some 64 of them
+    # the kit's writer gives up a text after about 64 interruptions, so writes of one byte are not interrupted each time
     ('read', 'nothing', True), ('read', 'each_interrupted', True),
     ('write', 'nothing', True), ('write', 'each_interrupted', False)]
 
@@ -75,7 +75,7 @@ Ending = collections.namedtuple('Ending', 'status output errors')
 
 
 class Unswept(Exception):
-    """A program did not start, or ended before its calls could fail."""
+    """A program did not start, ended before its calls could fail, or listed no tests."""
 
 
 class Failing:
@@ -85,7 +85,8 @@ class Failing:
         self.library, self.millis = library, millis
 
     def endings(self, command, folder, given, call, how, is_short):
-        """How many calls there are where none fails, and how the run ended in which each failed, 0 for none."""
+        """The number of calls in a run in which none fails, and the ending of each run by the number of its failing
+        call. Number 0 is the run in which no call fails."""
         env = {'PATH': '/usr/bin:/bin', 'LANG': 'C.UTF-8', 'LD_PRELOAD': self.library, 'FAILING_CALL': call,
                'FAILING_HOW': how, 'FAILING_INPUT': given, 'FAILING_MILLIS': str(self.millis), 'FAILING_SECONDS': '60'}
         if is_short:
@@ -104,7 +105,7 @@ class Failing:
 
 
 def run(command, folder, given):
-    """How a program ends where nothing fails."""
+    """How a program ends if no call fails."""
     with open(given, 'rb') as it:
         ran = subprocess.run(command, cwd=folder, stdin=it, stdout=subprocess.PIPE, stderr=subprocess.PIPE,
                              env={'PATH': '/usr/bin:/bin', 'LANG': 'C.UTF-8'})
@@ -126,7 +127,7 @@ def is_memory(ending):
 
 
 class Runs:
-    """How runs of the program may end."""
+    """A case of the program, and how its runs may end."""
 
     def __init__(self, program, folder, case, at):
         self.program, self.folder, self.case = program, folder, case
@@ -141,8 +142,8 @@ class Runs:
         return [self.program, *(file if word == 'FILE' else word for word in self.case.words.split())]
 
     def ends_after(self, count):
-        """How the run ends where so many bytes of its input, and of the file after it, are read before an end
-        comes. The end of the input itself counts as a byte."""
+        """How the run ends if reads return `count` bytes of the input and then of the file, and then the end of a file.
+        The end of the input itself counts as one byte."""
         size = len(self.input_bytes)
         given, file = self.input_bytes[:count], self.file_bytes[:max(count - size - 1, 0)]
         if (given, file) not in self.known:
@@ -153,8 +154,8 @@ class Runs:
         return self.known[given, file]
 
     def ends_at(self, number, is_short):
-        """How the run ends where this read, and each after it, gives nothing. Each before it gave a byte, or all
-        that there was: the input, its end, the file, its end."""
+        """How the run ends if read `number` and all later reads return the end of the file. If `is_short` is true, each
+        earlier read returns one byte. Otherwise the reads return in turn the input, its end, the file and its end."""
         size = len(self.input_bytes)
         whole = [0, size, size + 1, size + 1 + len(self.file_bytes)]
         return self.ends_after(number - 1 if is_short else whole[min(number, 4) - 1])
@@ -174,14 +175,14 @@ class Runs:
 
 
 class Tally:
-    """Counts runs that ended well or not, and prints those that did not."""
+    """Counts runs that ended well, and runs that did not. Prints up to four of the latter for each test or command."""
 
     def __init__(self):
         self.passed = self.failed = self.left_out = 0
         self.printed = collections.Counter()
 
     def add_unswept(self, about, why):
-        """Counts what could not be swept as one run that failed."""
+        """Counts a sweep that could not be made as one failed run."""
         self.failed += 1
         print(f'{about}: not swept, {why}', flush=True)
 

@@ -1,11 +1,11 @@
 #!/bin/sh
-# Gathers the four maps that docs/PERFORMANCE.md measures.
+# Gathers the four real maps that docs/PERFORMANCE.md measures.
 #
 #   bench/get-maps.sh FOLDER
 #
-# It downloads Debian's packages with apt-get and unpacks them in the folder; nothing is installed.
-# Two maps are in packages, two are made with esbuild of scripts that are. FOLDER/maps holds the four, and beside
-# the first the text that it is of.
+# Downloads Debian's packages with apt-get, and unpacks them in FOLDER. Installs nothing. Two maps are in packages.
+# esbuild makes the other two from scripts in packages. FOLDER/maps then contains the four maps, and jquery.min.js,
+# the generated text of jquery.min.map.
 set -eu
 mkdir -p "$1/packages" "$1/maps"
 cd "$1"

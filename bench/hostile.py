@@ -1,38 +1,46 @@
 #!/usr/bin/env python3
-"""Times what strangers may send: each kind of input at three sizes, each command and each call that it concerns.
+"""Measures time and memory on hostile inputs: each kind at three sizes, by each command and call that it concerns.
 
     bench/hostile.py [KIND..] [--scale N] [--instructions] [--list]
 
-KIND            kinds to try, or words that their names hold; without one all of them
---scale         sizes are multiplied by this, as 0.1 or 4 (1)
+KIND            a kind, or a part of the names of kinds (all kinds)
+--scale         multiplies the sizes, as 0.1 or 4 (1)
 --instructions  counts instructions with valgrind instead of processor time; slow, and the same on every run
 --list          prints the kinds, and runs nothing
 
-A kind makes an input of a size, and says what its cost is counted by: its bytes, those of its output, or a product
-that the rules ask for, as of the length of `sourceRoot` and the count of sources. Sizes are N, 2N and 4N. For each run
-a row has the bytes of the input and of the output, the time and the most memory, both less those of the same run of a
-small input; and of the three sizes the growth of time and of memory, as exponents of the count. A row fails where the
-time of the largest size is more than twice that of the smallest, grown by n log n; where its memory is more than twice
-that of the smallest, grown by n; where it takes more memory a unit of its count than the kind allows, or more time than
-the run does; or where the status is none of 0, 1 and 2. A call that refuses a kind is tried all the same.
+A kind makes an input of a given size. It also defines the count n that cost is compared with: the bytes of the input,
+the bytes of input and output, the size, or a product that the format requires, such as the length of `sourceRoot` times
+the number of sources. A run may define another count for its time. The sizes are N, 2N and 4N.
 
-A second table has of each kind the memory a unit that it allows, the most that a run took, and the most output a byte of
-the input. Where index maps in one another are among the kinds, the stack that a level takes is found by bisection and
-printed. The last line is `N passed, M failed`, and the status is 1 if any failed.
+The first table has a row for each run. The input, output, time and peak memory in a row are those of the largest size.
+The time and the peak memory of the same run on a small input are subtracted. The growth of time and memory from the
+smallest size to the largest is given as an exponent of n. A row fails in each of these cases:
+
+- the time at the largest size is more than twice the time at the smallest size, scaled by n log n
+- the memory at the largest size is more than twice the memory at the smallest size, scaled by n
+- the memory at the largest size is more than the kind allows for each unit of n
+- the time at the largest size is more than the run allows
+- an exit status is not 0, 1 or 2
+
+Times and memory within the noise do not fail a row. A call that refuses a kind is run all the same.
+
+A second table has for each kind the memory that it allows for each unit of n, the most that a run took, and the most
+output for each byte of input. If nested index maps are among the kinds, the script finds by bisection how much stack
+they take, and prints it. The last line is `N passed, M failed`. The exit status is 1 if a row failed.
 
 The programs are sourcemap_tool, sourcemap_bench, sourcemap_bench_views, sourcemap_bench_bundles and
-sourcemap_bench_calls, which are built where they are missing; SOURCEMAP_TOOL, SOURCEMAP_BENCH, SOURCEMAP_BENCH_VIEWS,
-SOURCEMAP_BENCH_BUNDLES and SOURCEMAP_BENCH_CALLS name others. Needs `/usr/bin/time` as GNU has it, and valgrind for
---instructions.
+sourcemap_bench_calls. The script builds those that are missing. SOURCEMAP_TOOL, SOURCEMAP_BENCH, SOURCEMAP_BENCH_VIEWS,
+SOURCEMAP_BENCH_BUNDLES and SOURCEMAP_BENCH_CALLS in the environment name other programs. Needs the GNU version of
+`/usr/bin/time`, and valgrind for --instructions.
 """
 import argparse, base64, collections, functools, json, math, os, pathlib, re, resource, struct, subprocess, sys, tempfile
 from comparing import BENCH, BENCH_BUNDLES, BENCH_CALLS, BENCH_VIEWS, TOOL, build_missing
 
 SCRIPTS = pathlib.Path(__file__).resolve().parent
 SLACK = 2
-# below these a difference is noise: seconds, instructions, bytes
+# smaller amounts are noise: seconds, instructions, bytes
 LEAST_TIME, LEAST_COUNT, LEAST_MEMORY = 0.02, 5_000_000, 1 << 20
-# with --instructions a nanosecond counts as so many
+# with --instructions, each nanosecond of a time limit allows this many instructions
 INSTRUCTIONS = 4
 README = json.dumps({'version': 3, 'sources': ['coolstuff.js'], 'names': ['x', 'alert'],
                      'mappings': 'AAAA,GAAIA,GAAI,EACR,IAAIA,GAAK,EAAG,CACVC,MAAM'})
@@ -41,11 +49,17 @@ INDEX_COMMANDS = ['lookup 0 5', 'flatten', 'shift 1', 'trace small.txt', 'tokens
 FLAT_WORDS = ['decode 1', 'decode-reader 1', 'lookup 1', 'tokens 1', 'encode 1', 'rewrite 1']
 INDEX_WORDS = ['decode 1', 'decode-reader 1', 'lookup 1', 'encode 1', 'flatten 1']
 
-# what is run: a program, its words, how many bytes of stack it has for a size, all that there is if None, what its time
-# grows with, the count of its kind if None, and the most nanoseconds for each of that, any number if None
+# A run of a program with these words.
+# stack  a function of the size: the limit of the stack in bytes. If None, the limit is not changed
+# count  a function like that of `Kind`: the count that the time is compared with. If None, the count of the kind
+# most   how many nanoseconds the run may take for each unit of this count. If None, any number
 Run = collections.namedtuple('Run', 'program words stack count most', defaults=[None, None, None])
-# a kind of input: what makes it of a size, its smallest size, its runs, the memory that it may take of each unit of its
-# count, and the count, by the size, the bytes of the input and those of the output
+# A kind of input.
+# make    a function of the size: makes the input
+# size    the smallest size
+# runs    the runs on this kind
+# memory  how many bytes of memory a run may take for each unit of the count
+# count   a function of the size, and of the bytes of the input and of the output: the count that cost is compared with
 Kind = collections.namedtuple('Kind', 'name make size runs memory count')
 KINDS = []
 
@@ -71,7 +85,8 @@ def of_calls(*words):
 
 FLAT = of_tool(*FLAT_COMMANDS) + of_bench(*FLAT_WORDS) + of_calls('encode-in-parts', 'to-data-url')
 INDEX = of_tool(*INDEX_COMMANDS) + of_bench(*INDEX_WORDS) + of_calls('flatten-and-rewrite')
-# a map that is copied, printed, made a value and read back, and whose tokens are copied into a builder
+# `copy` calls `clone`, `print` prints the map by `Debug`, and `value` converts it to a JSON value and back.
+# `builder-tokens` adds the tokens of the map to a builder.
 VALUES = of_calls('copy', 'print', 'value')
 COPIES = VALUES + of_calls('builder-tokens')
 DECODES = of_tool('lookup 0 5', 'tokens') + of_bench('decode 1', 'decode-reader 1') + of_calls('detect', 'detect-reader')
@@ -124,7 +139,7 @@ def colliding_input(what, count):
     return subprocess.run([SCRIPTS / 'colliding.py', what, str(count)], stdout=subprocess.PIPE, check=True).stdout
 
 
-# texts that collide in a hash of a fixed seed
+# texts that all have the same hash, because the seed of the hash function is fixed
 
 @kind('colliding sources', 10_000, FLAT, 12)
 def _(size):
@@ -163,7 +178,7 @@ def _(size):
     return b'C' * size
 
 
-# it has no token to look up, while the small map has
+# Without `lookup 1`: this map has no tokens, so its lookups do less than those of the small input.
 @kind('empty segments and lines', 1_000_000, [run for run in FLAT if run.words != ['lookup', '1']], 4)
 def _(size):
     return flat(',;' * (size // 2))
@@ -271,10 +286,10 @@ def _(size):
     return flat('AAAA', ignoreList=[0] * size)
 
 
-# products that the rules ask for
+# products that the format requires
 
 def map_with_root(size):
-    """A map with a long root, and a token for each of as many sources."""
+    """A map with a `sourceRoot` of `size` bytes, `size` sources, and a token for each source."""
     return {'version': 3, 'sourceRoot': 'r' * size, 'sources': [f'{number}' for number in range(size)], 'names': [],
             'mappings': 'AAAA' + ',CCAA' * (size - 1)}
 
@@ -304,7 +319,7 @@ def _(size):
     return far_line(size)
 
 
-# it takes no memory for a line
+# `encode-in-parts` holds no memory for each line
 @kind('a far line in parts', 40_000_000, of_calls('encode-in-parts'), 0.01, by_size)
 def _(size):
     return far_line(size)
@@ -320,7 +335,7 @@ def _(size):
     return text_of(map_with_root(size))
 
 
-# the text is as long as the product, and is not held
+# the written text is as long as the product, but `encode-in-parts` does not hold it
 @kind('sourceRoot times sources in a section, in parts', 2_000, of_calls('encode-in-parts'), 2.5, by_square)
 def _(size):
     return index([(0, 0, {'map': map_with_root(size)})])
@@ -356,7 +371,7 @@ def _(size):
     return b'r' * size + b'\n' + lines_of(range(size))
 
 
-# what is set
+# setters of maps and builders
 
 @kind('a line for each source', 100_000, of_calls('set-sources', 'set-contents', 'set-file', 'ignore'), 20)
 def _(size):
@@ -403,7 +418,7 @@ def _(size):
     return text_of({**map_with_root(size), 'sourceRoot': None})
 
 
-# each source is another text that names the same file
+# each source is a different text that leads to the same file
 @kind('sources of a builder times one file', 1_000, of_calls('builder-load'), 1.25, by_square)
 def _(size):
     return b''.join(b'%d/../FILE\n' % number for number in range(size)), b'a' * size
@@ -464,7 +479,7 @@ def _(size):
     return unresolved_index(size) + b'\n' + (README.encode() + b'\n') * size
 
 
-# each line moves all sections
+# for each line, a call moves all sections
 @kind('sections moved down by a row for each', 2_000, [Run(BENCH_CALLS, ['index-rows'], count=by_square)], 60)
 def _(size):
     return unresolved_index(size) + b'\n' + b'1\n' * size
@@ -525,11 +540,14 @@ def map_and_text(columns, text):
 
 
 def views_of(tokens, most):
-    """The runs on a text and a map that has so many tokens on its longest line, for a size. In a walk only the first
-    search in a line starts at the start of the line. Names are asked for from every 128th token. Each time one search
-    goes from the start of the line to the token, and through white space after the token: `most` nanoseconds for each
-    character and each name. If a search from the start is made for each of the 128 tokens, a run takes many times as
-    long."""
+    """The runs on a map and its generated text, whose longest line has `size` characters. `tokens` is a function of the
+    size, and returns the number of tokens on this line.
+
+    `walk` may take 50 nanoseconds for each byte of input. `names` walks back from every 128th token, and searches for
+    an identifier at each token of a walk. Only the first search of a walk on a line starts at the start of the line. It
+    goes to the token, and through the white space after the token. So `names` may take `most` nanoseconds for each byte
+    of input, and for each character of the line in each walk. If all 128 searches of a walk started at the start of the
+    line, `names` would take many times as long."""
     def calls_times_line(size, given, written):
         return given + math.ceil(tokens(size) / 128) * size
     return [Run(BENCH_CALLS, ['walk'], most=50), Run(BENCH_VIEWS, ['names', '1'], count=calls_times_line, most=most)]
@@ -630,7 +648,7 @@ def _(size):
 
 
 def bundle_of_files(modules):
-    """The path of a bundle of files, and its files by their names."""
+    """The path of a file bundle, and a dict of the paths and the bytes of its files."""
     return b'FILE', {'FILE': b'', 'js-modules/UNBUNDLE': struct.pack('<I', 0xFB0BD1E5), **{f'js-modules/{name}.js': text for name, text in modules}}
 
 
@@ -639,7 +657,7 @@ def _(size):
     return bundle_of_files((number, b'a' * 4_000) for number in range(size))
 
 
-# numbers from 0 to the greatest that a bundle may have
+# module numbers from 0 to the greatest that a file bundle may have
 @kind('a bundle of files whose numbers are far apart', 500, of_calls('bundle-path'), 2)
 def _(size):
     return bundle_of_files((number * (2**64 - 2) // (size - 1), b'a' * 4_000) for number in range(size))
@@ -649,7 +667,7 @@ SPLITS = [Run(BENCH_BUNDLES, ['split', '1'])]
 
 
 def split_of(offsets, mappings, text, entries):
-    """An index map with the offsets of modules, and a bundle of them."""
+    """The input of a split: an index map with these offsets of modules, a line feed, and an indexed bundle."""
     record = {'version': 3, 'sections': [{'offset': {'line': 0, 'column': 0}, **small(mappings)}], 'x_facebook_offsets': offsets,
               'x_metro_module_paths': []}
     return text_of(record) + b'\n' + bundle(len(entries), 0, entries, text)
@@ -660,7 +678,7 @@ def _(size):
     return split_of([*range(size)], 'AAAA;' * size, b'x;\0' * size, [(3 * number, 3) for number in range(size)])
 
 
-# each module has the tokens of all
+# the map of each module gets all tokens
 @kind('modules that all stand on one line', 1_000, [Run(BENCH_BUNDLES, ['split', '1'], count=by_square)], 12)
 def _(size):
     return split_of([0] * size, 'AAAA,' + 'CAAC,' * size + 'C', b'x' * (2 * size) + b'\0', [(0, 2 * size)] * size)
@@ -669,7 +687,7 @@ def _(size):
 # maps that are built in memory
 
 NEST = 'nest'
-# with less the program does not start
+# with a smaller stack the program does not start
 LEAST_STACK = 250_000
 
 
@@ -685,14 +703,16 @@ def _(size):
     return str(size).encode()
 
 
-# those of the three sizes of a kind are kept for its runs
+# the cache holds the inputs of the three sizes, which all runs of a kind use
 @functools.lru_cache(maxsize=3)
 def made_of(make, size):
     return make(size)
 
 
 def inputs_of(made, folder):
-    """Writes the input, and the files beside it: FILE, or those of a table of names. Answers the bytes of all."""
+    """Writes an input and its other files into a folder, with small.map and small.txt. `made` is the bytes of the
+    input, or a pair of these bytes and the other files. The other files are the bytes of FILE, or a dict of names and
+    bytes. Returns the number of bytes of the input and the other files."""
     source, beside = made if isinstance(made, tuple) else (made, {})
     files = beside if isinstance(beside, dict) else {'FILE': beside}
     given = {'small.map': README.encode(), 'small.txt': b'0:5\n1:0\n', 'input': source, **files}
@@ -704,17 +724,18 @@ def inputs_of(made, folder):
 
 
 def with_stack(stack):
-    """What bounds the stack of a process that is to start."""
+    """A function for `preexec_fn` that limits the stack of the new process to `stack` bytes, or None for no limit."""
     return (lambda: resource.setrlimit(resource.RLIMIT_STACK, (stack, stack))) if stack else None
 
 
 def measure_run(run, folder, counts, size=None):
-    """The time or the instructions, the most memory, the bytes of the output, and the status of a run."""
+    """Runs a program in a folder with an input. Returns the processor time in seconds, or the number of instructions if
+    `counts` is true. Also returns the peak memory in bytes, the number of bytes of the output, and the exit status."""
     counted, peak = pathlib.Path(folder, 'counted'), pathlib.Path(folder, 'peak')
     command = [run.program, *run.words]
     if counts:
         command = ['valgrind', '--tool=callgrind', f'--callgrind-out-file={counted}', *command]
-    # a small process starts it, whose memory is not counted for its own
+    # The peak of a process includes its memory before `exec`. So a small process starts the program, not this script.
     command = ['/usr/bin/time', '-o', peak, '-f', '%M', *command]
     with open(pathlib.Path(folder, 'input'), 'rb') as source, tempfile.TemporaryFile() as sink:
         process = subprocess.Popen(command, stdin=source, stdout=sink, stderr=subprocess.DEVNULL, cwd=folder,
@@ -729,7 +750,7 @@ def measure_run(run, folder, counts, size=None):
 
 
 def has_stack(levels, stack):
-    """Whether this stack suffices for so many nested index maps."""
+    """Whether a stack of `stack` bytes suffices for `levels` nested index maps."""
     try:
         ran = subprocess.run([BENCH_CALLS, NEST], input=str(levels).encode(), stdout=subprocess.DEVNULL, stderr=subprocess.DEVNULL,
                              env={}, preexec_fn=with_stack(stack))
@@ -739,7 +760,7 @@ def has_stack(levels, stack):
 
 
 def stack_of(levels):
-    """The least stack that suffices for so many nested index maps, in bytes, rounded up to whole pages."""
+    """The least stack that suffices for `levels` nested index maps, in bytes, rounded up to whole pages."""
     low, high = 16, 2**15
     while high - low > 1:
         middle = (low + high) // 2
@@ -752,13 +773,18 @@ def print_stack():
     print(f'stack: 100 index maps in one another take {few:,} bytes, 1,000 take {many:,}: {(many - few) / 900:,.0f} a level')
 
 
-# what a run of a size came to: what its memory and its time are counted by, the bytes of the input and of the output, the
-# time or the instructions, the memory, and the status
+# The result of a run at one size.
+# count   the count that memory is compared with
+# steps   the count that time is compared with
+# given, written  the bytes of the input and of the output
+# cost    the time in seconds, or the number of instructions
+# memory  the peak memory in bytes, less that of the small input
+# status  the exit status
 Row = collections.namedtuple('Row', 'count steps given written cost memory status')
 
 
 def try_sizes(each, run, base, scale, counts):
-    """A row for each size, and what failed of it."""
+    """Makes a run at each size. Returns the rows, and a list of texts that say what failed."""
     rows = []
     for factor in (1, 2, 4):
         size = max(1, int(each.size * scale)) * factor
@@ -768,7 +794,7 @@ def try_sizes(each, run, base, scale, counts):
         count = each.count(size, given, written)
         steps = run.count(size, given, written) if run.count else count
         rows.append(Row(count, steps, given, written, cost, max(0, memory - base[1]), status))
-    # a run that is refused at once may cost less than that of a small input
+    # A program that refuses the input at once may cost less than on the small input. Then nothing is subtracted.
     spent = base[0] if all(row.cost > base[0] for row in rows) else 0
     rows = [row._replace(cost=row.cost - spent) for row in rows]
     return rows, list(failures_of(each, run, rows, base, counts))
@@ -782,7 +808,7 @@ def failures_of(each, run, rows, base, counts):
         yield f'status {[row.status for row in rows]}'
     if last.cost > SLACK * grown * max(first.cost, floor / SLACK):
         yield f'time grows by {last.cost / max(first.cost, 1e-9):.1f}, and n log n by {grown:.1f}'
-    # what the small input takes may be freed before the most is taken
+    # The memory of the small input may be freed before the peak. So whole peaks are compared, with `base` added again.
     if last.memory + base[1] > SLACK * last.count / first.count * (first.memory + base[1]):
         yield f'memory grows by {last.memory / max(first.memory, 1):.1f}, and n by {last.count / first.count:.1f}'
     if last.memory > each.memory * last.count + LEAST_MEMORY:
@@ -793,7 +819,8 @@ def failures_of(each, run, rows, base, counts):
 
 
 def growth(rows, of):
-    """The exponent of the time or the memory in what it is counted by, 0 where it is next to none."""
+    """The exponent with which the time or the memory grows with its count, from the first row to the last. Returns 0 if
+    the time or the memory of one of these rows is not positive, or if the count does not grow."""
     first, last = [(row.steps, row.cost) if of == 'cost' else (row.count, row.memory) for row in (rows[0], rows[-1])]
     return math.log(last[1] / first[1]) / math.log(last[0] / first[0]) if min(first[1], last[1]) > 0 and last[0] > first[0] else 0
 
@@ -811,10 +838,10 @@ def print_row(each, run, rows, failures, counts):
 
 
 def print_worst(worst):
-    """Of each kind the memory that it allows, the most that a run took, and the most output."""
+    """Prints the second table. `worst` has for each kind its runs, each with the row of the largest size."""
     print('\n| Kind | Bytes a unit, at most | most measured | by | Output a byte of input, most | by |\n|' + '---|' * 6)
     for each, found in worst:
-        # less memory than counts says nothing of a unit
+        # memory up to LEAST_MEMORY is noise, so runs with more memory come first
         run, last = max(found, key=lambda pair: (pair[1].memory > LEAST_MEMORY, pair[1].memory / pair[1].count))
         writer, most = max(found, key=lambda pair: pair[1].written / pair[1].given)
         print(f'| {each.name} | {each.memory:,} | {last.memory / last.count:,.1f} | {name_of(run)} '
@@ -823,7 +850,7 @@ def print_worst(worst):
 
 
 def base_of(run, counts):
-    """What a run of a small input costs."""
+    """The cost and the peak memory of a run on the small input."""
     with tempfile.TemporaryDirectory() as folder:
         inputs_of((README.encode(), b'0:5\n'), folder)
         return measure_run(run, folder, counts)[:2]

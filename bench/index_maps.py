@@ -1,6 +1,6 @@
-"""What the scripts know of index maps as JSON records: the order of their sections, where a position leads,
-and the positions of tokens in the whole. Each is stated here anew, by the rules of the format, and takes nothing
-from the programs that are compared."""
+"""The rules of index maps as JSON records: the order of sections, the inner map of a position, and the positions of
+tokens in the whole generated text. The code follows the rules of the format, and takes nothing from the programs that
+are compared."""
 import json
 
 LAST = 2**32 - 1
@@ -9,7 +9,7 @@ NO_MAP, PAST_THE_END = 'no map', 'past the end'
 
 
 def record_of(data):
-    """The record in a map's bytes, after a junk header."""
+    """The JSON record of a map. Skips all bytes before the first `{`, such as a junk header."""
     return json.loads(data[data.index(b'{'):])
 
 
@@ -26,7 +26,7 @@ def offset_of(section):
 
 
 def in_order(sections):
-    """Sections as a map keeps them: by their offsets, those of one offset as they stood."""
+    """Sections as a map keeps them: sorted by offset. Sections with equal offsets keep their order."""
     return sorted(sections, key=offset_of)
 
 
@@ -36,7 +36,8 @@ def sections_with_maps(record):
 
 
 def pieces(record):
-    """The records in a record: an index without the maps of its sections, and then the records in these maps."""
+    """A list of all records in a record. For an index map: its record without the maps of its sections, and then the
+    records in these maps."""
     if not is_index(record):
         return [record]
     bare = [{key: part for key, part in section.items() if key != 'map'} for section in in_order(record['sections'])]
@@ -45,26 +46,27 @@ def pieces(record):
 
 
 def relative_position(offset, position):
-    """A position as the section with this offset counts it."""
+    """A position relative to the start of a section with this offset."""
     line, column = position
     return line - offset[0], column - offset[1] if line == offset[0] else column
 
 
 def absolute_position(offset, where):
-    """The position in the whole of a position in the section with this offset."""
+    """The position in the whole generated text of a position in a section with this offset."""
     line, column = where
     return line + offset[0], column + offset[1] if line == 0 else column
 
 
 def closest(sections, position):
-    """The first section at a position, else the last before it, else None."""
+    """The first section whose offset is this position. If there is none: the last section before it, or None."""
     at = [section for section in in_order(sections) if offset_of(section) == position]
     before = [section for section in in_order(sections) if offset_of(section) < position]
     return (at[:1] or before[-1:] or [None])[0]
 
 
 def innermost(record, position):
-    """The map without sections that a position leads to and the position in it, None where it leads to none."""
+    """The map without sections that covers a position, and the position relative to this map. None if no section covers
+    the position, or if a section that covers it has no map."""
     while is_index(record):
         section = closest(record['sections'], position)
         if section is None or section.get('map') is None:
@@ -74,9 +76,9 @@ def innermost(record, position):
 
 
 def flat_tokens(record, tokens_of):
-    """The positions in the whole and the texts of the tokens of all sections' maps, sorted; those of one position in
-    the order of their sections. Positions are not bounded. `tokens_of` gives those of a map without
-    sections."""
+    """The tokens of an index map, as pairs of a position in the whole generated text and a text. They are sorted by
+    position. Tokens at one position are in the order of their sections. Positions may be greater than LAST. `tokens_of`
+    returns the tokens of a map without sections."""
     if not is_index(record):
         return tokens_of(record)
     tokens = [(absolute_position(offset_of(section), where), text) for section in sections_with_maps(record)
@@ -85,8 +87,8 @@ def flat_tokens(record, tokens_of):
 
 
 def section_error(section, tokens_of):
-    """Why a section can't be a part of a flat map, None if it can: its map is flattened first, and then its tokens
-    are moved."""
+    """The reason why a section cannot be flattened, or None if it can be. Errors of its map come before positions that
+    are too large, because the map is flattened before its tokens are moved."""
     if section.get('map') is None:
         return NO_MAP
     error = flattening_error(section['map'], tokens_of)
@@ -97,6 +99,7 @@ def section_error(section, tokens_of):
 
 
 def flattening_error(record, tokens_of):
-    """Why a map can't be flattened, None if it can: the error of the first section, in order, that has one."""
+    """The reason why a map cannot be flattened, or None if it can be. In the order of offsets, the first section with
+    an error determines the reason."""
     sections = in_order(record['sections']) if is_index(record) else []
     return next(filter(None, (section_error(section, tokens_of) for section in sections)), None)

@@ -1,15 +1,15 @@
 #!/usr/bin/env python3
-"""Writes a RAM bundle after its index map, the same on every run: the map is the first line, and all bytes after it
-are the indexed bundle.
+"""Writes an index map and its RAM bundle, the same on every run. The index map is the first line. All bytes after this
+line are the indexed bundle.
 
     bench/make-bundle.py MODULES TOKENS [--sections N] [--contents BYTES] > FILE
 
---sections  how many sections the index map has (one for each module)
---contents  bytes of each source's contents, which are left out without it
+--sections  the number of sections of the index map (one for each module)
+--contents  the bytes of the contents of each source; without it the map has no contents
 
-Each module is one line, as Metro writes them, with a source of its own and its part of the tokens. A token in four has
-a name, of 2,000 that the modules share; a step in eight goes to another line of the source. Of two hundred modules one
-is missing.
+Each module is one line, as Metro writes them. It has its own source and its part of the tokens. One token in four has
+one of 2,000 names, which the modules share. One step in eight goes to the next line of the source. One module in two
+hundred is missing from the bundle.
 """
 import argparse, itertools, json, struct, sys
 from composing import Token, mappings_of
@@ -19,14 +19,15 @@ MAGIC, STARTUP, NAMES = 0xFB0BD1E5, b'var __startup = 1;', 2000
 
 
 def drawn_bits(state):
-    """Numbers by chance, the same for the same state."""
+    """Yields pseudo-random numbers, the same for the same state."""
     while True:
         state = (state * 6364136223846793005 + 1442695040888963407) % 2**64
         yield state >> 20
 
 
 def module_tokens(bits, line, count, source, names):
-    """The tokens of a module on this line, and the length of the line. Names are numbered in `names`."""
+    """The tokens of a module on this generated line, and the length of the line. `names` is a dict from names to ids,
+    and gets the new names."""
     tokens, column, there = [], 0, (0, 0)
     for drawn in itertools.islice(bits, count):
         is_named = drawn >> 29 & 3 == 0
@@ -38,7 +39,8 @@ def module_tokens(bits, line, count, source, names):
 
 
 def made_section(bits, numbers, counts, size):
-    """The section of these modules, each on a line of its own, and the lengths of the lines."""
+    """A section with these modules, each on its own line, and the lengths of the lines. `size` is the number of bytes
+    of the contents of each source."""
     tokens, lengths, names = [], [], {}
     for line, number in enumerate(numbers):
         more, length = module_tokens(bits, line, counts[number], line, names)
@@ -52,7 +54,7 @@ def made_section(bits, numbers, counts, size):
 
 
 def bundle_bytes(lengths):
-    """The bundle of modules with lines of these lengths."""
+    """An indexed bundle of modules with these lengths."""
     table, offset = b'', len(STARTUP)
     for number, length in enumerate(lengths):
         is_missing = number % 200 == 199

@@ -1,20 +1,22 @@
 #!/usr/bin/env python3
-"""Makes index maps of the regular maps below a folder, the same on every run.
+"""Makes index maps from the regular maps below a folder, the same on every run.
 
     bench/make-indexes.py MAPS FOLDER [--count N] [--seed N] [--most BYTES]
 
 MAPS     a folder with *.map files, at any depth
 FOLDER   where the index maps are written
---count  how many (100), and three more: one map within 20, 41 and 42 indexes, of which JSON text holds 41
---seed   another one gives other maps (1)
---most   the size of the longest map that is taken, in bytes (100000)
+--count  how many index maps (100). The script also makes three more: a regular map in 20, in 41 and in 42 nested index
+         maps. JSON text can have at most 41 nested index maps
+--seed   another seed gives other maps (1)
+--most   the size of the longest map that is used, in bytes (100000)
 
-Each index has two to five sections, a quarter of them with an index of their own, down to four levels. At each
-level offsets are laid out in one of five ways: below one another; the next section on the last line of the one before;
-anywhere; the first two at one position; the last at the end of its line. In a third of the indexes the sections
-are unsorted. In a sixth a section has a URL only, or nothing. A twelfth have errors in two of their maps.
-Some have lists of a bundle, a file and a debug id; some maps have contents, which are not the same where a map
-is taken twice, an ignore list, of which some ids name nothing, or range tokens.
+Each index map has two to five sections. A quarter of the sections have an index map, with at most four levels in all.
+At each level, the offsets of sections are made in one of five ways: each section below the one before; each section on
+the last line of the one before; random offsets; the first two sections at one position; the last section at the end of
+its line. In a third of the index maps the sections are shuffled. In a sixth of the files, one section has no map, with
+or without a URL. A twelfth of the files have errors in up to two maps. Some index maps have lists of a RAM bundle, a
+file or a debug id. Some maps have contents, an ignore list or range tokens. If a map is used twice, its contents may
+differ. Some ids of ignore lists name no source.
 """
 import argparse, json, pathlib, random
 from index_maps import LAST, is_index, record_of
@@ -24,7 +26,8 @@ ERRORS = ['AAAAAA', 'A9999A', 'AAAAg']
 
 
 def regular_maps(folder, most):
-    """The records of the regular maps that are no longer than that, by the folders that they are in."""
+    """The records of the regular maps below a folder, in a list for each folder. Maps with function maps, and maps with
+    more than `most` bytes, are left out."""
     groups = {}
     for path in sorted(pathlib.Path(folder).rglob('*.map')):
         data = path.read_bytes()
@@ -35,14 +38,14 @@ def regular_maps(folder, most):
 
 
 def height(record):
-    """How many lines a map has."""
+    """The number of generated lines of a map."""
     if not is_index(record):
         return record['mappings'].count(';') + 1
     return max(section['offset']['line'] + height(section['map']) for section in record['sections'])
 
 
 def offsets(draws, maps):
-    """An offset for each of these maps."""
+    """Draws an offset for each of these maps."""
     way = draws.choice(['below', 'shared', 'anywhere', 'together', 'end'])
     line, column, all_offsets = draws.randrange(3), draws.randrange(9), []
     for each in maps:
@@ -61,7 +64,7 @@ def offsets(draws, maps):
 
 
 def changed_copy(draws, record):
-    """A copy of a regular map, some with contents of their own, an ignore list, or range tokens."""
+    """A copy of a regular map. Some copies get other contents, an ignore list or range mappings."""
     record, count = dict(record), len(record.get('sources') or [])
     if draws.randrange(8) == 0:
         record['rangeMappings'] = ';'.join(draws.choice(['', 'B', 'C', 'J', 'AE']) for _ in range(height(record)))
@@ -73,7 +76,7 @@ def changed_copy(draws, record):
 
 
 def metadata(draws):
-    """Keys beside the sections of an index."""
+    """Draws the keys of an index map other than `sections`."""
     record = {'version': 3}
     if draws.randrange(3):
         record['file'] = f'all{draws.randrange(9)}.js'
@@ -87,7 +90,7 @@ def metadata(draws):
 
 
 def index_of(draws, groups, depth):
-    """An index whose sections are drawn from these groups of maps."""
+    """An index map with sections drawn from these groups of maps."""
     maps = []
     for _ in range(draws.randrange(2, 6)):
         if depth < DEPTH and draws.randrange(4) == 0:
@@ -104,7 +107,7 @@ def index_of(draws, groups, depth):
 
 
 def spoil(draws, record):
-    """Removes the map of a section, or puts errors into the mappings of two maps."""
+    """Removes the map of one section in some index maps. In others, puts errors into the mappings of up to two maps."""
     if draws.randrange(6) == 0:
         section = draws.choice(record['sections'])
         del section['map']
@@ -116,7 +119,7 @@ def spoil(draws, record):
 
 
 def within(record, levels):
-    """A map within so many indexes."""
+    """A map inside `levels` nested index maps."""
     for _ in range(levels):
         record = {'version': 3, 'sections': [{'offset': {'line': 1, 'column': 2}, 'map': record}]}
     return record

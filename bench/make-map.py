@@ -1,17 +1,18 @@
 #!/usr/bin/env python3
-"""Writes a source map of so many tokens, the same on every run.
+"""Writes a source map with TOKENS tokens, the same on every run.
 
     bench/make-map.py TOKENS [--line N] [--contents BYTES] [--functions N] [--sections N] [--within N]
 
---line      tokens of each line; without it a line ends after a token in eighty, by chance
---contents  bytes of all sources' contents together, which are left out without it
---functions so many functions of each source, in a function map as Metro writes it
---sections  an index map of so many sections below one another, each with its part of the tokens and with
-            sources of its own; their names are shared
---within    the map in so many indexes, one in another, each one line and two columns after the one around it
+--line      tokens on each line; without it a new line begins before one token in eighty, by chance
+--contents  the bytes of the contents of all sources together; without it the map has no contents
+--functions the number of functions of each source, in a function map as Metro writes it
+--sections  an index map with this number of sections, each below the one before. Each section has its part of the
+            tokens and its own sources, with --contents bytes in each section. The sections share their names
+--within    the map in this number of nested index maps; each has one section, at line 1 and column 2
 
-There are 50 sources and 2,000 names, and fewer for less than 8,000 tokens; a token in four has a name. The
-steps between tokens are those of a bundle: mostly small, in the source forward by a line now and then.
+A map has 50 sources and 2,000 names, or fewer if it has less than 8,000 tokens. The same holds for the map of each
+section. One token in four has a name. The steps between tokens are like those of a bundle: mostly small, and now and
+then to the next line of the source.
 """
 import argparse, itertools, json
 
@@ -28,7 +29,7 @@ def digits(number):
 
 
 def contents(sources, size):
-    """Lines of a script for each source, with quotes and tabs, so that their JSON text has escapes."""
+    """The JSON text of the contents: lines of a script with quotes and tabs, so that the text has escapes."""
     each = size // sources
     line = '\tconst value{} = "text of a line" + other(argument, 17);\n'
     text = ''.join(line.format(n) for n in range(each // len(line) + 1))
@@ -36,7 +37,7 @@ def contents(sources, size):
 
 
 def scopes(sources, count):
-    """A function map for each source: functions by their positions, with a name each."""
+    """The JSON text of the function maps, one for each source. The first of the `count` functions is `<global>`."""
     def entry(source):
         names = json.dumps(['<global>', *(f'function{source}_{n}' for n in range(1, count))])
         rows = [digits(n % 7 * 4) + digits(1) + digits(1 + n % 5) for n in range(1, count)]
@@ -45,15 +46,15 @@ def scopes(sources, count):
 
 
 def drawn_bits(state):
-    """Numbers by chance, the same for the same state."""
+    """Yields pseudo-random numbers, the same for the same state."""
     while True:
         state = (state * 6364136223846793005 + 1442695040888963407) % 2**64
         yield state >> 20
 
 
 def leads_to(bits, here, source_count, name_count):
-    """The source, the line and the column in it, and the name of a token after one with this original position, and whether
-    it has a name."""
+    """Draws a list of the source, the original line, the original column and the name of a token, and whether it has a
+    name. `here` is this list for the token before."""
     there = here[:]
     if bits >> 12 & 1023 == 0:
         there[0:3] = [(here[0] + 1) % source_count, 0, 0]
@@ -68,7 +69,7 @@ def leads_to(bits, here, source_count, name_count):
 
 
 def mappings(count, tokens_a_line, source_count, name_count, state):
-    """The text of so many tokens."""
+    """The mappings of `count` tokens."""
     here = [0, 0, 0, 0]
     lines, parts, column, last = [], [], 0, 0
     for index, bits in enumerate(itertools.islice(drawn_bits(state), count)):
@@ -87,7 +88,7 @@ def mappings(count, tokens_a_line, source_count, name_count, state):
 
 
 def regular_map(count, given, folder='src', state=1):
-    """The JSON text of a map of so many tokens, and how many lines it has."""
+    """The JSON text of a map with `count` tokens, and the number of its generated lines."""
     source_count, name_count = max(1, min(50, count // 160)), max(1, min(2000, count // 4))
     sources = ','.join(f'"{folder}/module{n}.js"' for n in range(source_count))
     names = ','.join(f'"name{n}"' for n in range(name_count))
@@ -107,7 +108,7 @@ def index_map(sections):
 
 
 def sections_below(given):
-    """Sections below one another, which share the tokens."""
+    """Yields sections, each below the one before and with its part of the tokens."""
     line = 0
     for number in range(given.sections):
         count = given.tokens * (number + 1) // given.sections - given.tokens * number // given.sections

@@ -1,25 +1,32 @@
 #!/usr/bin/env python3
-"""Runs the program on maps, pairs of maps, bundles, generated texts and lists of positions that are made and
-mutated by chance, the same on every run of a seed, and looks whether it crashes, or says anything but what the
-rules of the formats say; and so two programs that make the calls for which it has no words, on RAM bundles,
-generated texts, references, data URLs and paths.
+"""Runs `sourcemap_tool` on random inputs, and checks whether it crashes or contradicts the rules of the formats. The
+inputs are maps, pairs of maps, RAM bundles, generated texts and lists of positions. They are drawn from a seed, and
+some are mutated. Each run with the same seed has the same inputs. Two more programs make the calls for which
+`sourcemap_tool` has no command: on maps, RAM bundles, generated texts, references, data URLs and paths.
 
     bench/mutate.py [--runs N] [--seed N] [--jobs N] [--reference PROGRAM] [--only CASE]
 
-Each case has words for a program, standard input and the file that the words name. A run has to end with the
-status and the text that `rules.py` says, or `calls.py` of calls, and nothing on standard error but the error of a
-bundle that is not split. An answer of more lines than that can make may be `out of memory` too, with status 1: a
-run has 256 MB. With --reference, a program over the crate (`reference/`, built), each case of a command runs on
-that too, and each difference has to have a reason among those of `docs/DIFFERENCES.md`; it is printed as
-UNEXPLAINED where it has none.
+A case has the arguments of a program, its standard input, and the file that the arguments name. `rules.py` states the
+expected status and output of a command, and `calls.py` those of a call. A case fails if its run ends otherwise, or if
+it writes to standard error. There is one exception: if `sourcemap_bench_bundles` does not split a bundle, it writes the
+error to standard error, and only its status is compared. The rules leave some cases open, and then require only that
+the status is 0 or 1. One reason is an output with too many lines for `rules.py`. Such a run may also end with `out of
+memory` and status 1, because a run has 256 MB of memory.
 
-What is contradicted is printed with its number; `--only CASE` makes that case alone again, and prints all of it.
-How cases ended is counted, of commands and of calls apart. `open` are those of which the rules only say that the
-status is 0 or 1. The last line is `N passed, M failed`, of cases, and the status is 1 if M is not 0.
+With --reference, each case of a command also runs on PROGRAM, a built program over the crate (`reference/`). The script
+compares no case of `trace`, which the reference does not have, and no run whose status is not 0 or 1. Each difference
+must have a reason among those of `docs/DIFFERENCES.md`. Without a reason it is printed as UNEXPLAINED, and the case
+fails.
 
-A million cases take some minutes on four processors: each program is started once for each job and count of words,
-and forked for each run, by a library that is made of `serving.c` (CC, or else cc). Needs Python 3.8 besides.
-SOURCEMAP_TOOL, SOURCEMAP_BENCH_CALLS and SOURCEMAP_BENCH_BUNDLES name other programs than those in `crates`.
+At most 50 failures are printed, each with the number of its case. `--only CASE`, with the same seed, runs this case
+alone, and prints its inputs, the expected result and the actual result in full. The script counts how cases ended,
+separately for commands and calls. In its counts, `open` are the cases that the rules leave open. The last line is
+`N passed, M failed`, of cases, and the status is 1 if M is not 0.
+
+A million cases take some minutes on four processors. For this speed, each program is started only once for each job and
+each number of arguments. A library forks it for each run; a C compiler (CC, or else cc) makes this library of
+`serving.c`. The script also needs Python 3.10. SOURCEMAP_TOOL, SOURCEMAP_BENCH_CALLS and SOURCEMAP_BENCH_BUNDLES name
+other programs than those in `crates`.
 """
 import argparse, collections, json, multiprocessing, os, pathlib, random, shutil, struct, subprocess, sys, tempfile, time
 import calls, rules
@@ -31,7 +38,7 @@ from index_maps import LAST, LISTS
 
 HERE = pathlib.Path(__file__).resolve().parent
 CHUNK = 500
-# of the cases, how many are of calls
+# the fraction of cases that make calls; the others run commands
 CALLS_SHARE = 0.25
 NO_MEMORY = (1, b'out of memory\n')
 EDGES = [0, 1, 2, 5, 31, 32, 2**31 - 1, 2**31, LAST - 1, LAST, LAST + 1, 2**63, 2**64, -1]
@@ -51,7 +58,7 @@ def edge(chance):
 
 
 def tokens(chance, sources, names):
-    """Tokens of a map of so many sources and names, in order."""
+    """Random tokens in order, for a map with these numbers of sources and names."""
     made = []
     for _ in range(chance.choice([0, 1, 1, 2, 3, 5, 12, 30])):
         position = chance.choice([0, 0, 0, 1, 2, 7]), edge(chance) % 2**32
@@ -122,7 +129,7 @@ def index(chance, depth=0):
 
 
 def whole(chance, depth=0):
-    """The record of a map of some kind."""
+    """The record of a random map of any kind. At most three index maps are nested."""
     kind = chance.random()
     if kind < (0.3 if depth < 3 else 0):
         return index(chance, depth)
@@ -130,7 +137,7 @@ def whole(chance, depth=0):
 
 
 def changed_value(chance, value):
-    """A JSON value with one of its parts changed."""
+    """A JSON value after one random change, of a part or of the whole."""
     if isinstance(value, dict) and value and chance.random() < 0.85:
         key = chance.choice(list(value))
         change = chance.random()
@@ -154,7 +161,7 @@ def changed_value(chance, value):
 
 
 def changed_text(chance, text):
-    """A text with a few characters changed, as of mappings."""
+    """A text after one to four random edits. The inserted pieces are typical of mappings."""
     for _ in range(chance.choice([1, 1, 2, 4])):
         at = chance.randrange(len(text) + 1)
         piece = chance.choice([',', ';', chance.choice(DIGITS), chance.choice(DIGITS), 'g', '!', 'é', '=', 'ggggggggggggH',
@@ -164,7 +171,8 @@ def changed_text(chance, text):
 
 
 def changed_bytes(chance, data, other):
-    """Bytes that were cut, changed, doubled or mixed with others."""
+    """The data after one to three random edits. An edit cuts off the end, changes, inserts, removes or repeats bytes,
+    or replaces the end with the end of `other`."""
     for _ in range(chance.choice([1, 1, 2, 3])):
         at = chance.randrange(len(data) + 1)
         change = chance.randrange(7)
@@ -193,7 +201,7 @@ def text_of(chance, value):
 
 
 def with_changed_mappings(chance, record):
-    """A record, one of whose texts of mappings is changed, its own or that of a section."""
+    """Changes `mappings` or `rangeMappings` of a record or of a map in one of its sections. Returns the record."""
     sections = [section for section in record.get('sections') or [] if section.get('map')]
     if sections:
         at = chance.choice(sections)
@@ -204,13 +212,13 @@ def with_changed_mappings(chance, record):
     return record
 
 
-# what a command takes; any map in one case of eight
+# draws a map that the command accepts; in one case of eight `map_bytes` draws any map instead
 FITTING = {'flatten': index, 'shift': index, 'rewrite': lambda chance: chance.choice([regular, regular, hermes])(chance),
            'tokens': lambda chance: chance.choice([regular, regular, hermes])(chance), 'compose': regular}
 
 
 def map_bytes(chance, verb):
-    """The bytes of a map for a command, mutated or not."""
+    """The bytes of a map for a command, mutated or not. In one case of fifty they are other data."""
     if chance.random() < 0.02:
         other = chance.choice([bundle_bytes(chance, [chance.choice(MODULES)]), drawn_text(chance), positions(chance), b''])
         return changed_bytes(chance, other, TEXT) if chance.random() < 0.5 else other
@@ -257,7 +265,7 @@ def words_of(chance, path):
     if kind < 0.98:
         return ['trace', path]
     words = [chance.choice(['lookup', 'tokens', 'trace', 'Shift', '', 'é']) for _ in range(chance.choice([1, 2, 3]))]
-    # `trace` with a name of another file would find no file, so the words are doubled
+    # `trace` with one more word is a valid command that would open a missing file. With twice the words it is invalid.
     return words + words if words[0] == 'trace' and len(words) == 2 else words
 
 
@@ -285,7 +293,7 @@ def pack_text(text):
 
 
 class Server:
-    """A program that is forked for each run."""
+    """A started program, which `serving.c` forks for each run."""
 
     def __init__(self, library, program, count):
         env = {'PATH': '/usr/bin:/bin', 'LANG': 'C.UTF-8', 'LD_PRELOAD': library, 'SERVING_SECONDS': '20',
@@ -308,7 +316,7 @@ class Server:
 
 
 def due(case):
-    """The status and the text that the rules say, and None where the text is too long for them, or open."""
+    """The expected status and output. None if the output is too long for the rules, or if they leave it open."""
     if case.program != TOOL:
         return calls.outcome_of(tuple(case.words), case.data)
     try:
@@ -318,12 +326,12 @@ def due(case):
 
 
 def contradiction(case, ended, want):
-    """Why a run did not end as it should by the rules, None if it did."""
+    """How a run contradicts the expected result `want`. None if it does not."""
     status, output, errors = ended
     if status > 2:
         return f'status {status}'
     if case.program == BENCH_BUNDLES and status == 1 and errors and not output:
-        # standard error names the error in the words of the kit, so only the status is compared
+        # the kit words the error on standard error, so only the status is compared
         return None if want[0] == 1 else f'the rules say {want}'
     if errors:
         return 'something on standard error'
@@ -333,7 +341,7 @@ def contradiction(case, ended, want):
 
 
 class Job:
-    """One of the processes that make and run cases."""
+    """Draws and runs cases. Each process has a job of its own."""
 
     def __init__(self, library, reference, seed):
         self.library, self.reference, self.seed, self.servers = library, reference, seed, {}
@@ -341,14 +349,14 @@ class Job:
         self.path = f'{self.folder}/file'
 
     def run(self, program, case, *before):
-        """How a program ends with the words of a case, after others."""
+        """Runs a program with the words `before` and those of a case. Returns its status, output and errors."""
         key = program, len(case.words) + len(before)
         if key not in self.servers:
             self.servers[key] = Server(self.library, *key)
         return self.servers[key].run([*before, *case.words], case.data)
 
     def chunk(self, first, count):
-        """What so many cases came to."""
+        """Runs `count` cases from case `first` on. Returns the failures, and counts of how the cases ended."""
         failures, kinds = [], collections.Counter()
         for at in range(first, first + count):
             case = case_of(self.seed, at, self.path)
@@ -384,7 +392,7 @@ UNEXPLAINED = 'UNEXPLAINED'
 
 
 def values_in(data):
-    """All JSON values in a text, at any depth, without an order; none where it is not JSON."""
+    """All JSON values in a text, at any depth, in no particular order. None of them if the text is not JSON."""
     try:
         left = [rules.json_of(data)]
     except rules.Refusal:
@@ -397,7 +405,7 @@ def values_in(data):
 
 
 def is_doubled(data):
-    """Whether an object of a JSON text has a key twice, as the texts of keys are counted."""
+    """Whether an object of a JSON text has a key twice. Compares the sizes of objects with and without doubled keys."""
     try:
         keys = [len(value) for value in values_in(data) if isinstance(value, dict)]
     except RecursionError:
@@ -409,7 +417,7 @@ def is_doubled(data):
 
 
 def reasons(case, ended):
-    """Which rows of docs/DIFFERENCES.md a case may show."""
+    """The rows of docs/DIFFERENCES.md that may explain a difference in this case."""
     text = ended[1].decode(errors='replace')
     if ended[0] == 1:
         if 'base64' in text or 'vlq' in text:
@@ -436,17 +444,17 @@ def reasons(case, ended):
 
 
 def agreement(case, ended, asked):
-    """How an answer compares with that of the reference."""
+    """How a result compares with the reference's. A difference has its reasons, or is UNEXPLAINED."""
     if ended[0] == asked[0] == 0 and ended[1] == asked[1]:
         return 'the same answer'
-    # where memory runs out, the reference aborts
+    # if the reference runs out of memory, it aborts
     if ended[0] == 1 and asked[0] == 1 or ended[1] == b'out of memory\n' and asked[0] == 134:
         return 'refused by both'
     return 'another answer: ' + ', '.join(sorted(set(reasons(case, ended)))) if any(reasons(case, ended)) else UNEXPLAINED
 
 
 def work(given):
-    """A process's part: chunks by turns."""
+    """Runs the chunks of one process. Returns the failures, and counts of how the cases ended."""
     library, reference, seed, firsts, runs = given
     job = Job(library, reference, seed)
     failures, kinds = [], collections.Counter()

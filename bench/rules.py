@@ -1,5 +1,5 @@
-"""The output of each command of the program, by the rules of the formats alone: from the bytes of a map, and of a
-file if one is named, to a status and a text. Stated here anew; takes nothing from the compared programs."""
+"""The rules of each command of `sourcemap_tool`: the exit status and the output, for the bytes of a map and of the file
+that the command names. The code follows the rules of the formats, and takes nothing from the compared programs."""
 import json, re
 from composing import DIGITS, Token, compose_tokens, digits_of, without_repeats
 from hermes_maps import closest
@@ -31,11 +31,12 @@ def incompatible():
 
 
 class TooLong(Exception):
-    """An answer has too many lines to be made here."""
+    """The mappings of an answer have more lines than this module writes."""
 
 
 class Fraction:
-    """A number that is not an integer of 64 bits."""
+    """A JSON number that is not an integer from -2^63 to 2^64 - 1, or that is written as `-0`, or with a point or an
+    exponent."""
 
 
 def fraction(text):
@@ -64,7 +65,7 @@ def check_texts(value):
 
 
 def members(pairs):
-    """An object. Half of a surrogate pair is refused also in a value that a later one with the same key replaces."""
+    """A JSON object. A lone surrogate is refused even in a value that a later value with the same key replaces."""
     for _, value in pairs:
         check_texts(value)
     return dict(pairs)
@@ -78,7 +79,7 @@ def is_text(value):
 
 
 def check_levels(value, left=LEVELS):
-    """Refuses JSON that is too deep, or has half of a surrogate pair."""
+    """Refuses JSON with more than LEVELS nested levels, or with a lone surrogate."""
     if isinstance(value, str):
         if SURROGATE.search(value):
             raise parse()
@@ -90,7 +91,8 @@ def check_levels(value, left=LEVELS):
 
 
 def after_header(data):
-    """The bytes after a junk header."""
+    """The bytes after a junk header, or all bytes if there is none. Refuses a header in which a carriage return is
+    followed by another byte than a line feed."""
     if data[:1] not in (b')', b']', b'}', b"'"):
         return data
     end = data.find(b'\n')
@@ -116,7 +118,7 @@ def json_of(data):
     return value
 
 
-# Each of these reads the value of a key; a value that is null or missing is None.
+# Each of these functions reads the value of a key. The value is None if it is null or missing.
 
 def u32(value):
     if isinstance(value, bool) or not isinstance(value, int) or not 0 <= value <= LAST:
@@ -195,7 +197,7 @@ def digit(byte):
 
 
 def numbers(segment):
-    """The numbers of a segment, or its first error."""
+    """The numbers of a segment. Raises `Refusal` with the first error of the segment."""
     found, raw, length = [], 0, 0
     for byte in segment:
         six = digit(byte)
@@ -211,7 +213,7 @@ def numbers(segment):
 
 
 class Map:
-    """A regular map, or one with scopes."""
+    """A regular map or a Hermes map."""
 
     def __init__(self, found):
         self.file = None if found['file'] is None else found['file'] if is_text(found['file']) else '<invalid>'
@@ -251,7 +253,7 @@ class Map:
         return sorted(tokens, key=lambda token: token[:2])
 
     def resolved_source(self, source):
-        """A source resolved against its root."""
+        """The source with this id, resolved against `sourceRoot`."""
         text = self.texts[source]
         if not self.root or text.startswith(('/', 'http:', 'https:')):
             return text
@@ -334,7 +336,7 @@ class Index:
         self.file = None if found['file'] is None else found['file'] if is_text(found['file']) else '<invalid>'
         self.debug_id, self.offsets, self.paths = (
             found['debugId'], found['x_facebook_offsets'], found['x_metro_module_paths'])
-        # in the order of the text: the first error is reported
+        # the maps are decoded in the order of the text, because the first error is reported
         sections = [{**it, 'map': None if it['map'] is None else map_of(it['map'])} for it in found['sections']]
         self.sections = in_order(sections)
 
@@ -440,7 +442,7 @@ def number_of(word):
 
 
 def output_of(words, data, file):
-    """What the command of these words says, None if they are no command's."""
+    """The output of a command, or None if its words are not valid. Raises `Refusal` if the command fails."""
     numbers = [number_of(word) for word in words[1:]]
     verb = words[0] if words else None
     known = {'lookup': 2, 'tokens': 0, 'rewrite': 0, 'flatten': 0, 'compose': 1, 'shift': 1, 'trace': 1}
@@ -464,7 +466,7 @@ def output_of(words, data, file):
 
 
 def outcome_of(words, data, file=b''):
-    """The status and the text of a run."""
+    """The exit status and the output of a run."""
     try:
         output = output_of(words, data, file)
     except Refusal as refused:

@@ -1,11 +1,13 @@
-/* Stands before the C library in a program, and runs it again and again. The program is started once, with as
- * many words as each run is to have; before its own start it is forked for each run.
+/* A library that is loaded with LD_PRELOAD, and runs a program many times. The program is started
+ * once, with as many arguments as each run will have, at most seven. It is forked for each run,
+ * before `main` runs.
  *
- * A request on standard input is the words of a run, and then its standard input, each as the count of its bytes, a
- * number of 32 bits as this machine has it, and the bytes. A reply on standard output is the status (128 and the
- * signal's number, where one ended the run), and what stood on standard output and on standard error of the run, in
- * that form. A run has SERVING_SECONDS seconds of a processor, ten times as long in all, and SERVING_BYTES bytes of
- * memory.
+ * A request on standard input has the arguments of a run, and then its standard input. Each is a
+ * text: the number of its bytes, and then the bytes. Numbers have 32 bits, in the byte order of the
+ * machine. A reply on standard output has the status of the run as a number. If a signal ended the
+ * run, it is the sum of 128 and the number of the signal. Then the reply has standard output and
+ * standard error of the run, each as a text. A run may take SERVING_SECONDS seconds of processor
+ * time, ten times as many seconds of real time, and SERVING_BYTES bytes of address space.
  */
 #define _GNU_SOURCE
 #include <errno.h>
@@ -19,7 +21,7 @@
 
 static void give_up(void) { _exit(99); }
 
-/* Reads so many bytes; returns 0 where there are none at all. */
+/* Reads `size` bytes. Returns 0 if standard input ends before the first of them. */
 static int take(void *to, size_t size) {
     for (size_t done = 0; done < size;) {
         ssize_t more = read(0, (char *)to + done, size - done);
@@ -38,7 +40,7 @@ static void give(int to, const void *from, size_t size) {
     }
 }
 
-/* The next text, with a zero byte after it, NULL if no request comes. */
+/* The next text of a request, with a zero byte after it. NULL if standard input has ended. */
 static char *text(uint32_t *size) {
     if (!take(size, sizeof *size)) return NULL;
     char *made = malloc((size_t)*size + 1);
@@ -54,7 +56,7 @@ static int file_of(const char *name) {
     return made;
 }
 
-/* Copies a file to the replies, after the count of its bytes. */
+/* Writes the number of bytes of a file, and then these bytes, to standard output. */
 static void give_file(int file) {
     char part[65536];
     uint32_t size = lseek(file, 0, SEEK_END);

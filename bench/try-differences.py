@@ -1,17 +1,18 @@
 #!/usr/bin/env python3
-"""Tries the rows of docs/DIFFERENCES.md: runs both programs on the smallest input of each.
+"""Tests the rows of docs/DIFFERENCES.md: runs this repository's programs and the reference on the input of each row.
 
     bench/try-differences.py REFERENCE
 
-REFERENCE    bench/reference, which is then built, or a program over the Rust crate that knows the words
-             `lookup`, `tokens`, `rewrite` and `stream rewrite`, `flatten`, `compose`, `shift`,
-             `roundtrip`, which writes a map as it is, and those of asking.py
+REFERENCE    the folder bench/reference, which is then built, or a program over the Rust crate with these commands:
+             `lookup`, `tokens`, `rewrite`, `stream rewrite`, `flatten`, `compose`, `shift`,
+             `roundtrip`, which reads a map and writes it again, and the commands of asking.py
 
-The programs of this repository are built where they are missing; SOURCEMAP_TOOL and SOURCEMAP_BENCH in the
-environment name others instead. For words that neither of them has, asking.py builds a third one. A
-row of the document whose last column names a word has a trial below, under the text of its first column;
-`none` there says that the row has no trial. A row that does not behave as described, a row without its trial and a
-trial without its row are printed, and then the status is 1.
+If a program of this repository is missing, the script builds it. SOURCEMAP_TOOL and SOURCEMAP_BENCH in the
+environment name other files to run instead. For commands that neither program has, asking.py builds a third one.
+
+If the last column of a row names a command, the row must have a trial below. The key of the trial is the text of the
+first column. If the last column is `none`, the row has no trial. The script prints each row that does not behave as
+described, each row without a trial by its command, and each trial without a row. If it prints any, the status is 1.
 """
 import argparse, collections, json, os, pathlib, pty, struct, subprocess, sys, tempfile, tty
 from asking import Case, answers_here, answers_there
@@ -21,10 +22,12 @@ from composing import tokens_of_record
 
 DOCUMENT = CRATES.parent / 'docs/DIFFERENCES.md'
 
-# What is asked with which input, and of each answer its status and a text that is in it; the text of a second
-# file, if the word takes one.
+# `word` is a command with its arguments. `data` is the standard input, or a function that opens it. `here` and `there`
+# are the expected answers of this repository and of the reference: a status, and a text that the output contains. In
+# `there` a test of both outputs may replace the text. `file` is the text of a second file, if the command takes one.
 Trial = collections.namedtuple('Trial', 'word data here there file', defaults=[None])
-# What is asked of the library, and the first line of each answer; for the reference it may be a test of both lines.
+# `case` is a question to the library. `here` and `there` are the expected first lines of the answers of the library and
+# of the reference. `there` may be a test of both lines.
 Asked = collections.namedtuple('Asked', 'case here there')
 
 
@@ -33,14 +36,15 @@ def record(mappings, **more):
 
 
 def index(*sections):
-    """An index of sections with this offset, source and mappings; without a map where there are no mappings."""
+    """The JSON text of an index map. A section is a line, a column, a source and mappings. If the mappings are None,
+    the section has no map."""
     return json.dumps({'sections': [
         {'offset': {'line': line, 'column': column}, 'map': mappings and {'sources': [source], 'mappings': mappings}}
         for line, column, source, mappings in sections]}).encode()
 
 
 def steps(text):
-    """How many tokens a written map has on its line, and how many of them step to another column."""
+    """The number of segments in a map of one line, and how many of them step to another generated column."""
     segments = json.loads(text)['mappings'].split(',')
     return len(segments), sum(segment[0] != 'A' for segment in segments)
 
@@ -50,14 +54,15 @@ def has_the_same_steps(here, there):
 
 
 def is_covered_by_others(here, there):
-    """Whether two written maps have tokens for the same columns of sources, some of them at another column."""
+    """Whether two maps have the same original columns, but not all of them at the same generated columns."""
     here, there = (sorted((token.source_column, token.column) for token in tokens_of_record(json.loads(text)))
                    for text in (here, there))
     return here != there and [original for original, _ in here] == [original for original, _ in there]
 
 
 def fails_after(data):
-    """A file to read that has these bytes and then fails: a terminal that was hung up."""
+    """A file descriptor to read these bytes from. After them a read fails, because the other end of this terminal is
+    closed."""
     ours, theirs = pty.openpty()
     tty.setraw(theirs)
     os.write(theirs, data)
@@ -66,26 +71,27 @@ def fails_after(data):
 
 
 def question_of(word, record=None, text=None, question=None):
-    """One question to the library; after slices, one more line has the count of lines."""
+    """A case with one question. The answer to `slices` has a second line, with the count of lines."""
     return Case(word, word, record, text, [question], 2 if word == 'slices' else 1)
 
 
 def reference_question(*question):
-    """One question of those of asking_references.py."""
+    """A case with one question of asking_references.py."""
     return Case('references', 'references', None, None, [list(question)], 1)
 
 
-# where folders are made, which are removed at the end
+# the folder of all bundles that `folder_of` makes, removed when the script ends
 FOLDERS = tempfile.TemporaryDirectory()
 
 
 def bundle_question(*question):
-    """One question of those of asking_bundles.py."""
+    """A case with one question of asking_bundles.py."""
     return Case('bundles', 'bundles', None, None, [list(question)], 1)
 
 
 def folder_of(*names):
-    """The path of a new file bundle with modules in files of these names, each of which holds its own name."""
+    """Makes a file bundle with a module file for each name, and returns the path of its startup code. Each module file
+    contains its own name."""
     folder = pathlib.Path(tempfile.mkdtemp(dir=FOLDERS.name))
     modules = folder / 'js-modules'
     modules.mkdir()
@@ -97,7 +103,8 @@ def folder_of(*names):
 
 
 def split_question(text, mappings, line=0, offset=5, **more):
-    """The question of a bundle of this module, split by an index map with one section at a line."""
+    """A case with a question: the split of a bundle with this text as its only module, by an index map with one section
+    at `line`. In the whole bundle the module starts at line `offset`."""
     code = text.encode() + b'\0'
     data = struct.pack('<5I', MAGIC, 1, 0, 0, len(code)) + code
     section = {'offset': {'line': line, 'column': 0}, 'map': {'sources': ['a.js'], 'mappings': mappings, **more}}
@@ -105,8 +112,8 @@ def split_question(text, mappings, line=0, offset=5, **more):
 
 
 def split_into(text, *tokens):
-    """The answer to that: module 0 with these tokens. Each is a line, a column that is also its column in the source,
-    and maybe the mark of a range token."""
+    """The answer to `split_question`: module 0 with these tokens. A token is a generated line, a column, and a mark if
+    it is a range token. The column is both the generated and the original one. The original line is 0."""
     rows = [[line, column, 0, column, 'a.js', None, bool(mark)] for line, column, *mark in tokens]
     return compact([['0.js', text, '0.js', [['a.js', None]] if tokens else [], [], rows]])
 
@@ -116,13 +123,14 @@ def compact(value):
 
 
 def has_listed_others(here, there):
-    """Whether two bundles of files have the same modules, some with the text of another file."""
+    """Whether two file bundles have the same module numbers, but some modules have different texts."""
     parts = [json.loads(text)[1][4] for text in (here, there)]
     return parts[0] != parts[1] and [number for number, _ in parts[0]] == [number for number, _ in parts[1]]
 
 
 def is_shuffled(here, there):
-    """Whether the reference has the same pairs sorted by their first numbers, some of one number in another order."""
+    """Whether the reference has the same pairs, also sorted by their first numbers, but some pairs with equal first
+    numbers in another order."""
     pairs = [[tuple(map(int, pair.split(':'))) for pair in line.split()] for line in (here, there)]
     return pairs[0] != pairs[1] and pairs[0] == sorted(pairs[1]) and [first for first, _ in pairs[1]] == sorted(first for first, _ in pairs[1])
 
@@ -131,7 +139,7 @@ def named_record(mappings, **more):
     return {'version': 3, 'sources': ['a.js'], 'names': ['foo'], 'mappings': mappings, **more}
 
 
-# names for the modules 1 to 4, each with up to nine zeros before its number
+# file names of the modules 1 to 4: ten for each module, with zero to nine zeros before the number
 ZEROS = [f'{"0" * zeros}{number}.js' for zeros in (3, 1, 5, 0, 9, 2, 4, 7, 6, 8) for number in range(1, 5)]
 PAST_THE_END = 'cannot flatten the indexed sourcemap: a position passes 4294967295'
 PARTLY_READ = 'a JSON text of which a failing reader gave a part, as `{"version":3`'
@@ -287,7 +295,7 @@ ASKED = {
 
 
 def rows():
-    """The first and the last column of each row of the tables that say by which word a row is tried."""
+    """Yields the first and the last column of each row, in the tables whose last column is `Tried by`."""
     is_tried = False
     for line in DOCUMENT.read_text().splitlines():
         columns = [column.strip() for column in line.strip('|').split(' | ')]
@@ -300,7 +308,8 @@ def rows():
 
 
 def commands(word, title, reference):
-    """Both programs' words. JSON texts are compared with their keys in order, but where that is the row."""
+    """The command lines of both programs. The reference prints the keys of a JSON object in alphabetical order, except
+    for the row about this order."""
     if word == 'write':
         return [BENCH, 'write'], [reference, 'roundtrip']
     if title == 'JSON keys':
@@ -309,7 +318,8 @@ def commands(word, title, reference):
 
 
 def with_file(commands, text):
-    """Both programs' words, and after them the path of a file of this text, if there is one."""
+    """Yields both command lines. If there is a text, the path of a file with this text is the last argument. The file
+    exists as long as the caller iterates."""
     with tempfile.NamedTemporaryFile() as file:
         file.write(text or b'')
         file.flush()
@@ -331,7 +341,7 @@ def is_as_described(due, status, text, other):
 
 
 def wrong(title, trial, reference):
-    """What differs from the row's description, None if nothing does."""
+    """The title and both answers, if one of them is not as the row says. Otherwise None."""
     both = with_file(commands(trial.word, title, reference), trial.file)
     here, there = (answer(command, trial.data) for command in both)
     if is_as_described(trial.here, *here, b'') and is_as_described(trial.there, *there, here[1]):
@@ -340,7 +350,7 @@ def wrong(title, trial, reference):
 
 
 def wrong_answers(reference):
-    """All answers of the library that differ from their rows."""
+    """Yields the title and both answers of each row of `ASKED` whose answers are not as it says."""
     all_here = answers_here([row.case for row in ASKED.values()])
     for (title, row), here in zip(ASKED.items(), all_here):
         there = answers_there(reference, row.case)

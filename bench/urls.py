@@ -1,7 +1,8 @@
-"""What the scripts know of URLs, after the URL Standard, and of paths as URLs. Stated here anew; nothing of it is
-taken from the programs that are compared.
+"""The rules of URLs, as the URL Standard states them, and of paths as URLs. The code follows these rules, and takes
+nothing from the programs that are compared.
 
-Hosts are ASCII domains without a number at the end; the result for others is unspecified, `Open`.
+The result is left open, and `Open` is raised, for hosts that begin with `[` and for hosts that are not ASCII. In
+special schemes the same holds for hosts that contain `%`, and for hosts whose last label is a number.
 """
 import collections, re
 from urllib.parse import unquote_to_bytes
@@ -14,7 +15,7 @@ DRIVE_FIRST = re.compile(r'[A-Za-z][:|](?:[/\\]|\Z)')
 ONE_DOT, TWO_DOTS = re.compile(r'(?:\.|%2e)', re.I), re.compile(r'(?:\.|%2e){2}', re.I)
 UNRESERVED = frozenset(b'ABCDEFGHIJKLMNOPQRSTUVWXYZabcdefghijklmnopqrstuvwxyz0123456789-._~')
 
-# the bytes that a part of a URL escapes, beside all below the space and above `~`
+# the bytes that are escaped in each part of a URL; bytes below the space and above `~` are always escaped
 FRAGMENT = frozenset(b' "<>`')
 PATH = FRAGMENT | frozenset(b'#?^{}')
 USER = PATH | frozenset(b'/:;=@[\\]|')
@@ -23,16 +24,16 @@ OPAQUE = frozenset()
 FORBIDDEN = re.compile(r'[\0-\x20#%/:<>?@\[\\\]^|\x7f]')
 FORBIDDEN_OPAQUE = re.compile(r'[\0\t\n\r #/:<>?@\[\\\]^|]')
 
-# The path is a list of segments, or a text where it is opaque. The host is None where there is none.
+# The path is a list of segments, or a text if it is opaque. The host is None if the URL has no host.
 Url = collections.namedtuple('Url', 'scheme user password host port path query fragment')
 
 
 class Refused(Exception):
-    """The text is no URL."""
+    """The text is not a valid URL."""
 
 
 class Open(Exception):
-    """The result for such a host is unspecified."""
+    """The result for the host is left open."""
 
 
 def escape(text, escapes):
@@ -44,7 +45,7 @@ def is_special(scheme):
 
 
 def cut_at(text, mark):
-    """The text before a mark, and that after it, None where there is no mark."""
+    """The text before the first mark, and the text after it. If there is no mark: all text, and None."""
     before, found, after = text.partition(mark)
     return before, after if found else None
 
@@ -72,13 +73,13 @@ def port_of(scheme, text):
 
 
 def apart(scheme, text):
-    """The text up to the first slash, and the rest; in special schemes a backslash counts as a slash."""
+    """The text before the first slash, and the rest. In special schemes a backslash counts as a slash."""
     at = re.search(r'[/\\]' if is_special(scheme) else '/', text)
     return (text[:at.start()], text[at.start():]) if at else (text, '')
 
 
 def with_authority(scheme, text, escapes):
-    """A URL of what follows the two slashes."""
+    """Parses what follows the two slashes: an authority and a path."""
     authority, rest = apart(scheme, text)
     user, found, address = authority.rpartition('@')
     name, password = cut_at(user, ':')
@@ -94,14 +95,14 @@ def with_authority(scheme, text, escapes):
 
 
 def shorten_path(scheme, path):
-    """A path without its last segment, unless that is the drive letter of a file."""
+    """A path without its last segment. If a `file` path is only a drive letter with a colon, it is not changed."""
     if scheme == 'file' and len(path) == 1 and DRIVE.fullmatch(path[0]) and path[0][1] == ':':
         return path
     return path[:-1]
 
 
 def with_segments(scheme, path, text, escapes):
-    """A path after the segments of a text."""
+    """A path to which the segments of a text are appended: `.` and `..` are resolved, other segments are escaped."""
     parts = re.split(r'[/\\]' if is_special(scheme) else '/', text)
     for count, part in enumerate(parts, 1):
         if TWO_DOTS.fullmatch(part):
@@ -148,7 +149,7 @@ def relative_parsed(base, text, escapes):
 
 
 def body_parsed(scheme, base, text, escapes):
-    """A URL up to its path. The base has the same scheme, or there is none."""
+    """Parses a URL up to its path. `base` has the same scheme, or is None."""
     if scheme == 'file':
         return file_parsed(base, text, escapes)
     if base and (not is_special(scheme) or text[:2] != '//'):
@@ -162,7 +163,8 @@ def body_parsed(scheme, base, text, escapes):
 
 
 def parse_url(text, base=None, escapes=PATH):
-    """The URL of a text, which may be relative to that of a base; what refuses it is `Refused`."""
+    """Parses a URL, which may be relative to the URL `base`. `escapes` are the bytes that are escaped in the segments
+    of its path. Raises `Refused` if the text is not a valid URL."""
     text, fragment = cut_at(re.sub('[\t\n\r]', '', text.strip(EDGES)), '#')
     found = SCHEME.match(text)
     text, query = cut_at(text[found.end():] if found else text, '?')
@@ -199,7 +201,7 @@ def text_of(url):
 
 
 def url_of_path(path, is_folder=False):
-    """The URL of an absolute path, None for any other."""
+    """The `file` URL of an absolute path, or None for any other path."""
     if not path.startswith('/'):
         return None
     parts = [part for part in path.split('/') if part not in ('', '.')]

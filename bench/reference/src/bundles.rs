@@ -1,6 +1,6 @@
 //! What the crate answers about RAM bundles: a line for each question.
 
-use crate::references::{bytes_of, named, text_of};
+use crate::references::{bytes_of, error_text, text_of};
 use crate::views::as_line;
 use crate::Output;
 use serde_json::{json, Value};
@@ -20,7 +20,7 @@ const MOST_ITEMS: usize = 20;
 fn error_value(error: &Error) -> Value {
     match error {
         Error::Scroll(_) => json!("Scroll"),
-        error => json!(named(error)),
+        error => json!(error_text(error)),
     }
 }
 

@@ -60,7 +60,7 @@ fn bytes() -> io::Result<Vec<u8>> {
     Ok(bytes)
 }
 
-fn decoded(form: Form) -> Result<DecodedMap> {
+fn read_map(form: Form) -> Result<DecodedMap> {
     match form {
         Form::Slice => decode_slice(&bytes()?),
         Form::Stream | Form::Compared => decode(input()?),
@@ -237,7 +237,7 @@ fn write_built(pairs: &[Value], output: &mut Output) -> Result<()> {
     Ok(writeln!(output)?)
 }
 
-fn rewritten(map: Single) -> Result<DecodedMap> {
+fn rewrite_single(map: Single) -> Result<DecodedMap> {
     let options = RewriteOptions::default();
     Ok(match map {
         Single::Regular(map) => DecodedMap::Regular(map.rewrite(&options)?),
@@ -245,7 +245,7 @@ fn rewritten(map: Single) -> Result<DecodedMap> {
     })
 }
 
-fn shifted(mut map: SourceMapIndex, rows: u32) -> Result<DecodedMap> {
+fn shift(mut map: SourceMapIndex, rows: u32) -> Result<DecodedMap> {
     if map.adjust_sections_offset_rows(rows) {
         Ok(DecodedMap::Index(map))
     } else {
@@ -254,7 +254,7 @@ fn shifted(mut map: SourceMapIndex, rows: u32) -> Result<DecodedMap> {
 }
 
 /// The map adjusted by the one in a file.
-fn composed(map: DecodedMap, file: &str) -> Result<DecodedMap> {
+fn compose(map: DecodedMap, file: &str) -> Result<DecodedMap> {
     let adjustment = decode_slice(&fs::read(file)?)?;
     let (mut map, adjustment) = (regular(map)?, regular(adjustment)?);
     map.adjust_mappings(&adjustment);
@@ -272,7 +272,7 @@ fn questions_in(file: &str) -> Result<Vec<Value>> {
 
 /// Writes what the words ask for. None if they ask for nothing.
 fn answer(form: Form, words: &[&str], output: &mut Output) -> Option<Result<()>> {
-    let map = || decoded(form);
+    let map = || read_map(form);
     Some(match *words {
         ["lookup", line, column] => {
             let (line, column) = (line.parse().ok()?, column.parse().ok()?);
@@ -283,19 +283,19 @@ fn answer(form: Form, words: &[&str], output: &mut Output) -> Option<Result<()>>
             .and_then(|map| Ok(write_tokens(&map, output)?)),
         ["rewrite"] => map()
             .and_then(single)
-            .and_then(rewritten)
+            .and_then(rewrite_single)
             .and_then(|map| write_json(&map, form, output)),
         ["flatten"] => map()
             .and_then(index)
             .and_then(|map| write_json(&DecodedMap::Regular(map.flatten()?), form, output)),
         ["compose", file] => map()
-            .and_then(|map| composed(map, file))
+            .and_then(|map| compose(map, file))
             .and_then(|map| write_json(&map, form, output)),
         ["shift", rows] => {
             let rows = rows.parse().ok()?;
             map()
                 .and_then(index)
-                .and_then(|map| shifted(map, rows))
+                .and_then(|map| shift(map, rows))
                 .and_then(|map| write_json(&map, form, output))
         }
         _ if form != Form::Compared => return None,
@@ -352,7 +352,7 @@ fn answer(form: Form, words: &[&str], output: &mut Output) -> Option<Result<()>>
             let (operation, rounds) = (Operation::named(operation)?, rounds.parse().ok()?);
             let sum = bytes()
                 .map_err(Error::from)
-                .and_then(|bytes| operation.repeated(&bytes, rounds));
+                .and_then(|bytes| operation.repeat(&bytes, rounds));
             sum.and_then(|sum| Ok(writeln!(output, "{sum}")?))
         }
         _ => return None,

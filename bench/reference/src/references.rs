@@ -25,29 +25,29 @@ pub fn text_of(bytes: &[u8]) -> String {
 }
 
 /// An error by its text, one of input by its kind.
-pub fn named(error: &Error) -> String {
+pub fn error_text(error: &Error) -> String {
     match error {
         Error::Io(cause) => format!("{:?}", cause.kind()),
         error => error.to_string(),
     }
 }
 
-fn located(found: Result<Option<SourceMapRef>>) -> Value {
+fn reference_value(found: Result<Option<SourceMapRef>>) -> Value {
     match found {
         Ok(None) => Value::Null,
         Ok(Some(SourceMapRef::Ref(url))) => json!(["regular", url]),
         Ok(Some(SourceMapRef::LegacyRef(url))) => json!(["legacy", url]),
-        Err(error) => json!(named(&error)),
+        Err(error) => json!(error_text(&error)),
     }
 }
 
-fn embedded(map: Result<Option<DecodedMap>>) -> Value {
+fn embedded_value(map: Result<Option<DecodedMap>>) -> Value {
     match map {
         Ok(None) => Value::Null,
         Ok(Some(DecodedMap::Regular(_))) => json!(["regular"]),
         Ok(Some(DecodedMap::Index(_))) => json!(["index"]),
         Ok(Some(DecodedMap::Hermes(_))) => json!(["hermes"]),
-        Err(error) => json!(named(&error)),
+        Err(error) => json!(error_text(&error)),
     }
 }
 
@@ -64,12 +64,12 @@ fn builder_of(question: &Value) -> SourceMapBuilder {
 }
 
 /// How many contents are loaded, and all contents then.
-fn loaded(question: &Value) -> Value {
+fn load_value(question: &Value) -> Value {
     let mut builder = builder_of(question);
     let base = question[2].as_str().map(Path::new);
     let mut answers = vec![match builder.load_local_source_contents(base) {
         Ok(count) => json!(count),
-        Err(error) => json!(named(&error)),
+        Err(error) => json!(error_text(&error)),
     }];
     let ids = (0..).take_while(|&id| builder.get_source(id).is_some());
     answers.extend(ids.map(|id| json!(builder.get_source_contents(id))));
@@ -77,12 +77,12 @@ fn loaded(question: &Value) -> Value {
 }
 
 /// The sources and the contents of a map that is rewritten.
-fn rewritten(question: &Value, options: &RewriteOptions<'_>) -> Value {
+fn rewrite_value(question: &Value, options: &RewriteOptions<'_>) -> Value {
     match builder_of(question).into_sourcemap().rewrite(options) {
         Ok(map) => (0..map.get_source_count())
             .map(|id| json!([map.get_source(id), map.get_source_contents(id)]))
             .collect(),
-        Err(error) => json!(named(&error)),
+        Err(error) => json!(error_text(&error)),
     }
 }
 
@@ -90,7 +90,7 @@ fn rewritten(question: &Value, options: &RewriteOptions<'_>) -> Value {
 fn within(folder: &str, answer: impl FnOnce() -> Value) -> Value {
     match env::set_current_dir(folder) {
         Ok(()) => answer(),
-        Err(error) => json!(named(&error.into())),
+        Err(error) => json!(error_text(&error.into())),
     }
 }
 
@@ -102,36 +102,36 @@ fn answer(question: &Value) -> Value {
         "locate" => {
             let bytes = bytes_of(text(1));
             json!([
-                located(locate_sourcemap_reference_slice(&bytes)),
-                located(locate_sourcemap_reference(bytes.as_slice())),
+                reference_value(locate_sourcemap_reference_slice(&bytes)),
+                reference_value(locate_sourcemap_reference(bytes.as_slice())),
             ])
         }
-        "view" => located(SourceView::from_string(text(1).to_owned()).sourcemap_reference()),
+        "view" => reference_value(SourceView::from_string(text(1).to_owned()).sourcemap_reference()),
         "resolve" => json!(reference().resolve(text(2))),
         "path" => json!(reference()
             .resolve_path(Path::new(text(2)))
             .map(|path| text_of(path.as_os_str().as_bytes()))),
-        "embedded" => embedded(reference().get_embedded_sourcemap()),
+        "embedded" => embedded_value(reference().get_embedded_sourcemap()),
         "relative" => json!(make_relative_path(text(1), text(2))),
         "map" => {
             let bytes = bytes_of(text(1));
             json!([is_sourcemap_slice(&bytes), is_sourcemap(bytes.as_slice())])
         }
-        "load" => within(text(1), || loaded(question)),
+        "load" => within(text(1), || load_value(question)),
         "rewrite" => within(text(1), || {
             let options = RewriteOptions {
                 load_local_source_contents: true,
                 base_path: question[2].as_str().map(Path::new),
                 ..RewriteOptions::default()
             };
-            rewritten(question, &options)
+            rewrite_value(question, &options)
         }),
         "cut" => {
             let options = RewriteOptions {
                 strip_prefixes: &["~"],
                 ..RewriteOptions::default()
             };
-            rewritten(question, &options)
+            rewrite_value(question, &options)
         }
         _ => Value::Null,
     }

@@ -30,7 +30,7 @@ pub enum Operation {
     Split,
 }
 
-fn mixed(sum: u32, number: u32) -> u32 {
+fn mix(sum: u32, number: u32) -> u32 {
     sum.wrapping_mul(31).wrapping_add(number)
 }
 
@@ -102,13 +102,13 @@ impl Operation {
     }
 
     /// The checksum of so many rounds on the map or the text in these bytes.
-    pub fn repeated(self, bytes: &[u8], times: u32) -> Result<u32> {
+    pub fn repeat(self, bytes: &[u8], times: u32) -> Result<u32> {
         let map = || decode_slice(bytes);
         let regular_map = || map().and_then(regular);
         match self {
-            Operation::Decode => rounds(times, |sum| Ok(mixed(sum, count(&map()?)))),
+            Operation::Decode => rounds(times, |sum| Ok(mix(sum, count(&map()?)))),
             Operation::DecodeReader => {
-                rounds(times, |sum| Ok(mixed(sum, count(&decode(bytes)?))))
+                rounds(times, |sum| Ok(mix(sum, count(&decode(bytes)?))))
             }
             Operation::Lookup => {
                 let positions = drawn_positions(&*map().and_then(flat)?);
@@ -117,7 +117,7 @@ impl Operation {
                     let answers = positions
                         .iter()
                         .map(|&(line, column)| worth(map.lookup_token(line, column)));
-                    Ok(answers.fold(sum, mixed))
+                    Ok(answers.fold(sum, mix))
                 })
             }
             Operation::Tokens => {
@@ -126,7 +126,7 @@ impl Operation {
                     Ok(map
                         .tokens()
                         .map(|token| worth(Some(token)))
-                        .fold(sum, mixed))
+                        .fold(sum, mix))
                 })
             }
             Operation::Encode => {
@@ -134,14 +134,14 @@ impl Operation {
                 rounds(times, |sum| {
                     let mut text = Vec::new();
                     map.to_writer(&mut text)?;
-                    Ok(mixed(sum, short(text.len())))
+                    Ok(mix(sum, short(text.len())))
                 })
             }
             Operation::Rewrite => {
                 let map = regular_map()?;
                 rounds(times, |sum| {
                     let new = map.clone().rewrite(&RewriteOptions::default())?;
-                    Ok(mixed(sum, new.get_source_count()))
+                    Ok(mix(sum, new.get_source_count()))
                 })
             }
             Operation::Compose => {
@@ -151,13 +151,13 @@ impl Operation {
                 rounds(times, |sum| {
                     let mut copy = map.clone();
                     copy.adjust_mappings(&adjustment);
-                    Ok(mixed(sum, copy.get_token_count()))
+                    Ok(mix(sum, copy.get_token_count()))
                 })
             }
             Operation::Flatten => {
                 let map = map().and_then(index)?;
                 rounds(times, |sum| {
-                    Ok(mixed(sum, map.flatten()?.get_token_count()))
+                    Ok(mix(sum, map.flatten()?.get_token_count()))
                 })
             }
             Operation::Lines => {
@@ -165,7 +165,7 @@ impl Operation {
                 let text: Arc<str> = text_of(bytes)?.into();
                 rounds(times, |sum| {
                     let view = SourceView::new(Arc::clone(&text));
-                    Ok(view.lines().map(|line| short(line.len())).fold(sum, mixed))
+                    Ok(view.lines().map(|line| short(line.len())).fold(sum, mix))
                 })
             }
             Operation::Names => {
@@ -178,7 +178,7 @@ impl Operation {
                     });
                     Ok(names
                         .map(|name| name.map_or(0, |name| short(name.len() + 1)))
-                        .fold(sum, mixed))
+                        .fold(sum, mix))
                 })
             }
             Operation::Split => {
@@ -189,7 +189,7 @@ impl Operation {
                 rounds(times, |sum| {
                     split_ram_bundle(&bundle, &map)?.try_fold(sum, |sum, item| {
                         let (_, view, map) = item?;
-                        Ok(mixed(mixed(sum, short(view.source().len())), map.get_source_count()))
+                        Ok(mix(mix(sum, short(view.source().len())), map.get_source_count()))
                     })
                 })
             }

@@ -33,7 +33,7 @@ pub fn write_names(
 }
 
 /// A line by its length in bytes and a sum of them, since lines may be long.
-fn summed(line: &str) -> Value {
+fn line_sum(line: &str) -> Value {
     let sum = line.bytes().fold(0u32, |sum, byte| {
         sum.wrapping_mul(31).wrapping_add(u32::from(byte))
     });
@@ -48,7 +48,7 @@ pub fn write_slices(view: &SourceView, questions: &[Value], output: &mut Output)
         let (line, column, span) = (number(question, 0), number(question, 1), number(question, 2));
         let is_line = question.as_array().is_some_and(|parts| parts.len() == 1);
         let answer = || match is_line {
-            true => json!(view.get_line(line).map(summed)),
+            true => json!(view.get_line(line).map(line_sum)),
             false => json!(view.get_line_slice(line, column, span)),
         };
         writeln!(output, "{}", as_line(answer))?;

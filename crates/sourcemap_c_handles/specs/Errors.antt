@@ -133,8 +133,3 @@ Reports failure code old new = ((code ≡ number_of (code_of failure)) × IsOf f
 abbrev pub Finishes : {X : Type 0} → Result X Failure → ℕ → ErrorReport → ErrorReport → Type 0
 Finishes (Ok _) code old new = (code ≡ 0) × (new ≡ old)
 Finishes (Err failure) code old new = Reports failure code old new
-
--- the code of an outcome
-abbrev pub outcome_code : {X : Type 0} → Result X Failure → ℕ
-outcome_code (Ok _) = 0
-outcome_code (Err failure) = number_of (code_of failure)

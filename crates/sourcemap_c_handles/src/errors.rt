@@ -1,7 +1,7 @@
 //! Error codes of the C interface, and reports of errors.
 ghost use Rattle.std.specs.Prelude.{◌≡◌, ◌≤◌, IfOk, length, string_bytes};
 ghost use Rattle.sourcemap_errors.specs.declared.errors.Error.TheVariants.{OutOfMemory};
-ghost use Rattle.sourcemap_c_handles.specs.Errors.{Finishes, IsWritten, Reports, error_code, error_numbers, failure_numbers, one_number, outcome_code, over};
+ghost use Rattle.sourcemap_c_handles.specs.Errors.{Finishes, IsWritten, Reports, error_code, error_numbers, failure_numbers, one_number, over};
 ghost use Rattle.sourcemap_c_handles.specs.declared.errors.Failure.TheVariants.{Library};
 
 use sourcemap_errors::errors::{Error, JsonFault};
@@ -259,15 +259,5 @@ pub fn finish(alloc: Global, outcome: Outcome<()>, to: &mut ErrorReport) -> u32
     match outcome {
         Ok(()) => Code::Ok.number(),
         Err(failure) => report(alloc, &failure, to),
-    }
-}
-
-/// Returns 0 for success, otherwise the code of the failure. Writes no report.
-pub fn code_of(outcome: &Outcome<()>) -> u32
-    ensures { result ≡ outcome_code outcome.now }
-{
-    match outcome {
-        Ok(()) => Code::Ok.number(),
-        Err(failure) => failure.code().number(),
     }
 }

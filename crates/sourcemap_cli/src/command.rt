@@ -91,8 +91,9 @@ pub fn parse_words(alloc: Global, words: &[String]) -> Result<Option<Command>>
     }
 }
 
-// The same words never parse to two commands.
-fn words_are_determined()
+/// A law: the same words ask for at most one command. Two commands that differ only in the capacity
+/// of a path count as the same.
+pub fn words_are_determined()
     ensures { (words : List (List ℕ)) (a b : _) → AskFor words a → AskFor words b
         → IsSameCommand a b }
 {}

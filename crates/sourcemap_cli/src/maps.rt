@@ -33,7 +33,7 @@ fn as_regular(map: &DecodedMap) -> Result<&SourceMap>
 }
 
 /// Returns the index map inside, or `IncompatibleSourceMap` for a map of another kind.
-pub fn into_index(map: DecodedMap) -> Result<SourceMapIndex>
+pub(crate) fn into_index(map: DecodedMap) -> Result<SourceMapIndex>
     ensures { MatchResult result
         (λ index. map_tree map ≡ index_tree (index_value index))
         (λ e. (e ≡ IncompatibleSourceMap) × IsNotIndex (map_tree map)) }
@@ -47,7 +47,7 @@ pub fn into_index(map: DecodedMap) -> Result<SourceMapIndex>
 /// Adjusts a regular map by another one, as `SourceMap::adjust_mappings` does, and returns the
 /// adjusted map. Returns the errors of `adjust_mappings`, and `IncompatibleSourceMap` if either map
 /// is not regular.
-pub fn adjust(map: DecodedMap, adjustment: &DecodedMap) -> Result<SourceMap>
+pub(crate) fn adjust(map: DecodedMap, adjustment: &DecodedMap) -> Result<SourceMap>
     ensures { Gives (λ m. m) result (adjusted_by (map_tree map) (Some (map_tree adjustment.now))) }
 {
     let mut map = into_regular(map)?;

@@ -120,7 +120,11 @@ fn shifted_json(alloc: Global, map: DecodedMap, rows: u32) -> Result<String>
 
 /// Returns the JSON text of a map adjusted by another one, and a newline. Returns the errors of
 /// `apply` for `Compose`.
-pub fn adjusted_json(alloc: Global, map: DecodedMap, adjustment: DecodedMap) -> Result<String>
+pub(crate) fn adjusted_json(
+    alloc: Global,
+    map: DecodedMap,
+    adjustment: DecodedMap,
+) -> Result<String>
     ensures { (path : _) → IsAnswer string_bytes
         (Returns (Compose path) (map_tree map) (Some (map_tree adjustment))) result }
 {

@@ -1,11 +1,11 @@
 //! Copies maps of any kind, index maps, and sections.
-ghost use Rattle.std.specs.Prelude.{Ok, map, option_map, string_bytes};
+ghost use Rattle.std.specs.Prelude.{Ok, map, option_map};
 ghost use Rattle.sourcemap_errors.specs.Answer.{Gives};
 ghost use Rattle.sourcemap_index.specs.Family.{index_value, map_tree, section_value};
 
 use crate::family::{DecodedMap, SourceMapIndex, SourceMapSection};
 use sourcemap_errors::errors::Result;
-use sourcemap_map_parts::text_lists::{copy_string, copy_texts};
+use sourcemap_map_parts::text_lists::{copy_optional_texts, copy_string};
 use std::alloc::Global;
 
 pub(crate) fn copy_lines(
@@ -21,16 +21,6 @@ pub(crate) fn copy_lines(
             copies.extend_from_slice(lines.as_slice())?;
             Ok(Some(copies))
         }
-    }
-}
-
-pub(crate) fn copy_paths(alloc: Global, paths: &Option<Vec<String>>) -> Result<Option<Vec<String>>>
-    ensures { Gives (option_map (λ v. map string_bytes v.items)) result
-        (Ok (option_map (λ v. map string_bytes v.items) paths.now)) }
-{
-    match paths {
-        None => Ok(None),
-        Some(paths) => Ok(Some(copy_texts(alloc, paths.as_slice())?)),
     }
 }
 
@@ -76,7 +66,7 @@ impl SourceMapIndex {
         let file = copy_string(self.alloc, &self.file)?;
         let sections = copy_sections(self.alloc, &self.sections)?;
         let x_facebook_offsets = copy_lines(self.alloc, &self.x_facebook_offsets)?;
-        let x_metro_module_paths = copy_paths(self.alloc, &self.x_metro_module_paths)?;
+        let x_metro_module_paths = copy_optional_texts(self.alloc, &self.x_metro_module_paths)?;
         Ok(SourceMapIndex {
             file,
             debug_id: self.debug_id,

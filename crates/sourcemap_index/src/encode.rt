@@ -12,13 +12,13 @@ ghost use Rattle.sourcemap_index_model.specs.MapTree.{index_tree, sections_from 
 ghost use Rattle.sourcemap_index.specs.Encode.{MapWrites, SectionsWrite, SectionWrites};
 ghost use Rattle.sourcemap_index.specs.Family.{index_value, map_tree, section_value};
 
-use crate::clone::{copy_lines, copy_paths};
+use crate::clone::copy_lines;
 use crate::family::{DecodedMap, SourceMapIndex, SourceMapSection};
 use serde_json::Value;
 use sourcemap_errors::errors::Result;
 use sourcemap_headers::debug_id::DebugId;
 use sourcemap_map_conversions::to_record::checked_id;
-use sourcemap_map_parts::text_lists::copy_string;
+use sourcemap_map_parts::text_lists::{copy_optional_texts, copy_string};
 use sourcemap_map_regular::encode::Encodable;
 use sourcemap_map_regular::write::encode;
 use sourcemap_records::jsontypes::{RawSection, RawSectionOffset, RawSourceMap};
@@ -205,7 +205,7 @@ fn copy_with_sections(index: &SourceMapIndex, sections: Vec<RawSection>) -> Resu
     let alloc = index.alloc;
     let file = copy_string(alloc, &index.file)?;
     let offsets = copy_lines(alloc, &index.x_facebook_offsets)?;
-    let paths = copy_paths(alloc, &index.x_metro_module_paths)?;
+    let paths = copy_optional_texts(alloc, &index.x_metro_module_paths)?;
     Ok(record_with(file, index.debug_id, offsets, paths, sections))
 }
 

@@ -9,7 +9,9 @@ ghost use Rattle.sourcemap_errors.specs.declared.errors.Error.TheVariants.{OutOf
 ghost use Rattle.sourcemap_texts.specs.Texts.{texts_of};
 ghost use Rattle.sourcemap_map_parts.specs.Sources.{is_absolute_source, without_slash, resolved_against, resolved_texts, same_sources, same_sources_equiv};
 
-use crate::text_lists::{copy_string, copy_texts, same_optional_texts, same_texts};
+use crate::text_lists::{
+    copy_optional_texts, copy_string, copy_texts, same_optional_texts, same_texts,
+};
 use sourcemap_errors::errors::Result;
 use sourcemap_texts::copies::text_or_empty;
 use std::alloc::Global;
@@ -192,7 +194,7 @@ impl Sources {
         let alloc = *self.texts.allocator();
         let root = copy_string(alloc, &self.root)?;
         let texts = copy_texts(alloc, self.texts.as_slice())?;
-        let resolved = copy_resolved(alloc, &self.resolved)?;
+        let resolved = copy_optional_texts(alloc, &self.resolved)?;
         Ok(Sources {
             root,
             texts,
@@ -287,15 +289,6 @@ fn resolve_if_rooted(
         return Ok(None);
     }
     Ok(Some(resolve_all(alloc, root, sources.as_slice())?))
-}
-
-fn copy_resolved(alloc: Global, resolved_list: &Option<Vec<String>>) -> Result<Option<Vec<String>>>
-    ensures { Gives (option_map texts_of) result (Ok (option_map texts_of resolved_list.now)) }
-{
-    match resolved_list {
-        None => Ok(None),
-        Some(texts) => Ok(Some(copy_texts(alloc, texts.as_slice())?)),
-    }
 }
 
 fn put_text(texts: &mut Vec<String>, id: usize, text: String)

@@ -21,6 +21,19 @@ pub fn copy_texts(alloc: Global, texts: &[String]) -> Result<Vec<String>>
     Ok(copies)
 }
 
+/// Copies all texts of the list, if there is a list. The only error is `OutOfMemory`.
+pub fn copy_optional_texts(
+    alloc: Global,
+    texts: &Option<Vec<String>>,
+) -> Result<Option<Vec<String>>>
+    ensures { Gives (option_map texts_of) result (Ok (option_map texts_of texts.now)) }
+{
+    match texts {
+        None => Ok(None),
+        Some(texts) => Ok(Some(copy_texts(alloc, texts.as_slice())?)),
+    }
+}
+
 /// Copies the text, if there is one. The only error is `OutOfMemory`.
 pub fn copy_string(alloc: Global, text: &Option<String>) -> Result<Option<String>>
     ensures { Gives (option_map string_bytes) result (Ok (option_map string_bytes text.now)) }

@@ -4,8 +4,9 @@ ghost use Rattle.std.specs.Prelude.{◌≡◌, map, option_map};
 ghost use Rattle.sourcemap_records.specs.Keys.{groups_view};
 ghost use Rattle.sourcemap_records.specs.Jsontypes.{flat, section, sections_from, tree, tree_with};
 
-use crate::jsontypes::{DebugId, FacebookSources, RawSection, RawSourceMap};
+use crate::jsontypes::{FacebookSources, RawSection, RawSourceMap};
 use serde_json::Value;
+use sourcemap_headers::debug_id::DebugId;
 
 #[derive(Drop)]
 pub(crate) struct RawFileKeys {
