@@ -92,9 +92,6 @@ stands_less a b = is_lt (position_cmp (destination a) (destination b))
 rising : (tokens : List RawToken) → AreInOrder tokens → Rises stands_less tokens
 rising tokens up = Rises-from_sorted stands_less (ranks_by position_cmp_total destination) tokens up
 
-pub in_order-filter : (p : RawToken → Bool) (tokens : List RawToken) → AreInOrder tokens → AreInOrder (filter p tokens)
-in_order-filter p tokens up = sorted_from_Rises stands_less (filter p tokens) (rises-filter stands_less p tokens (rising tokens up))
-
 less-moved : (line : ℕ) (sources names : List ℕ) (a b : RawToken) → line ≤ a.dst_line → line ≤ b.dst_line
     → stands_less (moved_by line sources names a) (moved_by line sources names b) ≡ stands_less a b
 less-moved line sources names a b la lb = ap (λ o. is_lt (ordering_then o (nat_cmp a.dst_col b.dst_col))) (cmp-relative_position a.dst_line b.dst_line line la lb)

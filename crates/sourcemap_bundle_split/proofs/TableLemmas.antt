@@ -62,9 +62,6 @@ number_past count order id below past = by_cases (number_of order id) refl
     by_cases None is = is
     by_cases (Some n) is = let inside : id < count = below id (any-number order id n is) in absurd (omega arith)
 
-pub with_id-past : (count : ℕ) (ids : List ℕ) (id : ℕ) → count ≤ id → with_id count ids id ≡ ids
-with_id-past count ids id past = let no : nat_lt id count ≡ false = grind (arith, nat_tests, past) in rw no refl
-
 pub with_id-known : (count : ℕ) (ids : List ℕ) (id n : ℕ) → number_of ids id ≡ Some n → with_id count ids id ≡ ids
 with_id-known count ids id n known = by_cases (nat_lt id count) refl
   where

@@ -100,10 +100,6 @@ none_adjusted (leaf (regular m)) = refl
 none_adjusted (leaf (hermes h)) = refl
 none_adjusted (index parts ss) = refl
 
--- for `compose` without an adjustment, `Returns` allows the error `IncompatibleSourceMap`
-pub compose_without_adjustment : (path : String Global) (t : MapTree) → Returns (Compose path) t None (Err IncompatibleSourceMap)
-compose_without_adjustment path t = inr (sym (none_adjusted t))
-
 -- only `compose` takes a second map
 pub says_of_two : {X : Type 0} (x : X) (command : Command) (t u : MapTree) (r : Result (String Global) Error)
     → TakesAdjustment command (Some x)

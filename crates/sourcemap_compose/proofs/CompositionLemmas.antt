@@ -6,7 +6,7 @@ use Rattle.std.proofs.lemmas.Bool.Decides.{nat_tests}
 use Rattle.sourcemap_tokens.specs.declared.tokens.RawToken.{RawToken}
 use Rattle.sourcemap_errors.specs.declared.errors.Error.{Error}
 use Rattle.sourcemap_errors.specs.declared.errors.Error.TheVariants.{IncompatibleSourceMap}
-use Rattle.sourcemap_tokens.specs.Tokens.{destination, in_order, position_cmp, sorted_by}
+use Rattle.sourcemap_tokens.specs.Tokens.{destination, position_cmp, sorted_by}
 use Rattle.sourcemap_compose.specs.declared.stretches.Stretch.{Stretch}
 use Rattle.sourcemap_compose.specs.declared.stretches.Side.TheVariants.{Original, Adjustment}
 use Rattle.sourcemap_compose.specs.Stretches.{is_before, line_end, source, stretches, stretches_by}
@@ -174,10 +174,3 @@ module _ (original adjustment originals adjustments : List RawToken)
   composition-refused e passes is =
       let passes' : list_any overflows_column (composed_all (stretches_by Adjustment adjustment) (stretches_by Original original)) ≡ true = sym (ap (list_any overflows_column) same_all) ∙ passes in
       rw (passes', is) refl
-
-  pub composition-given : (tokens : List RawToken) → tokens ≡ composed_all (stretches source adjustments) (stretches destination originals)
-      → list_any overflows_column (composed_all (stretches source adjustments) (stretches destination originals)) ≡ false
-      → composition original adjustment ≡ Ok (in_order tokens)
-  composition-given tokens are within =
-      let within' : list_any overflows_column (composed_all (stretches_by Adjustment adjustment) (stretches_by Original original)) ≡ false = sym (ap (list_any overflows_column) same_all) ∙ within in
-      rw within' (ap (λ ts. Ok (in_order ts)) (sym (are ∙ same_all)))

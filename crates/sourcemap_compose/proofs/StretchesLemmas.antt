@@ -1,5 +1,5 @@
 -- The order of positions, and the stretches of a sorted list: no stretch starts before an earlier stretch ends.
-use Rattle.std.proofs.Common.{◌≡◌, refl, sym, ap, subst, ◌∙◌, ℕ, zero, suc, ◌+◌, ◌<◌, ◌≤◌, List, [], ◌∷◌, length, drop, Bool, true, false, Some, None, Option, slice_get, IsSortedByKey, arith, inl, inr, ◌⊎◌, add-one}
+use Rattle.std.proofs.Common.{◌≡◌, refl, sym, ap, subst, ◌∙◌, ℕ, zero, suc, ◌+◌, ◌≤◌, List, [], ◌∷◌, length, drop, Bool, true, false, Some, None, Option, slice_get, IsSortedByKey, arith, inl, inr, add-one}
 use Rattle.std.specs.List.{AllByRecursion}
 use Rattle.std.specs.Ordering.{is_lt}
 use Rattle.std.proofs.lemmas.Bool.{cases_Bool}
@@ -15,18 +15,6 @@ use Rattle.sourcemap_compose.specs.declared.stretches.Stretch.{Stretch}
 use Rattle.sourcemap_compose.specs.Stretches.{earlier, end_before, is_before, line_end, stretches}
 
 -- Positions.
-
-pub before-cases : (p q : ℕ × ℕ) → is_before p q ≡ true → (p.0 < q.0) ⊎ ((p.0 ≡ q.0) × (p.1 < q.1))
-before-cases p q before = grind (arith, nat_tests)
-
-pub not_before-cases : (p q : ℕ × ℕ) → is_before p q ≡ false → (q.0 < p.0) ⊎ ((q.0 ≡ p.0) × (q.1 ≤ p.1))
-not_before-cases p q after = grind (arith, nat_tests)
-
-pub before-from_line : (p q : ℕ × ℕ) → p.0 < q.0 → is_before p q ≡ true
-before-from_line p q less = grind (arith, nat_tests)
-
-pub before-from_column : (p q : ℕ × ℕ) → p.0 ≡ q.0 → p.1 < q.1 → is_before p q ≡ true
-before-from_column p q same less = grind (arith, nat_tests)
 
 -- laws of the order, on at most three positions
 pub before-chain : (p q r : ℕ × ℕ) → is_before p q ≡ false → is_before q r ≡ false → is_before p r ≡ false

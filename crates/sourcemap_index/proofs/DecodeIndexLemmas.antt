@@ -113,16 +113,9 @@ module _ (fields : Fields) where
   regular_error None e there h = inr h
   regular_error (Some entries) e there h = cc
 
-  pub hermes_decodes : (h : HermesValue) → HermesDecodes fields (Ok h) → LeafDecodes fields fields.x_facebook_sources (Ok (leaf (hermes h)))
-  hermes_decodes h k = hermes_made fields.x_facebook_sources h k
-
   pub hermes_refused : (e : Error) → is_some fields.x_facebook_sources ≡ true → UnlessMemory e (HermesDecodes fields (Err e))
       → UnlessMemory e (LeafDecodes fields fields.x_facebook_sources (Err e))
   hermes_refused e there h = UnlessMemory-weaker e (hermes_error fields.x_facebook_sources e there) h
-
-  pub regular_decodes : (m : MapValue) → is_some fields.x_facebook_sources ≡ false → RecordDecodes fields (Ok m)
-      → LeafDecodes fields fields.x_facebook_sources (Ok (leaf (regular m)))
-  regular_decodes m none h = regular_made fields.x_facebook_sources m none h
 
   pub regular_refused : (e : Error) → is_some fields.x_facebook_sources ≡ false → UnlessMemory e (RecordDecodes fields (Err e))
       → UnlessMemory e (LeafDecodes fields fields.x_facebook_sources (Err e))

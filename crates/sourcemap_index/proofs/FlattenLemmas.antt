@@ -14,13 +14,12 @@ use Rattle.sourcemap_index_model.specs.MapTree.{held, MapTree, MapSection, Index
 use Rattle.sourcemap_tokens.specs.Tokens.{AreInOrder}
 use Rattle.sourcemap_index_model.specs.WellFormed.{HasTokensInOrder}
 use Rattle.sourcemap_index_model.proofs.MapTreeLemmas.{each_section}
-use Rattle.sourcemap_index_model.specs.Flat.{AnswersLike, Piece, flat, FlatAnswer, merged, on_ok, pieces_after, with_piece, unresolved}
+use Rattle.sourcemap_index_model.specs.Flat.{AnswersLike, Piece, flat, FlatAnswer, merged, on_ok, pieces_after, with_piece}
 use Rattle.sourcemap_index_model.specs.Meaning.{meaning}
-use Rattle.sourcemap_index_flatten.specs.Errors.{GivesReason, Refuses}
-use Rattle.sourcemap_index_flatten.specs.Gathering.{Gathers, GathersMore, IsFlat, RefusesFor}
+use Rattle.sourcemap_index_flatten.specs.Errors.{GivesReason}
+use Rattle.sourcemap_index_flatten.specs.Gathering.{Gathers, GathersMore, RefusesFor}
 use Rattle.sourcemap_index_flatten.specs.declared.gathering.Gathering.{Gathering}
-use Rattle.sourcemap_index_flatten.specs.declared.gathering.FlatMap.{FlatMap}
-use Rattle.sourcemap_index.specs.Flatten.{map_added, section_map_added, section_added, AnswersLess, Gathered, IsSectionInOrder, IsFlatOf}
+use Rattle.sourcemap_index.specs.Flatten.{map_added, section_map_added, section_added, AnswersLess, Gathered, IsSectionInOrder}
 use Rattle.sourcemap_index.specs.Family.{section_value}
 use Rattle.sourcemap_index.specs.declared.family.SourceMapSection.{SourceMapSection}
 use Rattle.sourcemap_index.proofs.LookupLemmas.{indexes, indexes_below}
@@ -39,18 +38,6 @@ index_refused v before offset e refused =
 
 pub gathered-more : (due : Result (List Piece) (List ℕ)) (before : List Piece) (piece : Piece) (g : Gathering) → due ≡ with_piece before piece → GathersMore before piece g → Gathered due g
 gathered-more due before piece g is more = (before ++ piece ∷ [], is ∙ more.due, more.gathered)
-
-pub refused-as : (due other : Result (List Piece) (List ℕ)) (e : Error) → due ≡ other → RefusesFor other e → RefusesFor due e
-refused-as due other e is refused = UnlessMemory-weaker e (λ h. (h.0, is ∙ h.1, h.2)) refused
-
--- ---- one section
-
-pub section-filled : (before : List Piece) (s : MapSection) (offset : ℕ × ℕ) (t : MapTree) → s.map ≡ Some t → offset_of s.head ≡ offset → section_added before s ≡ map_added before offset t
-section-filled before s offset t is at = ap (section_map_added before s.head) is ∙ ap (λ o. map_added before o t) at
-
-pub section-hollow : (before : List Piece) (s : MapSection) (url : Option (List ℕ)) (e : Error) → s.map ≡ None → url ≡ s.head.url → Refuses (unresolved url) e → RefusesFor (section_added before s) e
-section-hollow before s url e is same refused =
-    UnlessMemory-weaker e (λ says. (unresolved url, ap (section_map_added before s.head) is ∙ ap (λ u. Err (unresolved u)) (sym same), says)) refused
 
 -- ---- all sections
 
@@ -71,9 +58,6 @@ pieces-next before s rest = by_map s.map
 abbrev pub SoFar : (all rest : List MapSection) → Gathering → Type 0
 SoFar all rest g = (pieces : List Piece) × (pieces_after [] (sections_from all) ≡ pieces_after pieces (sections_from rest)) × Gathers pieces g
 
-pub so_far-none : (all : List MapSection) (g : Gathering) → Gathers [] g → SoFar all all g
-so_far-none all g none = ([], refl, none)
-
 pub so_far-more : (all : List MapSection) (s : MapSection) (rest : List MapSection) (old new : Gathering) → SoFar all (s ∷ rest) old
     → ((before : List Piece) → Gathers before old → Gathered (section_added before s) new) → SoFar all rest new
 so_far-more all s rest old new so_far adds =
@@ -85,9 +69,6 @@ pub so_far-refused : (all : List MapSection) (s : MapSection) (rest : List MapSe
 so_far-refused all s rest old e so_far refuses =
     UnlessMemory-weaker e (λ h. (h.0, so_far.1 ∙ pieces-next so_far.0 s rest ∙ ap (λ r. on_ok r (λ pieces. pieces_after pieces (sections_from rest))) h.1, h.2))
     (refuses so_far.0 so_far.2)
-
-pub flat_of_gathering : (all : List MapSection) (g : Gathering) (f : FlatMap) → SoFar all [] g → ((pieces : List Piece) → Gathers pieces g → IsFlat pieces f) → IsFlatOf (pieces_after [] (sections_from all)) f
-flat_of_gathering all g f so_far finish = (so_far.0, so_far.1, finish so_far.0 so_far.2)
 
 -- ---- the answer
 

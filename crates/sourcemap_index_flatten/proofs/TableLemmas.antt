@@ -6,7 +6,7 @@ use Rattle.std.specs.Str.{bytes_eq}
 use Rattle.std.proofs.lemmas.Bool.{cases_Bool, cases_eq, ltb-true, lt-ltb}
 use Rattle.std.proofs.lemmas.Slice.Eq.{bytes_eq-Decides}
 use Rattle.std.proofs.lemmas.List.Sums.{fold-append}
-use Rattle.std.proofs.lemmas.List.{map_push, map_more, map-set, length_push, map-append, length-map, append-nil, take-append-drop}
+use Rattle.std.proofs.lemmas.List.{map_push, map_more, map-set, length_push, map-append, length-map, take-append-drop}
 use Rattle.std.proofs.lemmas.Option.{slice_get_within, slice_get-map}
 use Rattle.sourcemap_interning.specs.Interner.{id_of, with_text, AreDistinct}
 use Rattle.sourcemap_tokens.specs.Search.{find_last}
@@ -52,9 +52,6 @@ text_id-more entered more text n e = ap (id_of text) (texts-more entered more) �
 
 abbrev pub IsAmong : List TextEntry → TextEntry → Type 0
 IsAmong entered e = IsListedIfAny (texts_entered entered) (Some e.0)
-
-pub among-more : (entered more : List TextEntry) (e : TextEntry) → IsAmong entered e → IsAmong (entered ++ more) e
-among-more entered more e among = (among.0, text_id-more entered more e.0 among.0 among.1)
 
 -- each text that was entered has a number
 pub all-among : (before entries : List TextEntry) → AllByRecursion (IsAmong (before ++ entries)) entries
@@ -276,9 +273,6 @@ module _ (before : List TextEntry) (e : TextEntry) where
 
 -- A table.
 
-pub table-none : (t : Table) → t.ids ≡ [] → entry_values t.entries.items ≡ [] → IsTable [] t
-table-none t index none = record { index = index; kept = none; few = omega arith }
-
 -- let `old` be the table after `before` was entered. Let `old` contain the text of `e`, or have fewer than 4294967295
 -- texts. Let `new.ids` be `with_text old.ids e.0`, and let `with_entry number e` turn the entries of `old` into the
 -- entries of `new`. Let `number` be the id of the text of `e` in `new`. Then `new` is the table after `before` and `e`
@@ -308,9 +302,6 @@ entered-more before e number old new is free found index put =
         rw new (let more = length_push (texts_entered before) e.0 in omega (arith, less, more, ap length is.index))
     few (Some n) numbered = rw numbered is.few
 
-pub full-more : (before : List TextEntry) (e : TextEntry) → are_too_many (with_text (texts_entered before) e.0) ≡ true → are_too_many (texts_entered (before ++ e ∷ [])) ≡ true
-full-more before e many = ap are_too_many (texts-push before e) ∙ many
-
 -- Several entries.
 
 numbers-push : (before entries : List TextEntry) (e : TextEntry) (number : ℕ) → id_of e.0 (texts_entered (before ++ (entries ++ e ∷ []))) ≡ Some number
@@ -330,9 +321,6 @@ numbers-push before entries e number found =
         let later : id_of x.0 (texts_entered (before ++ (entries ++ e ∷ []))) ≡ Some among.0 =
         subst (λ all. id_of x.0 (texts_entered all) ≡ Some among.0) (append_assoc before entries (e ∷ [])) (text_id-more (before ++ entries) (e ∷ []) x.0 among.0 among.1) in
         rw (later, among.1) refl
-
-pub all-entered-none : (before : List TextEntry) (t : Table) → IsTable before t → AreEntered (before ++ []) [] [] t
-all-entered-none before t is = record { table = subst (λ all. IsTable all t) (sym (append-nil before)) is; each = refl }
 
 pub all-entered-more : (before entries : List TextEntry) (e : TextEntry) (numbers numbers' : List ℕ) (number : ℕ) (old new : Table)
     → AreEntered (before ++ entries) entries numbers old → IsEntered ((before ++ entries) ++ e ∷ []) e.0 number new → numbers' ≡ numbers ++ number ∷ []

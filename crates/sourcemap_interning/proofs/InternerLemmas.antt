@@ -1,5 +1,5 @@
 -- The indices of distinct strings.
-use Rattle.std.proofs.Common.{◌≡◌, refl, sym, ap, subst, ◌∙◌, ℕ, zero, suc, ◌+◌, ◌-◌, ◌≤◌, List, [], ◌∷◌, ◌++◌, length, Bool, true, false, cond, Some, None, Option, arith, inl, inr, ◌⊎◌, slice_get, zero-add}
+use Rattle.std.proofs.Common.{◌≡◌, refl, sym, ap, subst, ℕ, zero, suc, ◌+◌, ◌-◌, ◌≤◌, List, [], ◌∷◌, ◌++◌, length, Bool, true, false, cond, Some, None, Option, arith, inl, inr, ◌⊎◌, slice_get, zero-add}
 use Rattle.std.specs.List.{position_from}
 use Rattle.std.specs.Option.{option_or}
 use Rattle.std.specs.Str.{bytes_eq}
@@ -70,14 +70,6 @@ AreDistinct-append texts text distinct new one id at =
           let last : length texts ≡ id = sym h.0 in
           rw (id_of-append texts text new one, found, last) refl
     ]
-
--- let `old` give the ids in `texts`, and let `texts` not contain `text`. If `new` gives the next id for `text`, and the
--- same result as `old` for each other string, then `new` gives the ids in `texts ++ text ∷ []`
-pub ids-append : (texts : List (List ℕ)) (text : List ℕ) (count : ℕ) (old new : List ℕ → Option ℕ) → length texts ≡ count → id_of text texts ≡ None
-    → ((t : List ℕ) → old t ≡ id_of t texts) → ((t : List ℕ) → new t ≡ cond (bytes_eq text t) (Some count) (old t))
-    → (t : List ℕ) → new t ≡ id_of t (texts ++ text ∷ [])
-ids-append texts text count old new counted missing was now t =
-    now t ∙ ap (λ o. cond (bytes_eq text t) (Some count) o) (was t) ∙ subst (λ n. cond (bytes_eq text t) (Some n) (id_of t texts) ≡ id_of t (texts ++ text ∷ [])) counted (sym (id_of-append texts text missing t))
 
 -- a new string has the last index
 pub id_of-last : (texts : List (List ℕ)) (text : List ℕ) (count : ℕ) → length texts ≡ count → id_of text texts ≡ None → id_of text (texts ++ text ∷ []) ≡ Some count

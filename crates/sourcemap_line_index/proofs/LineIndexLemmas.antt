@@ -12,10 +12,6 @@ pub record Remains (most made size : ℕ) : Type 0 where
   pub small : size < 2 ^ left
   pub enough : made + left ≤ most
 
--- at the start of a search in fewer than `2 ^ d` indices, at most `d` comparisons remain
-pub Remains-start : (made size d : ℕ) → size < 2 ^ d → Remains (made + d) made size
-Remains-start made size d l = record { left = d; small = l; enough = omega arith }
-
 half_small : (size half power : ℕ) → size < 2 * power → half ≤ size / 2 → half < power
 half_small size half power l h = omega arith
 
@@ -42,9 +38,6 @@ Remains-half most made size next half some counted halved r =
             enough = fewer_left most made next r.left r.enough (omega arith) (saturated made next counted);
           }
     ]
-
-pub Remains-end : (most made size : ℕ) → Remains most made size → made ≤ most
-Remains-end most made size r = let within = r.enough in omega arith
 
 -- a binary search in the numbers from `first` up to, not including, `end` still has to search `left` numbers, from
 -- `index` on. Let the numbers not fall, and let `first ≤ index ≤ end`. Then the numbers are below `key` before `index`,

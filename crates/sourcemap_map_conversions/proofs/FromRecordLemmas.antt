@@ -1,11 +1,10 @@
 -- Let a `RecordParts` value have the fields of a record (`ArePartsIn`). Reading this value returns the parts of a map
 -- or an error. Both are results for the record (`PartsAnswer`), except the error `OutOfMemory`.
-use Rattle.std.proofs.Common.{◌≡◌, List, [], ◌∷◌, ◌++◌, reverse, length, map, option_map, Result, Ok, Err, refl, sym, ap, subst, ◌∙◌, inl, inr, vec_len, string_bytes, IfOk, ◌≤◌}
+use Rattle.std.proofs.Common.{◌≡◌, List, [], ◌∷◌, ◌++◌, reverse, length, map, option_map, Result, Ok, Err, sym, ap, subst, ◌∙◌, inr, vec_len, string_bytes, IfOk, ◌≤◌}
 use Rattle.std.proofs.lemmas.List.{length-map, append-nil}
 use Rattle.serde_json.specs.View.{view}
 use Rattle.sourcemap_errors.specs.Answer.{UnlessMemory, Gives, IsAnswer}
 use Rattle.sourcemap_errors.specs.declared.errors.Error.{Error}
-use Rattle.sourcemap_errors.specs.declared.errors.Error.TheVariants.{IncompatibleSourceMap}
 use Rattle.sourcemap_errors.proofs.AnswerLemmas.{UnlessMemory-weaker}
 use Rattle.sourcemap_tokens.specs.declared.tokens.RawToken.{RawToken}
 use Rattle.sourcemap_tokens.specs.Tokens.{AllWithin}
@@ -67,10 +66,6 @@ module _ (r : Fields) (parts : RecordParts) (are : ArePartsIn r parts) where
     };
     contents = are.lists.contents i;
   }
-
-  -- if a list is too long, the error is `IncompatibleSourceMap`
-  pub refused-few_items : ¬ HaveFewItems parts.lists → PartsAnswer r (Err IncompatibleSourceMap)
-  refused-few_items full = inl ((λ few_items. full (have_few_items_back few_items)), refl)
 
   -- if no list is too long, an error of the mappings is also the error of the record
   pub refused-tokens : HaveFewItems parts.lists → (e : Error) → UnlessMemory e (TextsAnswer (Err e)) → UnlessMemory e (PartsAnswer r (Err e))

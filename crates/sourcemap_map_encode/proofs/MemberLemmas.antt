@@ -266,19 +266,10 @@ text_is m mappings ranges text fine is =
     }
 
 -- contents are written if a source has some
-
 pub some_contents : (count : ℕ) (contents : List (Option (List ℕ))) → list_any is_some (fitted count contents) ≡ true
     → contents_entry count contents ≡ (codes "sourcesContent", Some (written_list (written_or_null string) (fitted count contents)))
 some_contents count contents some = ap (λ b. (codes "sourcesContent", option_map (written_list (written_or_null string)) (if b then Some (fitted count contents) else None))) some
 
-pub no_contents : (count : ℕ) (contents : List (Option (List ℕ))) → list_any is_some (fitted count contents) ≡ false
-    → contents_entry count contents ≡ (codes "sourcesContent", None)
-no_contents count contents none = ap (λ b. (codes "sourcesContent", option_map (written_list (written_or_null string)) (if b then Some (fitted count contents) else None))) none
-
 -- ids are written if there are some
-
 pub some_ids : (ids : List ℕ) → (length ids == 0) ≡ false → ids_entry ids ≡ (codes "ignoreList", Some (written_list written_number ids))
 some_ids ids some = ap (λ b. (codes "ignoreList", option_map (written_list written_number) (if b then None else Some ids))) some
-
-pub no_ids : (ids : List ℕ) → (length ids == 0) ≡ true → ids_entry ids ≡ (codes "ignoreList", None)
-no_ids ids none = ap (λ b. (codes "ignoreList", option_map (written_list written_number) (if b then None else Some ids))) none

@@ -1,8 +1,7 @@
 -- Items of lists that are cut or filled to a length. std has lemmas on `take`, `++` and `replicate`, but none
 -- on this combination.
-use Rattle.std.proofs.Common.{◌≡◌, ℕ, zero, suc, ◌+◌, ◌<◌, ◌≤◌, List, [], ◌∷◌, ◌++◌, length, take, drop, replicate, Option, Some, None, slice_get, refl, ap, ◌∙◌, arith, length-take, length-append, add-one, option_and_then}
-use Rattle.std.proofs.lemmas.List.{length-replicate, take_more}
-use Rattle.std.proofs.lemmas.Option.{get_or_from_slice_get}
+use Rattle.std.proofs.Common.{◌≡◌, ℕ, zero, suc, ◌+◌, ◌<◌, ◌≤◌, List, [], ◌∷◌, ◌++◌, length, take, drop, replicate, Option, Some, None, slice_get, refl, arith, length-take, length-append, add-one, option_and_then}
+use Rattle.std.proofs.lemmas.List.{length-replicate}
 use Rattle.sourcemap_map_parts.specs.Contents.{fitted}
 
 module _ {X : Type 0} where
@@ -44,9 +43,3 @@ filled-length items n = simp (length-take, length-append, length-replicate) (ome
 
 pub length-fitted : (contents : List (Option (List ℕ))) (n : ℕ) → length (fitted n contents) ≡ n
 length-fitted contents n = filled-length contents n
-
-pub take-fitted : (contents : List (Option (List ℕ))) (n i : ℕ) → i < n → take (i + 1) (fitted n contents) ≡ take i (fitted n contents) ++ option_and_then (λ x. x) (slice_get contents i) ∷ []
-take-fitted contents n i here =
-    let item = get_or_from_slice_get (fitted n contents) i (option_and_then (λ x. x) (slice_get contents i)) None (slice_get-fitted contents n i here) in
-    let many = length-fitted contents n in
-    take_more (fitted n contents) i None (omega arith) ∙ ap (λ x. take i (fitted n contents) ++ x ∷ []) item

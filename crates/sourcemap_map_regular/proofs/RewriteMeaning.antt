@@ -168,7 +168,7 @@ module _ (m : MapValue) (removal : Removal) (few_sources : length m.sources ≤ 
 
 -- Options that leave every meaning unchanged.
 
-cut-nothing : (text : Option (List ℕ)) → option_map (without_prefix []) text ≡ text
+pub cut-nothing : (text : Option (List ℕ)) → option_map (without_prefix []) text ≡ text
 cut-nothing None = refl
 cut-nothing (Some text) = refl
 

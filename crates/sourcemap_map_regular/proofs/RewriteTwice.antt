@@ -14,7 +14,7 @@ use Rattle.sourcemap_map_regular.specs.Rewrite.{no_removal, present, kept_once, 
 use Rattle.sourcemap_map_rewrite.proofs.NumberingLemmas.{slice_get-number_in}
 use Rattle.sourcemap_map_rewrite.proofs.RewrittenLemmas.{first_present, first_some-map}
 use Rattle.sourcemap_map_regular.proofs.RewriteLemmas.{map-map, few_used_sources}
-use Rattle.sourcemap_map_regular.proofs.RewriteMeaning.{IsKept, all_tokens_kept, new_source, new_name}
+use Rattle.sourcemap_map_regular.proofs.RewriteMeaning.{IsKept, all_tokens_kept, cut-nothing, new_source, new_name}
 
 map-same : {X Y : Type 0} (P : X → Type 0) (f g : X → Y) → ((x : X) → P x → f x ≡ g x) → (xs : List X) → AllByRecursion P xs → map f xs ≡ map g xs
 map-same P f g same [] all = refl
@@ -23,10 +23,6 @@ map-same P f g same (x ∷ xs) all = λ i. same x all.0 i ∷ map-same P f g sam
 first_some-same_on : {X : Type 0} (P : X → Type 0) (f g : X → Option (List ℕ)) → ((x : X) → P x → f x ≡ g x) → (xs : List X) → AllByRecursion P xs → first_some f xs ≡ first_some g xs
 first_some-same_on P f g same [] all = refl
 first_some-same_on P f g same (x ∷ xs) all = λ i. option_or (same x all.0 i) (first_some-same_on P f g same xs all.1 i)
-
-cut-nothing : (text : Option (List ℕ)) → option_map (without_prefix []) text ≡ text
-cut-nothing None = refl
-cut-nothing (Some text) = refl
 
 -- Let `own x` be `None` for each item `x` that fails `test`, and let `o` be the first result of `own` in a list
 -- (`first_some`). Let another function return `o` for each item that passes `test`, and `None` for each item that fails

@@ -49,9 +49,6 @@ kept-none numbers contents kept count e = record {
   each = λ k below. ap (λ xs. item_at xs k) e ∙ item_at-nothing count k;
 }
 
-pub left-none : (numbers : List ℕ) (contents kept : List (Option (List ℕ))) → AreLeft numbers contents contents kept
-left-none numbers contents kept id = inl refl
-
 module _ (numbers order : List ℕ) (old now kept now' kept' : List (Option (List ℕ))) (count id new_id : ℕ)
     (is : AreKept numbers order old count kept) (left : AreLeft numbers old now kept)
     (named : slice_get numbers id ≡ Some new_id) (within : new_id < count) where

@@ -15,7 +15,6 @@ use Rattle.sourcemap_tokens.proofs.AllLemmas.{All-append, All-at, All-weaker}
 use Rattle.sourcemap_interning.proofs.InternerLemmas.{AreDistinct-append, id_of-append, id_of-last, slice_get-id_of}
 use Rattle.sourcemap_map_rewrite.specs.Kept.{present, kept_once, number_in}
 use Rattle.sourcemap_map_rewrite.specs.Numbering.{with_text_if, first_some, IsListedIfAny, texts_in_use, seen_texts, IsSeen, IsSeenOrNot, NumbersMore, IsNumbering, Assigns}
-use Rattle.sourcemap_map_rewrite.specs.declared.numbering.NewNumbers.{NewNumbers}
 use Rattle.sourcemap_map_rewrite.specs.declared.numbering.Numbering.{Numbering}
 
 pub option_or-None : {A : Type 0} (o : Option A) → option_or o None ≡ o
@@ -283,9 +282,6 @@ module _ (texts : List (List ℕ)) (n : Numbering) (id : ℕ) (text : List ℕ) 
         seen = λ f none. first_some-seen f n.seen.order.items seen.0 id seen.1;
       }
 
-  pub number-existing : (existing : ℕ) → slice_get n.seen.numbers.items id ≡ Some existing → existing ≢ 4294967295 → number_in (seen_texts texts n.seen) (slice_get texts id) ≡ existing
-  number-existing existing numbered apart = let seen = existing-seen existing numbered apart in rw (named, seen.2) refl
-
   pub below_max : length texts ≤ 4294967295 → id_of text n.ids ≡ None → length n.ids < 4294967295
   below_max few new =
       let less = below_max-for_new (seen_texts texts n.seen) texts id text (AreFew-texts_in_use texts n.seen.order.items) named (ap (id_of text) (sym is.index) ∙ new) in
@@ -356,9 +352,3 @@ module _ (texts : List (List ℕ)) (n : Numbering) (id : ℕ) (text : List ℕ) 
 
     pub number-new : number_in (seen_texts texts next.seen) (slice_get texts id) ≡ number
     number-new = rw (named, interned) refl
-
--- if `id` is no index of `texts`, a use of `id` changes no numbers
-pub more-past : (texts : List (List ℕ)) (n : NewNumbers) (id : ℕ) → length texts ≤ id → NumbersMore texts id n n
-more-past texts n id past =
-    let none = slice_get_past texts id past in
-    record { kept = rw none refl; seen = λ f h. rw (h none) (sym (option_or-None (first_some f n.order.items))) }

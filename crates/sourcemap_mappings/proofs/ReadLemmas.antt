@@ -11,7 +11,7 @@ use Rattle.sourcemap_mappings.specs.declared.segment.PartPosition.{PartPosition}
 use Rattle.sourcemap_errors.specs.declared.errors.Error.{Error}
 use Rattle.sourcemap_vlq.specs.Bits.{first_non_digit}
 use Rattle.sourcemap_mappings.specs.Segment.{Counts, Segment, token_of, segment_error, semicolon, parts_of}
-use Rattle.sourcemap_mappings.specs.Read.{Line, LineText, line_tokens, tokens_of_lines, PartsRead, PartsError, LineError, LinesRead, LinesError, lines_of}
+use Rattle.sourcemap_mappings.specs.Read.{Line, LineText, line_tokens, tokens_of_lines, PartsRead, PartsError, LinesRead, LinesError, lines_of}
 use Rattle.sourcemap_mappings.specs.SegmentSteps.{AreTextSums, AreSums}
 use Rattle.sourcemap_mappings.specs.ReadSteps.{AddsParts, AddsLine}
 use Rattle.sourcemap_vlq.specs.Vlq.{Reads, HasError}
@@ -202,11 +202,6 @@ module _ (counts : Counts) (all : List LineText) (n : ℕ) (text : LineText) (le
             ∙ ap (λ zs. zs ++ tokens_of_lines (n + 1) (before ++ line.segments) later) (sym adds.tokens);
         sums_after = adds.sums_after;
       }
-
-  -- the next line has an error
-  pub LinesSoFar-error : (e : Error) (so_far : LinesSoFar counts all n (text ∷ left) old sums) → UnlessMemory e (LineError counts n so_far.before text e)
-      → UnlessMemory e (LinesError counts 0 [] all e)
-  LinesSoFar-error e so_far f = UnlessMemory-weaker e (λ h. so_far.error e (inl h)) f
 
 -- at the start, no line is decoded, there are no tokens, and all sums are 0
 pub LinesSoFar-none : (counts : Counts) (all : List LineText) → LinesSoFar counts all 0 all [] (record { rises = true; column = 0; source = 0; line = 0; source_column = 0; name = 0 })

@@ -56,13 +56,6 @@ unfolding numbers_by
 numbers_are names against t p q source name =
     ap (λ b. numbers_by against t b (has_name names t)) source ∙ ap (numbers_by against t p) name
 
-pub plain_added : (names : ℕ) (against t : RawToken) (s a : List ℕ) → has_source t ≡ false
-    → Adds (difference t.dst_col against.dst_col ∷ []) s a → Adds (numbers names against t) s a
-unfolding numbers_by
-plain_added names against t s a source x =
-    let is = numbers_are names against t false (has_name names t) source refl in
-    subst (λ (ns : List ℤ). Adds ns s a) (sym is) x
-
 pub unnamed_added : (names : ℕ) (against t : RawToken) (s a b c d : List ℕ)
     → has_source t ≡ true → has_name names t ≡ false
     → Adds (difference t.dst_col against.dst_col ∷ []) s a

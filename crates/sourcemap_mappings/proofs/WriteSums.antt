@@ -17,7 +17,7 @@ use Rattle.sourcemap_mappings.specs.Segment.{Counts, Segment, step, sum_at, fiel
 use Rattle.sourcemap_mappings.specs.Write.{is_on, has_source, has_name, last_field, base, difference, numbers}
 use Rattle.sourcemap_mappings.specs.WriteSteps.{HasSmallPositions}
 use Rattle.sourcemap_mappings.proofs.WriteLemmas.{numbers_by, numbers_are}
-use Rattle.sourcemap_mappings.proofs.WriteTokens.{last_field-push_no, last_field-push_yes}
+use Rattle.sourcemap_mappings.proofs.WriteTokens.{below_no, below_yes, last_field-push_no, last_field-push_yes}
 
 -- Sums modulo 2^32.
 
@@ -186,12 +186,6 @@ column_more sources names at before here t sound was = sum_more 0 t.dst_col _ he
 above_not : (m n : ℕ) → n < m → nat_le m n ≡ false
 above_not m n h = grind (arith, nat_tests)
 
-below_is : (m n : ℕ) → m < n → nat_lt m n ≡ true
-below_is m n h = grind (arith, nat_tests)
-
-below_not : (m n : ℕ) → n ≤ m → nat_lt m n ≡ false
-below_not m n h = grind (arith, nat_tests)
-
 -- the segment of a sound token has no error
 pub segment_sound : (sources names at : ℕ) (before : List RawToken) (all : List Segment) (t : RawToken)
     → sources < 2 ^ 32 → IsSound sources names t → Carries names (before ++ t ∷ []) all
@@ -262,7 +256,7 @@ token_back sources names n at bits before here all t few sound on bit column c =
           let id : field 1 all s ≡ t.src_id = ap (λ ns. field_of 1 ns) ns ∙ sym within.0 in
           let line : field 2 all s ≡ t.src_line = ap (λ ns. field_of 2 ns) ns ∙ sym within.1 in
           let src_column : field 3 all s ≡ t.src_col = ap (λ ns. field_of 3 ns) ns ∙ sym within.2 in
-          let no_such : nat_lt t.name_id names ≡ false = below_not t.name_id names within.3 in
+          let no_such : nat_lt t.name_id names ≡ false = below_no t.name_id names within.3 in
           let id' : field 4 all s ≡ cond (nat_lt t.name_id names) t.name_id 4294967295 =
           ap (λ ns. field_of 4 ns) ns ∙ sym (ap (λ b. cond b t.name_id 4294967295) no_such) in
           cc
@@ -271,7 +265,7 @@ token_back sources names n at bits before here all t few sound on bit column c =
           let id : field 1 all s ≡ t.src_id = ap (λ ns. field_of 1 ns) ns ∙ id_is source in
           let line : field 2 all s ≡ t.src_line = ap (λ ns. field_of 2 ns) ns ∙ line_is source in
           let src_column : field 3 all s ≡ t.src_col = ap (λ ns. field_of 3 ns) ns ∙ src_column_is source in
-          let no_such : nat_lt t.name_id names ≡ false = below_not t.name_id names (no_name names t source name) in
+          let no_such : nat_lt t.name_id names ≡ false = below_no t.name_id names (no_name names t source name) in
           let id' : field 4 all s ≡ cond (nat_lt t.name_id names) t.name_id 4294967295 =
           ap (λ ns. field_of 4 ns) ns ∙ sym (ap (λ b. cond b t.name_id 4294967295) no_such) in
           cc
@@ -280,7 +274,7 @@ token_back sources names n at bits before here all t few sound on bit column c =
           let id : field 1 all s ≡ t.src_id = ap (λ ns. field_of 1 ns) ns ∙ id_is source in
           let line : field 2 all s ≡ t.src_line = ap (λ ns. field_of 2 ns) ns ∙ line_is source in
           let src_column : field 3 all s ≡ t.src_col = ap (λ ns. field_of 3 ns) ns ∙ src_column_is source in
-          let such : nat_lt t.name_id names ≡ true = below_is t.name_id names (name_is names t name) in
+          let such : nat_lt t.name_id names ≡ true = below_yes t.name_id names (name_is names t name) in
           let name_back : sum_at 4 all ≡ t.name_id = c.name ∙ last_field-push_yes (has_name names) (λ u. u.name_id) before t name in
           let id' : field 4 all s ≡ cond (nat_lt t.name_id names) t.name_id 4294967295 =
           ap (λ ns. field_of 4 ns) ns ∙ name_back ∙ sym (ap (λ b. cond b t.name_id 4294967295) such) in

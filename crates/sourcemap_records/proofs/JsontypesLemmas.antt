@@ -33,10 +33,6 @@ of_sections : (r : RawSourceMap-F RawSection RawSourceMap) (v : Option (Vec RawS
 of_sections r None = refl
 of_sections r (Some v) = refl
 
--- the tree of a record, from its fields and its sections
-pub tree-roll : (r : RawSourceMap-F RawSection RawSourceMap) → tree (roll-RawSourceMap r) ≡ tree_with (fields_view r) (option_map (λ v. sections_from (map section v.items)) r.sections)
-tree-roll r = fold-roll-RawSourceMap Section Tree section_step tree_step r ∙ of_sections r r.sections
-
 pub tree-out : (r : RawSourceMap) → tree r ≡ tree_with (fields_view (out-RawSourceMap r)) (option_map (λ v. sections_from (map section v.items)) (out-RawSourceMap r).sections)
 tree-out r = fold_out-RawSourceMap Section Tree section_step tree_step r ∙ of_sections (out-RawSourceMap r) (out-RawSourceMap r).sections
 

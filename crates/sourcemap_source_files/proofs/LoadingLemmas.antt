@@ -40,15 +40,6 @@ newly-same (suc n) items = rw (newly-same n items) (by_item (item_at items n)) w
   by_item None = refl
   by_item (Some _) = refl
 
-pub Fills-same : (folder : List ℕ) (sources : List (List ℕ)) (items : List (Option (List ℕ))) → Fills folder sources items items
-Fills-same folder sources items = record {
-  many = refl;
-  kept = λ id there. refl;
-  from_file = λ id none some. absurd (no none some);
-} where
-  no : {item : Option (List ℕ)} → item ≡ None → IsSome item → ⊥
-  no none some = cc
-
 -- let `Fills` hold, let `id` be below the length of `after`, and let `before` and `after` have the same item at `id`.
 -- If `before` has an item at `id`, let `item` be this item. If `before` has no item at `id`, and `item` is not `None`,
 -- let source `id` have a path (`file_of`). Then `Fills` still holds if `item` is set at `id` in `after`

@@ -162,9 +162,6 @@ pub record Walked (line : List ℕ) (col : ℕ) (rest : List ℕ) (units : ℕ) 
   pub begin : BeginBefore col done
   pub utf8 : IsUtf8 rest
 
-pub Walked-start : (line : List ℕ) (col : ℕ) → IsUtf8 line → Walked line col line 0
-Walked-start line col u = record { done = []; bytes = refl; spelt = refl; counted = refl; begin = tt; utf8 = u }
-
 pub Walked-step : (line rest left : List ℕ) (col units c : ℕ) → units < col → rest ≡ encode_utf8 c ++ left → Walked line col rest units → Walked line col left (units + units_of c)
 Walked-step line rest left col units c l e w =
     let counted = w.counted in
@@ -356,9 +353,6 @@ offset-further line col more offset units u e w =
     ∙ moved
     ∙ sym (option_map-map (λ n. offset + n) bytes (first_reaching (col + more - width cut.front) cut.back))
     ∙ ap₂ (λ n cs. option_map (λ m. offset + m) (option_map bytes (first_reaching (col + more - n) cs))) wide (sym cut.after)
-
-pub slice-none : (line : List ℕ) (col span : ℕ) → None ≡ column_offset line col → None ≡ slice_of line col span
-slice-none line col span e = ap (λ start. part_between line start (column_offset line (col + span))) e
 
 slice_at_offset : (line : List ℕ) (col span offset : ℕ) → Some offset ≡ column_offset line col → (end : Option ℕ) → column_offset line (col + span) ≡ end → slice_of line col span ≡ part_between line (Some offset) end
 slice_at_offset line col span offset e end f = ap₂ (part_between line) (sym e) f
@@ -567,9 +561,6 @@ pub ascii-width : (text : List ℕ) → IsAscii text → length text ≡ width (
 ascii-width text a = sym (ap width (chars-IsAscii text a) ∙ (ascii_begin text (length text) (le_refl (length text)) a).1)
 
 -- ---- the offset of a column, or the end of the line
-
-pub reached-far : (line : List ℕ) (col offset units : ℕ) → col ≤ units → Some offset ≡ column_offset line col → reached_offset col offset units ≡ column_offset line col
-reached-far line col offset units l e = let far : nat_le col units ≡ true = grind (arith, nat_tests) in rw far e
 
 pub reached-there : (line : List ℕ) (col offset units : ℕ) → IsUtf8 line → Some offset ≡ column_offset line col → units ≡ width (chars (take offset line)) → reached_offset col offset units ≡ column_offset line col
 reached-there line col offset units u e w =

@@ -6,7 +6,7 @@ use Rattle.std.specs.Str.{skip_leading_whitespace, trim_start, all_scalars}
 use lib.Utf8.{scalar}
 use Rattle.std.proofs.lemmas.Bool.{cases_Bool, or_cases, and_parts, eqb-true, agree_below_at, both_ways, cases_lt, ltb-true}
 use Rattle.std.proofs.lemmas.Bool.Decides.{nat_tests}
-use Rattle.std.proofs.lemmas.Str.{chars_past_char, length-encode, len_utf8_bounds, chars-encodes, encodes-chars, scalars-chars, chars-nil, IsCharBoundary-at_seam, IsUtf8-past_char, encodes-append, IsCharBoundary-from_drop}
+use Rattle.std.proofs.lemmas.Str.{chars_past_char, length-encode, len_utf8_bounds, chars-encodes, encodes-chars, scalars-chars, chars-nil, IsCharBoundary-at_seam, IsUtf8-past_char, encodes-append}
 use Rattle.std.proofs.lemmas.List.{length-append, take-append-drop, take_at, drop_at, drop-drop}
 use Rattle.unicode_ident.specs.Ident.{is_xid_start, is_xid_continue}
 use Rattle.unicode_ident.proofs.Computing.{unicode_ident}
@@ -85,13 +85,6 @@ all_pass test (c ∷ cs) more =
 -- the length of the identifier at the start of characters, in bytes
 abbrev pub identifier_bytes : List ℕ → ℕ
 identifier_bytes cs = length (encode_utf8_all (identifier_at_start cs))
-
-pub identifier-there : (text rest : List ℕ) (c : ℕ) → IsUtf8 text → text ≡ encode_utf8 c ++ rest → is_start c ≡ true
-    → identifier_bytes (chars text) ≡ length (encode_utf8 c) + passing_bytes is_part (chars rest)
-identifier-there text rest c u e starts =
-    let cut = chars_past_char text rest c u e in
-    let at : identifier_at_start (c ∷ chars rest) ≡ c ∷ take_while is_part (chars rest) = rw starts refl in
-    ap identifier_bytes cut ∙ ap (λ cs. length (encode_utf8_all cs)) at ∙ encoded_len c (take_while is_part (chars rest))
 
 whole_identifier : (cs : List ℕ) → (identifier_bytes cs == length (encode_utf8_all cs)) ≡ is_identifier cs
 whole_identifier [] = refl
@@ -275,14 +268,6 @@ Passed-step test text rest left offset next c e n passes p =
       utf8 = IsUtf8-past_char rest left c p.utf8 e;
       left = omega arith;
     }
-
-pub Passed-start : (test : ℕ → Bool) (text : List ℕ) → IsUtf8 text → Passed test text text 0
-Passed-start test text u = record { rest_is = refl; inside = omega arith; utf8 = u; left = omega arith }
-
-pub Passed-boundary : (test : ℕ → Bool) (text rest : List ℕ) (offset : ℕ) → Passed test text rest offset → IsCharBoundary text offset
-Passed-boundary test text rest offset p =
-    let inside = p.inside in
-    IsCharBoundary-from_drop text offset (omega arith) (subst IsUtf8 (sym p.rest_is) p.utf8)
 
 -- the rest of a text after its first character starts at a character boundary
 pub after_first : (text rest : List ℕ) (c width : ℕ) → IsUtf8 text → text ≡ encode_utf8 c ++ rest → width ≡ length (encode_utf8 c) → IsCharBoundary text width × (drop width text ≡ rest)

@@ -34,9 +34,6 @@ no_pair byte text e = grind (arith, nat_tests)
 lines_of-more : (byte : ℕ) (text : List ℕ) → is_terminator byte ≡ false → lines_of (byte ∷ text) ≡ with_body byte (lines_of text)
 lines_of-more byte text e = let f = no_pair byte text e in rw (f, e) refl
 
-lines_of-newline : (text : List ℕ) → lines_of (10 ∷ text) ≡ ended_by (10 ∷ []) (lines_of text)
-lines_of-newline text = refl
-
 -- if a text starts with a terminator, the first line is empty and ends with this terminator. The other lines are the
 -- lines of the text after this terminator
 lines_of-end : (text : List ℕ) → 0 < length text → is_terminator (get_or text 0 0) ≡ true
@@ -149,9 +146,6 @@ table-last text start ranges more within pushed none left =
     let end : start + length (drop start text) ≡ length text = omega arith in
     sym (pushed ∙ ap (λ n. ranges ++ (start, n) ∷ []) (sym end) ∙ ap (λ xs. ranges ++ xs) (sym (ranges-uncut (drop start text) start none)) ∙ left)
 
-pub tabled-at-start : (text : List ℕ) → IsPartialTable text [] 0 0
-tabled-at-start text = record { within = omega arith; left = refl; quiet = λ k l m. absurd (omega arith) }
-
 -- if a terminator is at `end`, and `start` is not after `end`, the table gets the line from `start` up to `end`. The
 -- next line starts at `end + len`
 pub tabled-end : (text : List ℕ) (start end len : ℕ) (table more : List (ℕ × ℕ))
@@ -178,11 +172,6 @@ tabled-end text start end len table more t ordered inside ends pushed found =
       quiet = λ k l m. absurd (omega (arith, some));
     }
 
--- if `end` is before `start`, as at the `\n` of a `\r\n`, a partial table for `end` is also one for `end + 1`
-pub tabled-pair : (text : List ℕ) (start end : ℕ) (table : List (ℕ × ℕ)) → IsPartialTable text table start end → end < start → IsPartialTable text table start (end + 1)
-tabled-pair text start end table t after =
-    record { within = t.within; left = t.left; quiet = λ k l m. absurd (omega arith) }
-
 -- if no byte from `offset` up to `to`, exclusive, is a terminator, a partial table for `offset` is also one for `to`
 pub tabled-on : (text : List ℕ) (start offset to : ℕ) (table : List (ℕ × ℕ)) → IsPartialTable text table start offset
     → ((k : ℕ) → offset ≤ k → k < to → is_terminator (get_or text k 0) ≡ false)
@@ -193,11 +182,6 @@ tabled-on text start offset to table t none =
       left = t.left;
       quiet = λ k l m. elim (cases_lt k offset) [ inl before ↦ t.quiet k l before | inr after ↦ none k after m ];
     }
-
-pub tabled-byte : (text : List ℕ) (start offset : ℕ) (table : List (ℕ × ℕ)) → IsPartialTable text table start offset
-    → is_terminator (get_or text offset 0) ≡ false → IsPartialTable text table start (offset + 1)
-tabled-byte text start offset table t none =
-    tabled-on text start offset (offset + 1) table t (λ k l m. let is : offset ≡ k = omega arith in subst (λ n. is_terminator (get_or text n 0) ≡ false) is none)
 
 pub tabled-whole : (text : List ℕ) (start : ℕ) (table more : List (ℕ × ℕ)) → IsPartialTable text table start (length text)
     → more ≡ table ++ (start, length text) ∷ [] → line_ranges text ≡ more

@@ -1,12 +1,12 @@
 -- How the word at an offset of a line follows from the word at a later offset, and which identifier a word starts with.
-use Rattle.std.proofs.Common.{◌≡◌, refl, sym, ap, ap₂, subst, ◌∙◌, ℕ, zero, suc, ◌+◌, ◌-◌, ◌<◌, ◌≤◌, ◌≢◌, ◌==◌, nat_le, Bool, true, false, not, cond, List, [], ◌∷◌, ◌++◌, length, drop, take_while, arith, inl, inr, Some, None, IsUtf8, IsCharBoundary, chars, encode_utf8, encode_utf8_all, slice_range, append-nil}
+use Rattle.std.proofs.Common.{◌≡◌, refl, sym, ap, ap₂, subst, ◌∙◌, ℕ, zero, suc, ◌+◌, ◌-◌, ◌<◌, ◌≤◌, ◌≢◌, ◌==◌, nat_le, Bool, true, false, not, cond, List, [], ◌∷◌, ◌++◌, length, drop, take_while, arith, inl, inr, Some, None, IsUtf8, IsCharBoundary, chars, encode_utf8_all, slice_range, append-nil}
 use Rattle.std.specs.List.{list_all}
 use Rattle.std.specs.Char.{is_whitespace}
 use Rattle.std.specs.Str.{bytes_eq, skip_leading_whitespace, trim_start}
 use Rattle.std.proofs.lemmas.Bool.{cases_Bool, cases_lt, and_parts}
 use Rattle.std.proofs.lemmas.Bool.Decides.{Decides-eqb, nat_tests}
 use Rattle.std.proofs.lemmas.Slice.Eq.{bytes_eq-Decides}
-use Rattle.std.proofs.lemmas.Str.{chars-append, chars-nil, chars_past_char, encodes-append, encodes-chars, IsUtf8-drop, IsUtf8-append, IsUtf8-between, IsCharBoundary-from_drop, IsCharBoundary-from_rest}
+use Rattle.std.proofs.lemmas.Str.{chars-append, chars-nil, encodes-append, encodes-chars, IsUtf8-drop, IsUtf8-append, IsUtf8-between, IsCharBoundary-from_drop, IsCharBoundary-from_rest}
 use Rattle.std.proofs.lemmas.List.{length-append, length-drop, drop-drop}
 use Rattle.std.proofs.lemmas.List.Folds.{drop_split}
 use Rattle.sourcemap_source_views.specs.Identifiers.{first_passes, identifier_at_start, is_identifier, is_part, is_start, is_text, token_at_start, unless_empty}
@@ -14,9 +14,6 @@ use Rattle.sourcemap_source_views.specs.Walk.{IsWord, IsWordEnd, identifier_from
 use Rattle.sourcemap_source_views.proofs.IdentifiersLemmas.{passing_bytes, all_pass, encoded_some, chars-trim_start, identifier_begins, identifier_front, identifier_of_word, start_is_part, take_while-end, take_while-more}
 
 -- ---- the first character
-
-pub first-passes : (test : ℕ → Bool) (text rest : List ℕ) (c : ℕ) → IsUtf8 text → text ≡ encode_utf8 c ++ rest → first_passes test (chars text) ≡ test c
-first-passes test text rest c u e = ap (first_passes test) (chars_past_char text rest c u e)
 
 pub first-none : (test : ℕ → Bool) (text : List ℕ) → length text ≡ 0 → first_passes test (chars text) ≡ false
 first-none test [] e = ap (first_passes test) chars-nil

@@ -1,12 +1,8 @@
 -- The common first parts of two paths, byte by byte.
 use Rattle.std.proofs.Common.{◌≡◌, ◌≢◌, refl, sym, ap, subst, ◌∙◌, ℕ, zero, suc, ◌+◌, ◌<◌, ◌≤◌, ◌==◌, ◌&&◌, ◌||◌, List, [], ◌∷◌, ◌++◌, length, take, drop, get_or, nat_le, Bool, true, false, cond, Some, None, Option, option_map, unwrap_or, filter, map, Bor, arith, inl, inr, eq-eqb, add-one}
-use Rattle.std.specs.Iterator.{DrainsIf}
-use Rattle.std.specs.Iterator.Runs.{Run}
 use Rattle.std.specs.List.{concat}
 use Rattle.std.specs.Str.{bytes_eq, IsUtf8, IsCharBoundary}
 use Rattle.std.proofs.Math.Seq.{drop-cons}
-use Rattle.std.proofs.iter.runs.Made.{took}
-use Rattle.std.proofs.lemmas.Iterator.{YieldsList, items_from_drains}
 use Rattle.std.proofs.lemmas.Bool.{cases_Bool, cases_lt, or_cases, eqb-true, ne_eqb, le-leb, lt-leb}
 use Rattle.std.proofs.lemmas.Slice.Eq.{bytes_eq-Decides}
 use Rattle.std.proofs.lemmas.Str.{IsCharBoundary-start, IsCharBoundary-end, IsCharBoundary-before_ascii}
@@ -457,9 +453,3 @@ IsCharBoundary-cut a (suc n) utf8 within before =
       | inl l ↦ IsCharBoundary-before_ascii a (suc n) l (separator-ascii _ (before (omega arith) l))
       | inr l ↦ (let end : length a ≡ suc n = omega arith in subst (IsCharBoundary a) end (IsCharBoundary-end a))
     ]
-
--- ---- for callers: the items of a whole run are those of the iterator's list
-pub items-whole : {S A B : Type 0} {steps : S → Option A → S → Type 0} {v : A → B} {s : S} {all : List B} (run : Run steps) → run.from ≡ s → run.whole ≡ true
-    → YieldsList steps v s all → map v run.items ≡ all
-items-whole {S} {A} {B} {steps} {v} {s} {all} run from whole yields =
-    let drained = took run in items_from_drains run.items (subst (λ t. DrainsIf steps (Unit {0}) t run.items) from (drained.0, drained.1, λ _. drained.2 whole)) yields

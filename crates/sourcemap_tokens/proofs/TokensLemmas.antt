@@ -1,8 +1,7 @@
 -- The order of tokens, the closest token, and the reduced list.
 use Rattle.std.proofs.Common.{◌≡◌, refl, sym, ap, subst, ◌∙◌, ℕ, ◌+◌, ◌-◌, ◌<◌, ◌≤◌, List, [], ◌∷◌, length, get_or, map, Bool, true, false, cond, arith, inl, inr, eqb-true, Option, Some, None, IfSome, find, option_map, slice_get, nat_lt, if◌then◌else◌, ◌==◌}
 use mathlib.Core.Bool.{beq}
-use Rattle.std.specs.List.{AllByRecursion, AllByRecursion-prop}
-use Rattle.std.proofs.Props.{props}
+use Rattle.std.specs.List.{AllByRecursion}
 use Rattle.std.specs.Option.{option_or}
 use Rattle.std.specs.Cmp.{IsTotalOrder}
 use Rattle.std.specs.Ordering.{is_lt, is_le, is_eq}
@@ -15,7 +14,7 @@ use Rattle.sourcemap_tokens.specs.declared.tokens.RawToken.{RawToken}
 use Rattle.sourcemap_tokens.specs.Tokens.{position_cmp, closest_token, destination, AreInOrder, in_order, AllWithin, IsWithin, are_same, changes_after, without_repeats, with_valid_name, reduced}
 use Rattle.sourcemap_tokens.specs.Search.{find_last, closest_item}
 use Rattle.std.proofs.lemmas.List.Sorted.{ranks_by}
-use Rattle.sourcemap_tokens.proofs.AllLemmas.{All-map, All-weaker}
+use Rattle.sourcemap_tokens.proofs.AllLemmas.{All-map}
 use Rattle.std.proofs.lemmas.Option.{get_or_from_slice_get, slice_get_within, slice_get-get_or}
 use Rattle.sourcemap_tokens.proofs.SearchLemmas.{IsApart, IsBracket, closest-at_most, closest-miss, closest_item-change, index-closest}
 use Rattle.sourcemap_tokens.proofs.SortLemmas.{Rises, Rises-from_sorted, sorted_from_Rises, sorted_by-sorted, length-sorted_by, sorted-sorted_by, All-sorted_by, stably_sorted}
@@ -169,12 +168,6 @@ Rises-map : {X Y : Type 0} (lt : Y → Y → Bool) (change : X → Y) (xs : List
 Rises-map lt change [] r = tt
 Rises-map lt change (x ∷ xs) r = (All-map (λ y. lt y (change x) ≡ false) change xs r.0, Rises-map lt change xs r.1)
 
-pub AreInOrder-without_repeats : (tokens : List RawToken) → AreInOrder tokens → AreInOrder (without_repeats tokens)
-AreInOrder-without_repeats tokens up =
-    sorted_from_Rises (λ a b. is_lt (position_cmp (destination a) (destination b))) (without_repeats tokens)
-    (Rises-without_repeats (λ a b. is_lt (position_cmp (destination a) (destination b))) tokens
-    (Rises-from_sorted (λ a b. is_lt (position_cmp (destination a) (destination b))) (ranks_by position_cmp_total destination) tokens up))
-
 -- if tokens are in order, their reduced list is in order
 pub AreInOrder-reduced : (names : ℕ) (tokens : List RawToken) → AreInOrder tokens → AreInOrder (reduced names tokens)
 AreInOrder-reduced names tokens up =
@@ -185,19 +178,6 @@ AreInOrder-reduced names tokens up =
 
 sound_name_fits : (names id : ℕ) → names ≤ 4294967295 → names ≤ id → names ≤ (if nat_lt id names then id else 4294967295)
 sound_name_fits names id few out = grind (arith, nat_tests)
-
--- let `names` be at most 4294967295. If tokens are within the counts `sources` and `names` (`AllWithin`), so is their
--- reduced list
-pub AllWithin-reduced : (sources names : ℕ) (tokens : List RawToken) → names ≤ 4294967295 → AllWithin sources names tokens → AllWithin sources names (reduced names tokens)
-AllWithin-reduced sources names tokens few all =
-    All-map (IsWithin sources names) (with_valid_name names) (without_repeats tokens)
-    (All-weaker (IsWithin sources names) (λ t. IsWithin sources names (with_valid_name names t))
-    (λ t within none. let bare = within none in (bare.0, bare.1, bare.2, sound_name_fits names t.name_id few bare.3))
-    (without_repeats tokens) (All-without_repeats (IsWithin sources names) tokens all))
-
--- any two proofs of `AllWithin`, for the same counts and the same tokens, are equal
-pub AllWithin-prop : (sources names : ℕ) (tokens : List RawToken) → IsProp (AllWithin sources names tokens)
-AllWithin-prop sources names tokens = AllByRecursion-prop (IsWithin sources names) (λ token. hlevel props) tokens
 
 -- ---- a later position
 

@@ -7,20 +7,16 @@ use Rattle.sourcemap.specs.References.{reference, url_of}
 use Rattle.sourcemap.specs.declared.detector.SourceMapRef.{SourceMapRef}
 use Rattle.sourcemap.specs.declared.detector.SourceMapRef.TheVariants.{Ref, LegacyRef}
 use Rattle.sourcemap.specs.declared.errors.Error.{Error}
-use Rattle.sourcemap.specs.declared.errors.Error.TheVariants.{OutOfMemory}
 use Rattle.sourcemap_uses.specs.declared.finding.FoundMap.{FoundMap}
 use Rattle.sourcemap_uses.specs.Finding.{found_value, FileOfUrl, MapOfUrl, MapByReference, url_in}
-
-weaker : (e : Error) (P Q : Type 0) → (P → Q) → UnlessMemory e P → UnlessMemory e Q
-weaker OutOfMemory P Q f h = tt
-weaker _ P Q f h = f h
+use Rattle.sourcemap_uses.proofs.RefusalLemmas.{unless_memory}
 
 -- the map of a URL that does not start with `data:` is in the file that the URL resolves to, or nowhere
 pub no_map_held : (url path : List ℕ) → EmbeddedAnswer url (Ok None)
     → (r : Result FoundMap Error) → IsAnswer found_value (FileOfUrl url path) r → IsAnswer found_value (MapOfUrl url path) r
 no_map_held url path none (Ok found) file = inl (None, none, file)
 no_map_held url path none (Err e) file =
-    weaker e (FileOfUrl url path (Err e)) (MapOfUrl url path (Err e)) (λ due. inl (None, none, due)) file
+    unless_memory e (FileOfUrl url path (Err e)) (MapOfUrl url path (Err e)) (λ due. inl (None, none, due)) file
 
 same_url : (r : SourceMapRef) → url_in (reference r) ≡ url_of r
 same_url (Ref url) = refl

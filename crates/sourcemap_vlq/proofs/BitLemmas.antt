@@ -162,9 +162,6 @@ pub record Begins (bits : List Bool) (part : List ℕ) : Type 0 where
   pub digits : first_non_digit part ≡ None
   pub each : (j : ℕ) → j < 6 * length part → bit_of part j ≡ slice_index_or bits j false
 
-pub Begins-nil : (bits : List Bool) → Begins bits []
-Begins-nil bits = record { digits = refl; each = λ j h. absurd (omega arith) }
-
 pub Begins-push : (bits : List Bool) (part : List ℕ) (v : ℕ) → Begins bits part → v < 64
     → ((k : ℕ) → k < 6 → (bit_at v k == 1) ≡ slice_index_or bits (6 * length part + k) false)
     → Begins bits (part ++ glyph v ∷ [])

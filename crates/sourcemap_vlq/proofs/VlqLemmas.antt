@@ -7,7 +7,7 @@ use lib.Signed.{lt_z}
 use mir.Val.{bool_byte}
 use Rattle.std.proofs.Math.Pow.{pow_mono}
 use Rattle.std.proofs.lemmas.Nat.{pow-add, pow_pos, mul-le}
-use Rattle.std.proofs.lemmas.List.{length_push, length-append, append-nil, append_assoc, take_more, take-append-drop, drop_more, take_all, length-take-le, get_or_default}
+use Rattle.std.proofs.lemmas.List.{length_push, length-append, append-nil, append_assoc, take_more, take-append-drop, drop_more, length-take-le, get_or_default}
 use Rattle.std.proofs.lemmas.Bool.{and_parts, and_from, or_cases, or_parts, and_cases, cases_lt, cases_eq, eqb-true, eqb-false, leb-true, ltb-true, ltb-false, lt-ltb, le-leb, le-ltb, false_from_ne_true}
 use Rattle.std.proofs.lemmas.List.Elements.{All-from_recursion}
 use Rattle.sourcemap_errors.specs.declared.errors.Error.{Error}
@@ -173,9 +173,6 @@ NumberError-great text n v h unfinished e within =
     let bits : data_of c ≡ v % 32 = data_of-digit c v e in
     let within' : (nat_lt n 12 || ((n == 12) && nat_lt (data_of c) 8)) ≡ false = rw bits within in
     (take n text, c, GoesTo-at text n h unfinished, (λ none. cc (e, none)), fits_in_number-great (take n text) c n len within')
-
-pub NumberError-leftover : (text : List ℕ) (n : ℕ) → length text ≤ n → IsUnfinished (take n text) → NumberError text VlqLeftover
-NumberError-leftover text n h unfinished = rw (← take_all n text h) unfinished
 
 pub FitsOneNumber-more : (text : List ℕ) (n v : ℕ) → n < length text → IsUnfinished (take n text)
     → digit_value (get_or text n 0) ≡ Some v
@@ -409,13 +406,6 @@ HasError-later text rest sound ne e error = (rest, sound, ne, error)
 pub IsGroup-nonempty : (group : List ℕ) (n : ℤ) → IsGroup group n → 0 < length group
 IsGroup-nonempty [] n g = absurd g.chain
 IsGroup-nonempty (c ∷ cs) n g = omega arith
-
--- the text after a number is shorter
-pub BeginsWith-shorter : (text rest : List ℕ) (n : ℤ) → BeginsWith text n rest → length rest < length text
-BeginsWith-shorter text rest n b =
-    let some : 0 < length b.group = IsGroup-nonempty b.group n b.is_group in
-    let len : length text ≡ length b.group + length rest = ap length b.split ∙ length-append b.group rest in
-    omega arith
 
 -- ---- the shortest digits of a number
 
