@@ -2,8 +2,8 @@
 small program over the library to a temporary folder. `rt try` builds the program, once for all questions, and proves
 nothing about it. The program and the reference program have the same commands:
 
-    names    for each question, a line, a column and a minified name: the original name of the function, as JSON. The
-             generated text is given if there is one
+    names    for each question, a line, a column and a minified name: the original name of the function, as JSON. A
+             generated text is optional
     slices   for each question, a line, a column and a length in UTF-16 units: the slice of a text, as JSON. If the
              question is a line alone, the length of the line in bytes and a checksum. After them, the count of lines
     regular  the error if a map is read as a regular map, or `none`

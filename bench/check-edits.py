@@ -1,11 +1,11 @@
 #!/usr/bin/env python3
-"""Whether each must-fail edit can be applied.
+"""Checks whether each must-fail edit can be applied.
 
     bench/check-edits.py
 
-`rt ci` tries an edit only if the text of each `old:` line stands exactly once in the file that the `file:` line before
-it names. It prints a note for any other edit, and does not fail. So a reworded line could switch an edit off. This
-script fails then. Its last line is `N passed, M failed`, of edits."""
+`rt ci` tries an edit only if the text of each `old:` line occurs exactly once in the file that the `file:` line before
+it names. It prints a note for any other edit, and does not fail. So a reworded line could switch an edit off. Then this
+script fails. It also fails if there are no edits. Its last line is `N passed, M failed`, of edits."""
 import pathlib, sys
 
 CRATES = pathlib.Path(__file__).resolve().parent.parent / 'crates'

@@ -1,16 +1,18 @@
 #!/usr/bin/env python3
-"""Writes texts that all have one hash under the hasher of the kit's maps, whose seed is fixed.
+"""Writes texts that all have the same hash by the hash function of the kit's maps, whose seed is fixed.
 
     colliding.py KIND COUNT [--usual]
 
-KIND is what holds them: `lines`, a text a line; `sources` or `names`, a map with one token for
-each; `index`, an index map of ten sections, each with a tenth of them as its sources and as its names.
-With `--usual` the texts are as many others of the same length that do not collide.
+KIND says what contains the COUNT texts. `lines`: each line is a text. `sources` or `names`: a map has the texts
+as its sources or names, and a token for each. `index`: an index map has ten sections, each with a tenth of the
+texts as its sources and as its names. If COUNT is not a multiple of ten, there may be more sections, or fewer.
+With `--usual` the texts are as many others, which do not collide. They have 50 bytes instead of 48.
 
-The hasher takes 16 bytes at a time, as two numbers a and b: it multiplies (a xor its state) by
-(b xor a constant) and joins the two halves of the product. Where a is the state, the product is 0
-for any b. So a first block is searched after which the state is 8 plain characters; these come
-next, then 8 characters that differ from text to text, then a last block that is the same in all.
+The hash function reads 16 bytes at a time, as two numbers a and b. It multiplies (a xor the state) by
+(b xor a constant). The exclusive or of the two halves of the product is the new state. If a is equal to the
+state, the product is 0 for any b. So the script searches for a first block after which the state consists of
+8 plain characters. A text is this block, these 8 characters, 8 characters that differ from text to text,
+and a last block that is the same in all texts.
 """
 import argparse
 import itertools
@@ -69,7 +71,7 @@ def usual(count):
 
 
 def digits(number):
-    """One number of a segment."""
+    """The base64 digits of a number in a segment."""
     raw = number << 1 if number >= 0 else (-number << 1) | 1
     text = ''
     while True:
@@ -80,7 +82,7 @@ def digits(number):
 
 
 def map_of(sources, names):
-    """A map with a token for each source, or for each name."""
+    """A map with as many tokens as the longer list has entries. Each token uses the next source and the next name."""
     segments = []
     for number in range(max(len(sources), len(names))):
         step = 1 if number else 0

@@ -1,35 +1,38 @@
 #!/usr/bin/env python3
-"""Compares this program's answers with those of a reference program, on every map below a folder.
+"""Compares the answers of `sourcemap_tool`, which is called this program below, with those of a reference program. Does
+so for every map below a folder.
 
     bench/compare-answers.py REFERENCE MAPS [--positions N]
 
-REFERENCE    bench/reference, which is then built, or a program over the Rust crate that knows this program's
-             words, and also `stat`, `positions N SEED [wild]`, `batch FILE` and `dst FILE` (an answer for
-             each position of a file; the second with the token's generated position)
+REFERENCE    the folder bench/reference, which is then built, or a program over the Rust crate that has the commands of
+             this program, and also `positions N SEED [wild]`, `batch FILE` and `dst FILE`. The last two answer each
+             position of a file, and `dst` adds the token's generated position
 MAPS         a folder with *.map files, at any depth
---positions  positions of each map that are looked up (20): half of them beside tokens, half anywhere
+--positions  how many positions are looked up in each map (20). Half of them are beside tokens, and half are anywhere
 
-The programs of this repository are built where they are missing; SOURCEMAP_TOOL and SOURCEMAP_BENCH in the
-environment name others instead. Each difference is printed with its reason, or as UNEXPLAINED, and
-then the status is 1. A reason is given only where what was printed bears it out:
+If a program of this repository is missing, it is built first. SOURCEMAP_TOOL and SOURCEMAP_BENCH in the environment
+name other programs. A difference is printed with its reason, or as UNEXPLAINED. If one is unexplained, the status is 1.
+A difference has a reason only if the answers meet the test of this reason:
 
 - stable sort, range bits, panic: of records, see `reason_of_record` in comparing.py
-- stable sort: of `tokens`, the same tokens at the same positions, those of one position in another order; of
-  a lookup, the same tokens at the position that was found, in another order, and the right one of those here
-- distance of columns: a range token that is on another line than the position, where the reference adds
-  the distance of columns to the source column and nothing else differs
-- of a lookup in an index: both answer as they do in the map that the position leads to, and differ there for
-  one of these two reasons
-- scopes: of maps with function maps that are rewritten, see `reason_of_rewritten_hermes` there
-- bundle lists: of records written of an index, see `reason_of_index` in comparing.py
-- past the end: this program refuses to flatten, and by the rules a token would pass the last line or column, and
-  no section without a map comes before that
-- digits: this program refuses a byte, named as a character, or a number that mappings have, where the byte is
-  no digit or the number has more than 63 bits; the reference takes them, or refuses what comes later
-- error: both report an error of the JSON text, but different ones
-- not there: this program does not know the word yet
+- stable sort: `tokens` prints the same tokens at the same positions, those of one position in another order. Or a
+  lookup finds a position at which both programs have the same tokens in another order, and this program answers the
+  right one
+- distance of columns: a lookup finds a range token on another line than the position. The reference adds the distance
+  of their columns to the original column, and nothing else differs
+- of a lookup in an index map: both programs answer as they do in the map that the position leads to. There the answers
+  differ for the reason `stable sort` or `distance of columns`
+- scopes: of rewritten maps with function maps, see `reason_of_rewritten_hermes` in comparing.py
+- bundle lists: of records of index maps, see `reason_of_index` in comparing.py
+- past the end: this program refuses to flatten. By the rules a token passes the last line or column, and no section
+  without a map comes before it
+- digits: this program refuses a byte in mappings that is not a digit, or a number in mappings that has more than 63
+  bits. It prints this byte as a character. The reference accepts both, or reports a later error
+- error: both programs report an error of the JSON text, but different ones
+- not there: this program does not have the command. Such differences are only counted
 
-Positions in an index are drawn here, beside tokens of the flat map, beside starts of sections and anywhere.
+This script itself draws the positions in an index map: half of them beside tokens of the flat map, a quarter beside
+starts of sections, and a quarter anywhere.
 """
 import argparse, random, re, tempfile
 from comparing import (TOOL, answer, build_missing, compare_all, is_reordered, note_of, tokens_with_positions,
@@ -51,7 +54,7 @@ POSITION = re.compile(rb' \((\d+):(\d+)\)( \(range\))?$')
 
 
 def is_refused_digit(data, here):
-    """Whether this program refuses a map for digits that the map has and the reference accepts."""
+    """Whether this program refuses a map for a byte or a number that its mappings have and the reference accepts."""
     refused = FOREIGN.fullmatch(here[1].decode(errors='replace'))
     if here[0] != 1 or not refused and here[1] != OVERFLOW:
         return False
@@ -66,7 +69,7 @@ def are_json_errors(*answers):
 
 
 def reason(word, data, here, there):
-    """Why the two programs differ, None if nothing bears a reason out."""
+    """Why the two programs differ. None if no reason fits."""
     if here[0] == 2:
         return 'not there'
     if is_refused_digit(data, here):
@@ -83,7 +86,8 @@ def reason(word, data, here, there):
 
 
 def is_moved(here, theirs, distance):
-    """Whether two tokens' texts differ only by the distance that the second one's source column is moved."""
+    """Whether two texts of tokens are equal but for the original column. In the second it must be greater by
+    `distance`, but at most 2**32 - 1."""
     own, other = ANSWER.fullmatch(here), ANSWER.fullmatch(theirs)
     if not own or not other or (own[1], own[2], own[4]) != (other[1], other[2], other[4]):
         return False
@@ -91,8 +95,8 @@ def is_moved(here, theirs, distance):
 
 
 def is_among_equals(reference, data, position, found_at, here):
-    """Whether both programs have the same tokens at a position, in another order, and the answer given here is
-    the right one of those: the first if the position looked up is that one, else the last."""
+    """Whether both programs have the same tokens at the position that was found, in another order, and `here` is the
+    right one of them: the first one if the position looked up is the one found, else the last one."""
     own, other = ([text for at, text in tokens_of(answer([program, 'tokens'], data)[1]) if at == found_at]
                   for program in (TOOL, reference))
     if own == other or sorted(own) != sorted(other):
@@ -101,8 +105,8 @@ def is_among_equals(reference, data, position, found_at, here):
 
 
 def reason_within(reference, data, position, here, theirs):
-    """The bytes of the map that a position in an index leads to, and the position there, where both programs
-    answer there as they do in the index; else None."""
+    """The bytes of the map that a position in an index map leads to, and the position in this map. None if there is no
+    such map, or if a program answers otherwise in it than in the index map."""
     found = innermost(record_of(data), tuple(map(int, position.split())))
     if found is None:
         return None
@@ -112,8 +116,9 @@ def reason_within(reference, data, position, here, theirs):
 
 
 def reason_of_lookup(reference, data, position, here, theirs, with_position):
-    """Why two answers to a lookup differ. `with_position` is the reference's with the token's position in its map, as
-    `a.js:0:7 (0:0) (range)`; both are its refusal where it refuses."""
+    """Why two answers to a lookup differ. None if no reason fits. `theirs` is the reference's answer. `with_position`
+    is this answer with the generated position of its token, as `a.js:0:7 (0:0) (range)`. If the reference refuses the
+    map, both are the text of its error."""
     if is_refused_digit(data, here):
         return 'digits'
     if are_json_errors(here, (1, theirs)):
@@ -132,7 +137,7 @@ def reason_of_lookup(reference, data, position, here, theirs, with_position):
 
 
 def positions_in_index(record, count):
-    """Positions in an index: beside tokens of the flat map, beside starts of sections, and anywhere."""
+    """Lines of positions in an index map: beside tokens of the flat map, beside starts of sections, and anywhere."""
     draws = random.Random(count)
     positions = [position for position, _ in flat_tokens(record, tokens_with_positions)] + [(0, 0)]
     starts = list(map(offset_of, record['sections'])) + [(0, 0)]
@@ -149,7 +154,7 @@ def positions_in_index(record, count):
 
 
 def drawn_positions(reference, data, count):
-    """Positions for the map, None if the reference draws none for it."""
+    """Lines of positions in a map. None if the reference draws none, as for a map that it refuses."""
     if b'"sections"' in data and is_index(record := record_of(data)):
         return positions_in_index(record, count)
     drawn = [answer([reference, 'positions', str(n), *more], data)

@@ -1,34 +1,38 @@
 #!/usr/bin/env python3
-"""Compares the modules of RAM bundles, and the texts and maps that they are split into, with those of a reference
-program, and with the rules as bundles.py states them.
+"""Compares the modules of RAM bundles, and the texts and maps that bundles are split into, with those of a reference
+program, and with the rules in bundles.py.
 
     bench/compare-bundles.py REFERENCE [--bundles N] [--folders N] [--seed N]
 
-REFERENCE    bench/reference, which is then built, or a program over the Rust crate that knows `bundles QUESTIONS`, as
-             asking_bundles.py says
---bundles    how many bundles are made (3000)
---folders    how many folders with a file for each module (300)
---seed       another one gives others (1)
+REFERENCE    the folder bench/reference, which is then built, or a program over the Rust crate that has the command
+             `bundles QUESTIONS`, as asking_bundles.py describes it
+--bundles    the number of indexed bundles (3000)
+--folders    the number of file bundles: folders with a file for each module (300)
+--seed       the seed of all random choices (1)
 
-A bundle has up to six modules. Of three bundles one is cut, at each length in turn; some have tables that lie: entries
-and counts that are too large, modules that overlap, that are missing, that no UTF-8. Each is split by an index map of
-one to three sections, which may overlap or lack a map; the offsets of modules are null, missing, too few, in no order,
-on one line, before the first token, or at the last line that there can be. Neither program of this repository has words
-for bundles, so a small one is built that has (asking.py); nothing of it is proved. Each answer is held to the rules,
-and compared with the reference's. A difference is printed with its reason, of which the first ten are: `panic`, or
-those ways, the fewest, that lead to the reference's answer; or as UNEXPLAINED, and then the status is 1. No reason
-excuses an answer that is not that of the rules. The ways of the reference are
+A bundle has up to six modules. Every third indexed bundle is cut: the script takes one bundle at each length in turn,
+and then takes another. Some bundles have wrong tables: entries or counts are too large, modules overlap or are missing.
+Some modules are not UTF-8. Each bundle is split by an index map of one to three sections, which may overlap or lack a
+map. The line offsets of modules may be null, missing, too few, unordered, all on one line, before the first token, or
+at the last possible line. Neither sourcemap_tool nor sourcemap_bench has commands for bundles, so asking.py builds a
+small program that has them. Nothing about this program is proved.
 
-- scroll: a range that passes the bytes is refused in words of the library `scroll`
+Each answer must be the answer of the rules. It is also compared with the reference's answer. The reason for a
+difference from the reference is `panic`, or the smallest set of departures that leads to the reference's answer. If
+the answer is not that of the rules, a difference has no reason. The script prints the first ten differences with each
+reason. It prints each difference without a reason as UNEXPLAINED, and then the status is 1. The departures of the
+reference are
+
+- scroll: if a range passes the end of the bytes, the error is one of the library `scroll`
 - first: the first token of a module is dropped
-- column: a module ends at the first token, on any line, past the width of its last line
-- line: the line after its last one wraps
+- column: the tokens of a module end at the first one, on any line, whose column is not below the width of the last line
+- line: the number of the line after a module wraps
 - flags: no token of a module is a range token
-- past: positions of the flat map wrap
-- sign: a file's name may begin with a plus sign
-- last: its number may be the greatest, and the count of modules wraps
-- listed: of two files with one number the later in the order of the folder counts
-- lossy: a file's name that is no UTF-8 is refused as one that has no number
+- past: positions in the flattened map wrap
+- sign: the file name of a module may begin with a plus sign
+- last: the number of a module may be 2^64 - 1, and then the count of modules wraps
+- listed: of two files with the same number, the one that the folder lists later is the module
+- lossy: a file name that is not UTF-8 is refused like a name without a number
 """
 import argparse, json, os, pathlib, random, struct, tempfile
 from bundles import MAGIC, Files, Indexed, answer_of, byte_text, is_file_bundle, items_of, parts_of
@@ -36,13 +40,13 @@ from comparing import reference_program
 from comparing_references import compare_answers
 from drawn_bundles import STARTUPS, TEXTS, bundle_bytes, drawn_index
 
-# of the numbers that are accepted none is huge, since the reference goes through all below the greatest
+# no number that both programs accept is huge, because the reference visits each number below the greatest one
 NAMES = ['0.js', '1.js', '2.js', '5.js', '007.js', '01.js', '00.js', '+1.js', '-1.js', '1', '1.js.map', '.js', 'x.js', '1.JS', '１.js', ' 1.js', '11.js',
          '4294.js', '18446744073709551615.js', '18446744073709551616.js']
 
 
 def bundle_questions(draws, count):
-    """Questions on so many bundles, of which one in three is another one, cut."""
+    """Yields two questions for each of `count` bundles. Every third one is cut: one bundle at each length in turn."""
     cut, cuts = None, iter(())
     for number in range(count):
         if number % 3 == 0:
@@ -61,7 +65,7 @@ def bundle_questions(draws, count):
 
 
 def make_folder(draws, folder):
-    """A file bundle in a folder, which may lack something, and the texts of its modules."""
+    """Makes a file bundle in a folder. The marker file may be missing or wrong. A module may be a folder or a link."""
     beside = pathlib.Path(folder, 'js-modules')
     beside.mkdir(parents=True)
     pathlib.Path(folder, 'main.js').write_bytes(draws.choice(STARTUPS))
@@ -90,7 +94,7 @@ def folder_questions(draws, top, count):
 
 
 def due(question, ways):
-    """What the rules say, where the reference goes some ways of its own."""
+    """The answer of the rules, changed by the departures `ways` of the reference."""
     word, given, more = question
     if word == 'modules':
         data = given.encode('latin-1')
@@ -101,7 +105,7 @@ def due(question, ways):
     return answer_of(items_of, make, given, json.loads(more), ways)
 
 
-# which ways the reference may go
+# the departures that the reference may have
 SPLIT_WAYS = ['first', 'column', 'line', 'flags', 'past']
 FOLDER_WAYS = ['sign', 'last', 'listed', 'lossy']
 WAYS = {'modules': ['scroll'], 'folder': FOLDER_WAYS, 'split': ['scroll', *SPLIT_WAYS],

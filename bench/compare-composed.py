@@ -1,24 +1,26 @@
 #!/usr/bin/env python3
-"""Compares what this program and a reference program say of maps that are adjusted by others, and both with the
-rules of composition as composing.py states them.
+"""Adjusts maps by other maps with this repository's program and with a reference program. Compares both results, and
+compares the first one with the rules of composition in composing.py.
 
     bench/compare-composed.py REFERENCE PAIRS
 
-REFERENCE  bench/reference, which is then built, or a program over the Rust crate that knows `compose FILE`
-PAIRS      a folder with pairs of regular maps, NAME.original.map and NAME.adjustment.map, at any depth: as
-           bench/make-pairs.py makes them, or of a tool's own
+REFERENCE  the folder bench/reference, which is then built, or a program over the Rust crate that has the command
+           `compose FILE`
+PAIRS      a folder with pairs of regular maps at any depth, NAME.original.map and NAME.adjustment.map. The pairs are
+           made by bench/make-pairs.py, or by other tools
 
-The program of this repository is built where it is missing; SOURCEMAP_TOOL in the environment names another in
-instead. This program's answer has to be what the rules say, whatever the reference answers. If the two
-programs differ, the reason is printed; without one the pair is UNEXPLAINED, and then the status is 1:
+If the program of this repository is missing, the script builds it. SOURCEMAP_TOOL in the environment names another
+file to run instead. The answer of this program must be the answer of the rules, whatever the reference answers. If
+the two programs differ, the script prints the reason. A pair without a reason is UNEXPLAINED, and then the status is 1.
+The reasons are
 
-- past the line: by the rules a token would pass column 4294967295, so this program refuses; the reference goes
-  on at the line's start
-- cut range: the reference has the tokens of the rules, but for range tokens that are cut, which lead there to
-  where they did whole
-- stable sort: the reference has the tokens of the rules for another order of those tokens of the adjustment
-  that have one original position, of which the last one counts; here their order is unchanged
-- range bits: the tokens differ in which of them are range tokens, and in nothing else
+- past the line: by the rules a token would pass column 4294967295, so this program refuses the pair. In the reference
+  the column wraps to the start of the line; this is not checked
+- cut range: the reference has the tokens of the rules, but a shortened range token keeps its original position there.
+  By the rules the token gets the original position of its remaining part
+- stable sort: several tokens of the adjustment have one original position, and the last of them counts. The reference
+  has the tokens of the rules for another order of them. This program keeps their order. There are no range tokens
+- range bits: the tokens differ only in which of them are range tokens
 - panic: the reference panicked, and there are range tokens
 """
 import argparse, json, pathlib
@@ -31,7 +33,7 @@ REFUSED = (1, b'encountered incompatible sourcemap format\n')
 
 
 def parts_of(record):
-    """All of a record but its tokens."""
+    """A record without its mappings."""
     return {key: part for key, part in record.items() if key not in ('mappings', 'rangeMappings')}
 
 
@@ -40,20 +42,22 @@ def without_marks(tokens):
 
 
 class Pair:
-    """The tokens of two maps, and what the rules say of them."""
+    """The tokens of a map and of its adjustment. `due` has the tokens of the adjusted map by the rules, or is None if
+    the rules refuse the pair."""
 
     def __init__(self, original, adjustment):
         self.original, self.adjustment = tokens_of_record(original), tokens_of_record(adjustment)
         self.due = compose_tokens(self.original, self.adjustment)
 
     def is_due(self, here):
-        """Whether an answer is what the rules say."""
+        """Whether an answer is the answer of the rules."""
         if self.due is None:
             return here == REFUSED
         return here[0] == 0 and tokens_of_record(json.loads(here[1])) == without_repeats(self.due)
 
     def reason(self, here, there):
-        """Why the reference's answer differs from this program's, which is due; None if nothing bears one out."""
+        """The reason why the reference's answer differs from this program's answer, None if no reason fits. Assumes
+        that this program's answer is the answer of the rules."""
         if self.due is None:
             return 'past the line'
         is_ranged = any(token.is_range for token in self.due)
@@ -71,7 +75,8 @@ class Pair:
         return 'stable sort' if not is_ranged and self.is_reordered(theirs) else None
 
     def is_reordered(self, theirs):
-        """Whether tokens without range tokens are what the rules say for another order of the adjustment's."""
+        """Whether the tokens follow from the rules if the adjustment's tokens are in another order. There must be no
+        range tokens."""
         due = compose_tokens(self.original, with_others_last(self.original, self.adjustment, theirs))
         return due is not None and set(theirs) == set(due)
 

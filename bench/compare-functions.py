@@ -4,9 +4,9 @@ rules as walks.py and hermes_maps.py state them.
 
     bench/compare-functions.py REFERENCE MAPS [--questions N]
 
-REFERENCE    the folder bench/reference, whose program is then built, or a program over the Rust crate with the
-             commands `names QUESTIONS [TEXT]` and `slices QUESTIONS TEXT`. QUESTIONS is a file with a list of lists,
-             and each inner list gets an answer as JSON
+REFERENCE    the folder bench/reference, which is then built, or a program over the Rust crate with the commands
+             `names QUESTIONS [TEXT]` and `slices QUESTIONS TEXT`. QUESTIONS is a file with a list of lists, and each
+             inner list gets an answer as JSON
 MAPS         a folder with maps, at any depth. A file a.js beside a.js.map, or beside a.map, is the generated text. Its
              lines and slices are read, and names of functions in it are looked up by the map. They are also looked up
              by an index map that has this map twice, unless the map is an index map or has more than 1 MB. In a map
@@ -15,13 +15,14 @@ MAPS         a folder with maps, at any depth. A file a.js beside a.js.map, or b
 
 No command of this repository's programs answers these questions. So a small program is built that does (asking.py);
 nothing of it is proved. Each answer is compared with the reference's. It is also compared with the rules, unless it is
-a whole line, or the rules leave it open. A difference is printed with its reason, or as UNEXPLAINED. The reasons `line
-wraps` and `no order` may be many, and are only counted. If a difference is unexplained, or if no map has a text or
-function maps, the status is 1. An answer that contradicts the rules has no reason. The reasons are:
+a whole line, or the rules leave it open. A difference is printed with its reason, or as UNEXPLAINED. There may be many
+differences with the reasons `line wraps` and `no order`, so these are only counted. If a difference is unexplained, or
+if no map has a text or function maps, the status is 1. If an answer of this library contradicts the rules, it is always
+unexplained. The reasons are:
 
 - panic: the reference panicked
-- line wraps: by the rules, a token maps to line 4294967295 of its source. The reference counts this line from 1, and the
-  sum wraps
+- line wraps: by the rules, a token maps to line 4294967295 of its source. The reference counts this line from 1, and
+  the sum wraps
 - token twice: the reference's walk visits its first token twice. If this token is before the position, its index in the
   reference is one too high
 - pairs: the text has characters of two UTF-16 units. The reference may count from the middle of such a character
@@ -45,7 +46,7 @@ OPEN = object()
 
 def names_to_ask(lines, tokens, words, draws):
     """A minified name to look up at the last of these tokens. Mostly it is the identifier at one of the tokens. If some
-    tokens follow a token at `function`, half of the draws choose among those."""
+    tokens follow a token at `function`, half of the draws choose among those. Otherwise it is a word of the text."""
     after_function = [token for last, token in zip(tokens, tokens[1:]) if identifier_at(lines, last) == 'function']
     identifier = identifier_at(lines, draws.choice(after_function if after_function and draws.randrange(2) else tokens))
     return identifier if identifier and draws.randrange(8) else draws.choice(words)

@@ -3,20 +3,24 @@
 
     bench/compare-loading.py REFERENCE [--cases N] [--seed N]
 
-REFERENCE    bench/reference, which is then built, or a program over the Rust crate that knows `references QUESTIONS`,
-             as asking_references.py says
---cases      how many lists of sources are drawn (400)
---seed       another one draws others (1)
+REFERENCE    the folder bench/reference, which is then built, or a program over the Rust crate that has the command
+             `references QUESTIONS`, as asking_references.py describes it
+--cases      the number of random lists of sources (400)
+--seed       the seed of all random choices (1)
 
-Folders are made with files that are there, empty, no UTF-8, reached through links or folders, and with names that URLs escape;
-from them a builder loads contents, and a map is rewritten with contents that it lacks. Neither program of this
-repository has a word for loading, so a small one is built that has (asking.py); nothing of it is proved. Each answer is
-held to the rules, and compared with the reference's. A difference is printed with its reason, of which the first ten
-are: `panic`, or those ways, the fewest, that lead to the reference's answer; or as UNEXPLAINED, and then the status is
-1. No reason excuses an answer that is not that of the rules. The ways are `dots`, `colon` and those of URLs of references.py, and
+The script makes folders with files. Some files are empty or not UTF-8, some are reached through links or other folders,
+and some have names that URLs escape. A builder loads contents from these files, and a map that is rewritten loads the
+contents that it lacks. Neither sourcemap_tool nor sourcemap_bench has a command for loading, so asking.py builds a
+small program that has one. Nothing about this program is proved.
 
-- count: the reference counts sources that lead to a path, whether a file can be read there or not
-- bytes: a path that is not UTF-8 leads to a file too
+Each answer must be the answer of the rules. It is also compared with the reference's answer. The reason for a
+difference from the reference is `panic`, or the smallest set of departures that leads to the reference's answer. If
+the answer is not that of the rules, a difference has no reason. The script prints the first ten differences with each
+reason. It prints each difference without a reason as UNEXPLAINED, and then the status is 1. The departures of the
+reference are `dots`, `colon`, `url`, `old url` and `new url`, as references.py describes them, and
+
+- count: the reference counts the sources that resolve to a path, even if no file can be read there
+- bytes: a source may resolve to a path that is not UTF-8
 """
 import argparse, os, pathlib, random, tempfile
 from comparing import reference_program
@@ -68,7 +72,7 @@ def questions_of(top, given):
 
 
 def path_from(folder, source, ways):
-    """The path that a source leads to from a folder, None if it leads to none."""
+    """The path that a source resolves to against a folder, None if it does not resolve to a path."""
     url = base_by(folder, ways, is_folder=True)
     try:
         return url and path_by(url_of_reference(source, url, ways), ways)
@@ -77,7 +81,7 @@ def path_from(folder, source, ways):
 
 
 def text_at(path):
-    """The text of the file at a path with a character for each byte, None if it cannot be read or is not UTF-8."""
+    """The text of a file, None if it cannot be read or is not UTF-8. The path has one character for each byte."""
     try:
         with open(path.encode('latin-1'), 'rb') as file:
             return file.read().decode()
@@ -88,7 +92,7 @@ def text_at(path):
 def due(question, ways):
     word, current, base, sources = question
     folder = current if base is None else os.path.join(current, base)
-    # the first of equal sources gives the number, the last contents count
+    # equal sources are one source, in the position of the first; the contents that were set last count
     contents = {}
     for source, text in sources:
         contents[source] = contents.get(source) if text is None else text
@@ -102,7 +106,7 @@ def due(question, ways):
     return [count, *contents.values()] if word == 'load' else [[source, text] for source, text in contents.items()]
 
 
-# which ways the reference may go
+# the departures that the reference may have
 WAYS = ['count', 'dots', 'colon', 'bytes', 'url', 'old url', 'new url']
 
 

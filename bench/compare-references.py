@@ -1,21 +1,24 @@
 #!/usr/bin/env python3
-"""Compares references to maps, resolved references, relative paths, and which texts are maps, with those of a reference
-program and with the rules as references.py and urls.py state them.
+"""Compares four kinds of answers with those of a reference program, and with the rules in references.py and urls.py:
+references to maps, what references resolve to, relative paths, and which texts are maps.
 
     bench/compare-references.py REFERENCE [PACKAGES] [--texts N] [--seed N]
 
-REFERENCE    bench/reference, which is then built, or a program over the Rust crate that knows `references QUESTIONS`,
-             as asking_references.py says
-PACKAGES     a folder of packages: up to 300 of its texts, *.js and *.css, are looked through too, those first that
-             have a mark of a reference
---texts      how many texts are made (2000)
---seed       another one gives other texts (1)
+REFERENCE    the folder bench/reference, which is then built, or a program over the Rust crate that has the command
+             `references QUESTIONS`, as asking_references.py describes it
+PACKAGES     a folder of packages. Up to 300 of its *.js and *.css files are tested too, those that contain
+             `sourceMappingURL=` first
+--texts      the number of random texts (2000)
+--seed       the seed of all random choices (1)
 
-Neither program of this repository has words for this, so a small one is built that has (asking.py); nothing of it is
-proved. Each answer is held to the rules, but for maps in data URLs and for hosts of which urls.py says nothing, and
-each is compared with the reference's. A difference is printed with its reason, of which the first ten are: `panic`, or
-those ways of references.py, the fewest, that lead to the reference's answer; or as UNEXPLAINED, and then the status is
-1. No reason excuses an answer that is not that of the rules.
+Neither sourcemap_tool nor sourcemap_bench has commands for this, so asking.py builds a small program that has them.
+Nothing about this program is proved.
+
+Each answer must be the answer of the rules, unless it is about a map in a data URL, or about a host for which urls.py
+leaves the result open. Each answer is also compared with the reference's. The reason for a difference from the
+reference is `panic`, or the smallest set of departures in references.py that leads to the reference's answer. If the
+answer is not that of the rules, or the rules leave it open, a difference has no reason. The script prints the first ten
+differences with each reason. It prints each difference without a reason as UNEXPLAINED, and then the status is 1.
 """
 import argparse, pathlib, random
 from comparing import reference_program
@@ -28,7 +31,7 @@ MOST_TEXTS, MOST_BYTES = 300, 1 << 20
 
 
 def packed_texts(folder):
-    """The name and the bytes of texts of packages, those with a mark first."""
+    """The names and the bytes of up to MOST_TEXTS files of packages, those with the mark of a reference first."""
     paths = [path for suffix in ('js', 'css') for path in pathlib.Path(folder).rglob(f'*.{suffix}')]
     texts = [(str(path.relative_to(folder)), path.read_bytes()) for path in sorted(paths) if path.is_file() and path.stat().st_size <= MOST_BYTES]
     return sorted(texts, key=lambda text: b'sourceMappingURL=' not in text[1])[:MOST_TEXTS]
@@ -66,7 +69,7 @@ def questions_of(given):
 
 
 def due(question, ways):
-    """What the rules say, where the reference may go some ways of its own."""
+    """The answer of the rules, changed by the departures `ways` of the reference. OPEN if the rules leave it open."""
     word, *texts = question
     if word == 'locate':
         return [locate_reference(texts[0].encode('latin-1'))] * 2
@@ -83,7 +86,7 @@ def due(question, ways):
         return OPEN
 
 
-# which ways of references.py the reference may go
+# the departures in references.py that the reference may have
 URL_WAYS = ['url', 'old url', 'new url']
 WAYS = {'resolve': URL_WAYS, 'path': ['dots', 'drive', 'scheme', 'bytes', 'colon', *URL_WAYS], 'relative': ['nothing'], 'cut': ['forgotten'],
         'map': ['twice', 'skipped', 'array']}

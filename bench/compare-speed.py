@@ -4,11 +4,11 @@
     bench/compare-speed.py REFERENCE [MAP..] [--pairs FOLDER] [--views] [--bundles] [--rounds N] [--no-made] [--no-maps]
                            [--lookups N..] [--growth N..] [--instructions]
 
-REFERENCE       the folder bench/reference, whose program is then built, from the public registry only if crates are
-                missing. Or a program over the Rust crate with the commands `bench OPERATION N` and `stat`, which
-                takes `slice` and `stream` before `lookup LINE COL`, `rewrite`, `flatten` and `compose FILE`
+REFERENCE       the folder bench/reference, which is then built, from the public registry only if crates are missing.
+                Or a program over the Rust crate with the commands `bench OPERATION N` and `stat`, which takes `slice`
+                and `stream` before `lookup LINE COL`, `rewrite`, `flatten` and `compose FILE`
 MAP             files of maps, which may be index maps. Without MAP, the maps that bench/get-maps.sh gathers are
-                measured. In both cases bench/make-map.py makes small and odd maps and index maps besides
+                measured. In both cases, small and odd maps and index maps are added, which bench/make-map.py makes
 --pairs         a folder with pairs NAME.original.map and NAME.adjustment.map, at any depth. Each pair is composed
                 many times in one process, and in whole runs of `compose`
 --views         measures views of texts, which are made and then read line by line, and walks back over tokens,
@@ -16,7 +16,7 @@ MAP             files of maps, which may be index maps. Without MAP, the maps th
                 generated text beside it, as a.js beside a.js.map or a.map
 --bundles       measures made RAM bundles, which are split by their index maps
 --rounds        the number of rounds for each figure, of which the smallest result counts (7)
---no-made       leaves out the maps and index maps that are made besides
+--no-made       leaves out the maps and index maps that are added
 --no-maps       leaves out the tables of regular maps and of index maps
 --lookups       numbers of tokens (300 1000 5000 20000 100000 2300000). For each number, lookups alone are timed, on
                 a made map with ten tokens in each line, and on one with all tokens in one line. 0 gives no row

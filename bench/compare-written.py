@@ -1,25 +1,26 @@
 #!/usr/bin/env python3
-"""Compares what is written here with what a reference program reads of it and writes itself, on every
-regular map below a folder.
+"""Compares the text that this library writes of a map with the tokens that a reference program reads from this text,
+and with the text that the reference writes of the map. Does so for every regular map below a folder.
 
     bench/compare-written.py REFERENCE MAPS
 
-REFERENCE    bench/reference, which is then built, or a program over the Rust crate that knows `stat`, this
-             program's word `tokens`, and `roundtrip`, which writes a map as it is
+REFERENCE    the folder bench/reference, which is then built, or a program over the Rust crate with the commands
+             `stat`, `tokens` (that of `sourcemap_tool`), and `roundtrip`, which writes a map as it is
 MAPS         a folder with *.map files, at any depth
 
-The programs of this repository are built where they are missing; SOURCEMAP_TOOL and SOURCEMAP_BENCH in the
-environment name others instead. Each map that the reference calls regular is written by
-`sourcemap_bench write`. The reference's `tokens` of that text must be its `tokens` of the map, and its own
-record of the map must be that text. Each difference is printed with its reason, or as UNEXPLAINED, and then
-the status is 1. A reason is given only where what was printed bears it out. Of tokens:
+If a program of this repository is missing, it is built first. SOURCEMAP_TOOL and SOURCEMAP_BENCH in the environment
+name other programs. `sourcemap_bench write` writes each map that the reference calls regular. The reference must print
+the same `tokens` of this text as of the map, and must write the same text of the map. A difference is printed with its
+reason, or as UNEXPLAINED. If one is unexplained, the status is 1. A difference has a reason only if the answers meet
+the test of this reason. For tokens the reasons are:
 
-- repeats: the same tokens, but that those which repeat the one before are left out
-- stable sort: the reference reads the map's own tokens in another order among those of one position, and the
-  text as the tokens in the order in which they are read here
-- range bits: the same tokens but for which of them are range tokens, and read here they are the same
+- repeats: the tokens are the same, but tokens that repeat the one before are left out
+- stable sort: from the map, the reference reads the tokens of one position in another order than `sourcemap_tool`.
+  From the text, it reads them in the order of `sourcemap_tool`
+- range bits: the tokens are the same, but other ones are range tokens. `sourcemap_tool` reads the same tokens from the
+  text as from the map
 
-Of records those of `reason_of_record` in comparing.py.
+For records they are those of `reason_of_record` in comparing.py.
 """
 import argparse
 from comparing import (BENCH, answer, build_missing, compare_all, is_reordered, kind_of, note_of, reads_back,
@@ -27,7 +28,7 @@ from comparing import (BENCH, answer, build_missing, compare_all, is_reordered, 
 
 
 def reason_of_tokens(data, written, back, whole):
-    """Why the tokens read back are not those of the map, None if nothing bears a reason out."""
+    """Why the tokens of the text are not those of the map. None if no reason fits."""
     if written[0] or back[0]:
         return None
     if without_repeats(back[1]) == without_repeats(whole[1]):

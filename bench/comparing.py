@@ -191,7 +191,7 @@ def reason_of_index(data, here, there):
     differs without a reason. The pieces are the index map without its inner maps, and the pieces of these.
 
     - bundle lists: only the record here has the RAM bundle lists of the index map, and nothing else differs
-    - panic: the reference panicked, an inner map has `rangeMappings`, and all inner maps read back
+    - panic: the reference panicked, an inner map of the record here has `rangeMappings`, and its inner maps read back
     - otherwise the reason of `reason_of_record` for each inner map
     """
     if here[0] or there[0] not in (0, PANICKED):

@@ -1,17 +1,17 @@
-"""What compare-references.py, compare-loading.py and compare-bundles.py share: questions to the library, to the
-reference program and to the rules, and reasons for differences. Each reason has to lead to the answer of the
+"""Shared by compare-references.py, compare-loading.py and compare-bundles.py: asks the library, the reference program
+and the rules the same questions, and finds reasons for differences. A reason must lead to the answer of the
 reference."""
 import collections, itertools, json, pathlib, sys, tempfile
 from asking import Case, answers_here
 from comparing import answer, note_of, report
 
 MOST_PRINTED = 10
-# what is due where the rules leave it open
+# the answer of the rules if they leave it open
 OPEN = object()
 
 
 def reference_answers(reference, questions, word):
-    """The answer of the reference program to each question of a command."""
+    """The line that the reference program answers to each question. Exits if it answers more or fewer lines."""
     with tempfile.TemporaryDirectory() as folder:
         file = pathlib.Path(folder, 'questions')
         file.write_text(json.dumps(questions))
@@ -35,8 +35,9 @@ def short(question):
 
 
 def notes_of(question, here, there, due, ways):
-    """An answer beside what is due by the rules, and beside the reference's. The reason for a difference is `panic`, or
-    the fewest ways that lead to the reference's answer."""
+    """Yields the notes that compare an answer with the answer of the rules, unless that is OPEN, and with the answer of
+    the reference. The reason for a difference from the reference is `panic`, or the smallest set of `ways` that leads
+    to the reference's answer. There is no reason if the answer is not that of the rules, or if that is OPEN."""
     own, other, right = value_of(here), value_of(there), due(question, ())
 
     def reason():
@@ -51,8 +52,9 @@ def notes_of(question, here, there, due, ways):
 
 
 def compare_answers(reference, questions, due, ways_of, word='references'):
-    """Asks all questions, prints unexplained differences, the first of each reason and all counts, and ends the run.
-    `due` says what is due for a question if the reference goes some ways, and `ways_of` which it may go."""
+    """Asks all questions. Prints each unexplained difference, the first ones with each reason, and all counts. Then
+    exits, with status 1 if a difference is unexplained. `due` returns the answer of the rules to a question, changed by
+    some departures of the reference. `ways_of` returns the departures that the reference may have for a question."""
     there = reference_answers(reference, questions, word)
     here = answers_here([Case(question[0], word, None, None, [question], 1) for question in questions])
     counts, asked = collections.Counter(), collections.Counter(question[0] for question in questions)

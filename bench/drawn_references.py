@@ -1,4 +1,4 @@
-"""Texts with references to maps, paths, and JSON texts that may be maps, drawn by chance."""
+"""Random texts with references to maps, random paths, and random JSON texts that may be maps."""
 from references import KEYS
 
 MARKS = ['//# sourceMappingURL=', '//@ sourceMappingURL=']
@@ -36,7 +36,8 @@ HEADERS = ['', '', '', '', ")]}'\n", ')]}\r\n', ')]}\rx\n', "')\n\n", ')', ']\r'
 
 
 def drawn_text(draws):
-    """The bytes of a text of a few lines; in most there is a mark, in some two, and in some what is no text."""
+    """The bytes of a text of a few lines. Most texts have one or two references, or lines that are almost references.
+    Some texts have a line that is not UTF-8."""
     lines = [draws.choice(CODE).encode() for _ in range(draws.randrange(6))]
     for _ in range(draws.choice([0, 1, 1, 1, 2, 2])):
         mark = draws.choice(MARKS if draws.randrange(5) else NEAR_MARKS)
@@ -56,7 +57,8 @@ def drawn_path(draws):
 
 
 def drawn_record(draws):
-    """The bytes of a JSON text that may be a map: with some keys, some twice, some null, some of no right type."""
+    """A JSON text that may be a map, with a character for each byte. Keys may be missing or doubled, and values null or
+    of a wrong type. Some texts are cut, and some are arrays."""
     values = {'version': '3', 'file': '"a.js"', 'sourceRoot': '""', 'mappings': '"AAAA"', 'sections': '[]'}
     keys = draws.sample([*KEYS, 'x_more', 'Version'], draws.randrange(1, 8))
     keys += draws.sample(keys, draws.randrange(8) == 0)

@@ -135,7 +135,7 @@ ssize_t __read(int file, void *to, size_t size) __attribute__((alias("read")));
 ssize_t pread64(int file, void *to, size_t size, off_t offset) __attribute__((alias("pread")));
 ssize_t __write(int file, const void *from, size_t size) __attribute__((alias("write")));
 
-/* Writes only the first part that is not empty, by one call of `write`. Short writes are allowed. */
+/* Writes only the first part that is not empty, by one call of `write`. A writer may do so. */
 ssize_t writev(int file, const struct iovec *parts, int count) {
     for (int part = 0; part < count; part++)
         if (parts[part].iov_len > 0) return write(file, parts[part].iov_base, parts[part].iov_len);

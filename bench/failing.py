@@ -6,7 +6,8 @@ the calls fail.
 If an allocation of a test fails, the test may still pass, because the code under test needs no memory there or is
 called again. Otherwise the test must end with an error that says that memory ran out. The test returns this error, or a
 failed assertion prints it. A failed assertion that hides this cause counts as a failure. If a read or a write of a test
-is interrupted, or moves one byte, the test must pass. If it fails or moves nothing, the test must end by itself.
+is interrupted, or moves one byte, the test must pass. If the read or write fails or moves nothing, the test must end by
+itself.
 
 If an allocation of the program fails, the program must give its usual answer, or print `out of memory` with status 1.
 It prints this on standard output, or only on standard error if the run has not begun yet. A read or a write that is

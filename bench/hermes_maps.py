@@ -1,16 +1,17 @@
-"""What the scripts know of the function maps that Metro writes beside the sources of a map. Each is stated here
-anew, by the rules of the format, and takes nothing from the programs that are compared."""
+"""The rules of the function maps that Metro writes for the sources of a map. The code follows the rules of the format,
+and takes nothing from the programs that are compared."""
 import bisect, collections
 from composing import DIGITS, numbers_of, tokens_of_record
 from index_maps import LAST
 
-# where a function begins in a source: the line counts from 1, and the name by its index in the list of names
+# the original position at which a function begins, with its line counted from 1, and the index of its name
 Offset = collections.namedtuple('Offset', 'line column name')
 KEY = 'x_facebook_sources'
 
 
 def is_readable(segment):
-    """Whether a segment's digits are digits, end with a number's last one, and make numbers of at most 63 bits."""
+    """Whether a segment has only base64 digits, ends with the last digit of a number, and has no number of more than 63
+    bits."""
     if not all(digit in DIGITS for digit in segment) or DIGITS.index(segment[-1]) >= 32:
         return False
     length, raw = 0, 0
@@ -24,7 +25,7 @@ def is_readable(segment):
 
 
 def offsets_of(mappings):
-    """Where functions begin by a text of scope mappings, None if a part of it cannot be read."""
+    """The starts of the functions in a text of scope mappings. None if a segment cannot be read."""
     offsets, name, line = [], 0, 1
     for text in mappings.split(';'):
         column = 0
@@ -38,7 +39,7 @@ def offsets_of(mappings):
 
 
 def closest(items, key, position):
-    """The first item at a position, else the last before it, else None; the items are sorted by `key`."""
+    """The first item at a position. Else the last item before it, or None. The items must be sorted by `key`."""
     at = bisect.bisect_left(items, position, key=key)
     if at < len(items) and key(items[at]) == position:
         return items[at]
@@ -50,13 +51,13 @@ def begins(offset):
 
 
 def entry_at(record, source):
-    """The scopes of a source by its id, None where it has none."""
+    """The function map of a source id. None if it has none."""
     entries = record[KEY]
     return entries[source] if source < len(entries) else None
 
 
 def scope(record, source, line, column):
-    """The name of the function that contains an original position, None if there is none."""
+    """The name of the function that contains an original position. None if there is none."""
     entry = entry_at(record, source)
     if not entry:
         return None
@@ -66,8 +67,8 @@ def scope(record, source, line, column):
 
 
 def function_name(record, offset, tokens=None):
-    """The name of the function that contains a bytecode offset, a column of line 0. A caller that asks often
-    passes the map's tokens."""
+    """The name of the function that contains a bytecode offset, which is a column of line 0. None if there is none. If
+    a caller asks often, it passes the map's tokens, so that they are not read each time."""
     token = closest(tokens or tokens_of_record(record), lambda token: token[:2], (0, offset))
     if token is None:
         return None
@@ -76,20 +77,20 @@ def function_name(record, offset, tokens=None):
 
 
 def is_in_order(record):
-    """Whether functions are sorted by their starts, in every source."""
+    """Whether the functions of each source are sorted by their starts."""
     lists = [offsets_of(entry[0]['mappings']) or [] for entry in record[KEY] if entry]
     return all(list(map(begins, offsets)) == sorted(map(begins, offsets)) for offsets in lists)
 
 
 def resolved_sources(record):
-    """The sources resolved against their root, for roots and texts that need nothing between them but a slash."""
+    """The sources, each after `sourceRoot` and a slash. Absolute sources, to which no root belongs, are not handled."""
     root = (record.get('sourceRoot') or '').rstrip('/')
     return [f'{root}/{source}' if root and source else source or '' for source in record['sources']]
 
 
 def kept_entries(record):
-    """The scopes of each source that a rewritten map has: those of the first source, by the order of tokens, that
-    gave it its text."""
+    """The function maps of the sources of a rewritten map, one for each: that of the source id of the first token that
+    uses the source."""
     texts, firsts = resolved_sources(record), {}
     for token in tokens_of_record(record):
         if token.source < len(texts):

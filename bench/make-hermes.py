@@ -3,13 +3,14 @@
 
     bench/make-hermes.py FOLDER [--count N] [--seed N]
 
-FOLDER   where NAME.map are written
---count  how many maps (2000)
---seed   another one gives other maps (1)
+FOLDER   the folder to which the maps are written, as NAME.map
+--count  the number of maps (2000)
+--seed   the seed of the random numbers; another seed makes other maps (1)
 
-A map has up to twelve tokens, most on line 0, and up to four sources, of which two may have one text. Its list of
-scopes is as long as that of sources, shorter or longer; an entry is missing, empty, or has one or two records. Of
-the texts of scope mappings some cannot be read, some are unsorted, and some have names that are not there.
+A map has up to twelve tokens, most of them on line 0, and up to four sources, some of which may be equal texts. Its
+list of function maps is as long as the list of sources, shorter, or longer. An entry of this list is null, is empty, or
+has one or two records. Some texts of scope mappings cannot be read, some are not sorted, and some have indexes of
+missing names.
 """
 import argparse, json, pathlib, random
 from composing import Token, digits_of, mappings_of
@@ -29,7 +30,7 @@ def drawn_token(draws, sources, is_ranged):
 
 
 def drawn_mappings(draws, names):
-    """A text of scope mappings, sorted or not."""
+    """A random text of scope mappings. Some are not sorted, and one in ten cannot be read."""
     positions = [(draws.randrange(1, 8), draws.randrange(12)) for _ in range(draws.randrange(9))]
     if draws.randrange(8):
         positions.sort()

@@ -1,21 +1,22 @@
 #!/usr/bin/env python3
-"""Makes small pairs of maps, of which one is to be adjusted by the other, the same on every run.
+"""Makes small pairs of a map and its adjustment. Each run with the same arguments makes the same pairs.
 
     bench/make-pairs.py FOLDER [--count N] [--seed N]
     bench/make-pairs.py FOLDER --tokens N..
 
-FOLDER    where NAME.original.map and NAME.adjustment.map are written
---count   how many pairs (5000)
---seed    another one gives other maps (1)
---tokens  large pairs instead, to be timed: one for each number, with an original of so many tokens
+FOLDER    the folder to which NAME.original.map and NAME.adjustment.map are written
+--count   the number of pairs (5000)
+--seed    the seed of all random choices (1)
+--tokens  makes large pairs instead, for measuring times: one for each number, whose original has this many tokens
 
-A map has up to sixteen tokens on up to three lines, so few positions that many tokens share a generated or an original one, or cover
-nothing. Their columns are small, with some at the end of a line. In half of the maps tokens are unsorted
-within a line; some have no source, some are range tokens. No two maps have the same sources or names.
+A small map has up to sixteen tokens on up to three lines. There are so few positions that many tokens have the same
+generated or the same original position, or cover an empty range. Columns are small, but a few are at the end of a line.
+In half of the maps the tokens of a line are unsorted. Some tokens have no source, and some are range tokens. The two
+maps of a pair have no source and no name in common.
 
-The original of a large pair has ten tokens a line. Its adjustment is that of a step that writes the text shorter
-in lines of forty tokens: it has nine in ten of the tokens, in blocks of two hundred, of which one in twenty comes
-after the next one and one in four hundred at the end of the text.
+The original of a large pair has ten tokens on each line. Its adjustment is like the map of a tool that makes the text
+shorter, with forty tokens on each line. It has nine in ten of the original's tokens, in blocks of two hundred. One
+block in twenty is swapped with the block before it, and one in four hundred is moved to the end of the text.
 """
 import argparse, json, pathlib, random
 from composing import Token, mappings_of
@@ -27,7 +28,7 @@ def drawn_column(draws, is_far):
 
 
 def drawn_token(draws, is_far, is_ranged):
-    """A token anywhere; a few have no source, and some no name."""
+    """A random token. One in eight has no source, and one in three of the others no name."""
     line, column = draws.randrange(3), drawn_column(draws, is_far)
     is_range = is_ranged and draws.randrange(3) == 0
     if draws.randrange(8) == 0:
@@ -47,7 +48,7 @@ def drawn_map(draws, kind):
 
 
 def steps_on(draws, count, tokens_a_line, farthest):
-    """Positions of so many tokens, each after the last."""
+    """Yields `count` positions in order. The step from one column to the next is below `farthest`."""
     column = 0
     for index in range(count):
         column = 0 if index % tokens_a_line == 0 else column + draws.randrange(1, farthest)
@@ -55,7 +56,7 @@ def steps_on(draws, count, tokens_a_line, farthest):
 
 
 def reorder_blocks(draws, tokens):
-    """The tokens in blocks, some of which are swapped with the next and a few of which come last."""
+    """The tokens, with some blocks of 200 swapped with the block before them, and a few blocks moved to the end."""
     blocks = [tokens[at:at + 200] for at in range(0, len(tokens), 200)]
     late = [block for block in blocks if draws.randrange(400) == 0]
     blocks = [block for block in blocks if block not in late]
@@ -66,7 +67,7 @@ def reorder_blocks(draws, tokens):
 
 
 def large_pair(draws, count):
-    """The tokens of an original, and those of its adjustment."""
+    """The tokens of a large original, and the tokens of its adjustment."""
     originals = [Token(line, column, index // 7, column % 60, index * 50 // count, index % 2, False)
                  for index, (line, column) in enumerate(steps_on(draws, count, 10, 13))]
     kept = reorder_blocks(draws, [token for token in originals if draws.randrange(10)])

@@ -10,8 +10,8 @@ A case has the arguments of a program, its standard input, and the file that the
 expected status and output of a command, and `calls.py` those of a call. A case fails if its run ends otherwise, or if
 it writes to standard error. There is one exception: if `sourcemap_bench_bundles` does not split a bundle, it writes the
 error to standard error, and only its status is compared. The rules leave some cases open, and then require only that
-the status is 0 or 1. One reason is an output with too many lines for `rules.py`. Such a run may also end with `out of
-memory` and status 1, because a run has 256 MB of memory.
+the status is 0 or 1. One reason is an output with too many lines for `rules.py`. Such a run may also print
+`out of memory` and end with status 1, because a run has 256 MB of memory.
 
 With --reference, each case of a command also runs on PROGRAM, a built program over the crate (`reference/`). The script
 compares no case of `trace`, which the reference does not have, and no run whose status is not 0 or 1. Each difference
@@ -40,7 +40,6 @@ HERE = pathlib.Path(__file__).resolve().parent
 CHUNK = 500
 # the fraction of cases that make calls; the others run commands
 CALLS_SHARE = 0.25
-NO_MEMORY = (1, b'out of memory\n')
 EDGES = [0, 1, 2, 5, 31, 32, 2**31 - 1, 2**31, LAST - 1, LAST, LAST + 1, 2**63, 2**64, -1]
 TEXTS = ['a.js', 'b.js', '/a/b/x.js', '/a/b/y.js', '', 'http://x.com/c.js', 'https:d', '../e.js', '~/f.js', 'é👌', '\\"\n\t\x01',
          'webpack:///g', 'C:\\h.js', 'a.js']
@@ -392,7 +391,7 @@ UNEXPLAINED = 'UNEXPLAINED'
 
 
 def values_in(data):
-    """All JSON values in a text, at any depth, in no particular order. None of them if the text is not JSON."""
+    """All JSON values in a text, at any depth, in no particular order. Yields nothing if the text is not JSON."""
     try:
         left = [rules.json_of(data)]
     except rules.Refusal:

@@ -1,27 +1,28 @@
-"""What the scripts know of references to maps, of paths, and of texts that are maps. Stated here anew, by the rules of
-the format; nothing of it is taken from the programs that are compared.
+"""The rules of references to maps, of paths, and of texts that are maps. The code follows the rules of the format, and
+takes nothing from the programs that are compared.
 
-Where the Rust crate is known to go another way, that way is stated too, as a word of WAYS, so that a reason for a
-difference is borne out by the answer that it leads to:
+The Rust crate is known to depart from these rules in some ways. Each way has a name, and the arguments `ways` take such
+names. So a script can test whether a reason for a difference leads to the crate's answer. The ways are:
 
-- dots: the base of paths keeps its `..`
-- drive: a component like `C:` at the start of the base of paths is the letter of a drive
+- dots: a path that references are resolved against keeps its `..`
+- drive: if a path that references are resolved against begins with a component like `C:`, this is the letter of a drive
 - scheme: a URL of any scheme has a path, if it has no host or the host `localhost`
 - bytes: a path need not be UTF-8
-- colon: a path that ends in a letter and `:` or `|` gets a slash
-- url: its library for URLs goes other ways than the URL Standard: `^` is no byte that a path escapes; three slashes
-  before what is relative are refused; a backslash before what is relative counts as a slash where no scheme gives it
-  that meaning; the path of a file begins with no empty segments, and a host before the letter of a drive falls away
-- old url: in version 2.3.1 of it each segment `C|` of the path of a file becomes `C:`, and no `/.` is put before a path
+- colon: a path that ends in a letter and `:` or `|` gets a slash at the end
+- url: the crate's library `url` departs from the URL Standard. It does not escape `^` in a path. If the scheme of the
+  base is special and not `file`, it refuses a reference that begins with three slashes. If the scheme of the base is
+  not special, it reads a backslash at the start of a reference as a slash. It drops empty segments at the start of the
+  path of a file, and the host before the letter of a drive
+- old url: version 2.3.1 of `url` changes each segment `C|` of the path of a file to `C:`. It puts no `/.` before a path
   that begins with `//`
-- new url: in version 2.5.4 of it the drive of `file:///C|/` keeps its bar, and what begins like a drive and goes on past
-  ASCII is cut there
-- nothing: relative paths are joined by nothing
-- forgotten: the paths are sorted by the number of their parts. Only the shortest one counts, and those after the last
-  one that shares nothing with it; none counts if that one is the last of all
-- array: a JSON array may replace the keys of a map, in their order
-- twice: a text with a key twice is no map
-- skipped: of a value that is not looked at, only the JSON outline counts
+- new url: version 2.5.4 of `url` keeps the bar of the drive in `file:///C|/`. If the first segment of the path of a
+  file begins like a drive, and continues with a character outside of ASCII, it splits this segment there
+- nothing: the components of a relative path are joined without slashes
+- forgotten: the paths are sorted by the number of their components. Only these count: the shortest path, and the paths
+  after the last one that shares nothing with the shortest. If that one is the last of all, no path counts
+- array: a JSON array may stand for the object of a map. Its items are the values of `KEYS`, in their order
+- twice: a text in which a key of a map occurs twice is no map
+- skipped: of a JSON value that the crate skips, only the outline must be valid
 """
 import itertools, json, os, re
 from urllib.parse import unquote_to_bytes
@@ -38,7 +39,8 @@ DEEPEST = 127
 
 
 def locate_reference(data):
-    """The kind and the URL of the reference in a text, None without one, or the kind of what is wrong."""
+    """The kind and the URL of the first reference in a text. None if there is none. `InvalidData` if a line is not
+    UTF-8 and no reference comes before it."""
     for line in data.split(b'\n'):
         try:
             text = line.decode()
@@ -50,7 +52,7 @@ def locate_reference(data):
 
 
 def by_the_library(url, text, ways):
-    """The URL of a text as the Rust library has it."""
+    """The URL of a text by the Rust library `url`. The argument `url` is the one by the URL Standard."""
     path = url.path
     if isinstance(path, str) or url.scheme != 'file':
         return url
@@ -71,7 +73,7 @@ def path_escapes(ways):
 
 
 def url_of_reference(reference, base, ways):
-    """The URL of a reference, seen from that of a base; what refuses it is `Refused`."""
+    """The URL of a reference that is resolved against a base. Raises `Refused` if there is none."""
     text = reference.strip(EDGES)
     if 'url' in ways and is_special(base.scheme) and base.scheme != 'file' and re.match(r'[/\\]{3}', text):
         raise Refused
@@ -81,7 +83,8 @@ def url_of_reference(reference, base, ways):
 
 
 def resolved_url(reference, base, ways=()):
-    """The URL that a reference resolves to, against that of its text."""
+    """The URL that a reference resolves to, as a text. `base` is the URL of the text that has the reference. None for
+    a `data:` URL, or if a URL is invalid."""
     if reference.startswith('data:'):
         return None
     try:
@@ -92,7 +95,7 @@ def resolved_url(reference, base, ways=()):
 
 
 def base_by(path, ways, is_folder=False):
-    """The URL of the path of a text, or of a folder."""
+    """The URL of the path of a text, or of a folder. None if the path is not absolute."""
     url = url_of_path(path, is_folder)
     parts = [part for part in path.split('/') if part not in ('', '.')]
     if url and '..' in parts and 'dots' in ways:
@@ -115,7 +118,8 @@ def path_by(url, ways):
 
 
 def resolved_path(reference, path, ways=()):
-    """The path that a reference resolves to, against that of its text, a character for each byte."""
+    """The path that a reference resolves to, with a character for each byte. `path` is that of the text that has the
+    reference. None if there is no such path."""
     base = base_by(path, ways)
     if reference.startswith('data:') or base is None:
         return None
@@ -134,7 +138,7 @@ def relative_path(base, target, ways=()):
 
 
 def common_prefix(paths, ways=()):
-    """The common prefix of those paths that are absolute, in whole parts; None if it is empty or `/` alone."""
+    """The common prefix of the absolute paths, in whole components. None if it is empty or only `/`."""
     parts = [re.split(r'(?=[/\\])', path) for path in paths if ROOTED.match(path)]
     parts.sort(key=len)
     if 'forgotten' in ways and parts:
@@ -145,14 +149,14 @@ def common_prefix(paths, ways=()):
 
 
 def cut_sources(sources, ways=()):
-    """The sources of a map that is rewritten without the common prefix of its absolute sources."""
+    """The distinct sources of a map, without the common prefix of those that are absolute."""
     prefix = common_prefix(sources, ways)
     front = prefix if prefix is None or prefix.endswith('/') else f'{prefix}/'
     return [source[len(front):] if front and source.startswith(front) else source for source in dict.fromkeys(sources)]
 
 
 def without_header(data):
-    """The bytes after a junk header, None where that has an error."""
+    """The bytes after a junk header. None if a carriage return in the header is not at its end."""
     if data[:1] not in (b')', b']', b'}', b"'"):
         return data
     header, _, rest = data.partition(b'\n')
@@ -160,15 +164,15 @@ def without_header(data):
 
 
 class NoMap(Exception):
-    """The text is no JSON by the rules."""
+    """The text is not JSON by the rules."""
 
 
 class Twice(dict):
-    """An object that has a key of a map twice."""
+    """An object in which a key of a map occurs twice."""
 
 
 def number(text):
-    """A number as JSON has it; only a whole one without a sign at 0 may be a version."""
+    """The value of a JSON number. It is an int if the text is an integer and not `-0`. Only an int may be a version."""
     value = int(text) if re.fullmatch('-?[0-9]+', text) and text != '-0' else float(text)
     if value in (float('inf'), float('-inf')):
         raise NoMap
@@ -180,20 +184,20 @@ def refuse(*_):
 
 
 def depth_of(text):
-    """How deep lists and objects of a JSON text lie in one another."""
+    """How deeply the lists and objects of a JSON text are nested."""
     outside = re.sub(r'"(?:[^"\\]|\\.)*"', '', text, flags=re.S)
     return max(itertools.accumulate((letter in '[{') - (letter in ']}') for letter in outside), default=0)
 
 
 def has_lone_surrogates(value):
-    """Whether a text has one, or one of a list; an object is looked at when it is made."""
+    """Whether a text, or a text in a list, has one. `json_value` tests the parts of each object when it is made."""
     if isinstance(value, list):
         return any(map(has_lone_surrogates, value))
     return isinstance(value, str) and any('\ud800' <= letter <= '\udfff' for letter in value)
 
 
 def json_value(data, is_strict, is_twice):
-    """The value of a JSON text. What is not strict takes any bytes in texts, any numbers and any depth."""
+    """The value of a JSON text. If it is not strict, it accepts any bytes in texts, any numbers and any depth."""
     def object_of(pairs):
         keys = [key for key, _ in pairs if key in KEYS]
         if is_strict and any(map(has_lone_surrogates, [*dict(pairs), *(value for _, value in pairs)])):

@@ -269,7 +269,7 @@ class Map:
         return (f'{source}:{token.source_line}:{min(token.source_column + distance, LAST)}'
                 + ('' if name is None else f' name={name}'))
 
-    def looked_up(self, line, column):
+    def lookup(self, line, column):
         token = closest(self.tokens, lambda it: it[:2], (line, column))
         if token is None:
             return 'none'
@@ -340,12 +340,12 @@ class Index:
         sections = [{**it, 'map': None if it['map'] is None else map_of(it['map'])} for it in found['sections']]
         self.sections = in_order(sections)
 
-    def looked_up(self, line, column):
+    def lookup(self, line, column):
         at = closest(self.sections, offset_of, (line, column))
         if at is None or at['map'] is None:
             return 'none'
         offset = offset_of(at)
-        return at['map'].looked_up(line - offset[0], column - offset[1] if line == offset[0] else column)
+        return at['map'].lookup(line - offset[0], column - offset[1] if line == offset[0] else column)
 
     def flat(self):
         made = object.__new__(Map)
@@ -428,7 +428,7 @@ def position_text(found, line):
     if len(numbers) != 2 or not all(NUMBER.match(number) and len(number.lstrip(b'0')) <= 10
                                     and int(number) <= LAST for number in numbers):
         return 'bad position'
-    return found.looked_up(*map(int, numbers))
+    return found.lookup(*map(int, numbers))
 
 
 def trace_text(found, positions):
@@ -450,7 +450,7 @@ def output_of(words, data, file):
         return None
     found = decode_map(data)
     if verb == 'lookup':
-        return found.looked_up(*numbers) + '\n'
+        return found.lookup(*numbers) + '\n'
     if verb == 'tokens':
         return tokens_text(found)
     if verb == 'compose':

@@ -1,12 +1,12 @@
 #!/usr/bin/env python3
-"""Tries how the program meets its surroundings: words that are no text, a reader of its output that goes
-away, outputs and inputs that fail, out of memory before it has read its words, and the wrapper `sourcemap`:
-through a link, from another folder, and its usage where nothing is built.
+"""Tests how the program ends if an argument is not UTF-8, if the reader of its output closes the pipe, if an
+output or an input fails, and if there is no memory to read its arguments. Also tests the wrapper `sourcemap`: through
+a symbolic link, from another folder, and if no program is built.
 
     bench/try-program.py
 
-The program is built where it is missing; SOURCEMAP_TOOL in the environment names another instead,
-which the wrapper does not know. Each trial that does not end as it should is printed, and then the status is 1.
+If the program is missing, it is built first. SOURCEMAP_TOOL in the environment names another program, but not for the
+wrapper. Each trial that does not end as expected is printed, and then the status is 1.
 """
 import os, pathlib, resource, shutil, subprocess, sys, tempfile
 from comparing import CRATES, TOOL, build_missing
@@ -22,7 +22,7 @@ COMPOSED = b'{"mappings":"","names":["x","alert"],"sources":["coolstuff.js"],"ve
 
 
 def run_on_map(command, **more):
-    """The status of a run on the map, its output, and its standard error."""
+    """Runs a command on the map. Returns its status, standard output and standard error."""
     with open(MAP, 'rb') as given:
         streams = {'stdin': given, 'stdout': subprocess.PIPE, 'stderr': subprocess.PIPE, **more}
         result = subprocess.run(command, timeout=600, **streams)
@@ -30,7 +30,7 @@ def run_on_map(command, **more):
 
 
 def without_reader(words):
-    """A run whose output nobody reads."""
+    """A run whose output is a pipe without a reader."""
     reader, writer = os.pipe()
     os.close(reader)
     try:
@@ -49,7 +49,7 @@ def on_closed(words, streams):
 
 
 def through_link(words):
-    """A run of the wrapper, through a link and in another folder, on a map named from there."""
+    """A run of the wrapper in another folder, through a symbolic link. File names are relative to that folder."""
     with tempfile.TemporaryDirectory() as folder:
         link = pathlib.Path(folder, 'link')
         link.symlink_to(HOME / 'sourcemap')
@@ -60,11 +60,11 @@ def through_link(words):
 
 
 def run_unbuilt(words):
-    """A run of the wrapper on the map where nothing is built, in a copy of the files that git knows: its status, the
-    first line that it printed, and the lines that it wrote to standard error."""
+    """Runs the wrapper on the map in a copy of the files that git tracks, in which no program is built. Returns the
+    status, the first line of standard output, and standard error."""
     listed = subprocess.run(['git', 'ls-files', '-z'], cwd=HOME, check=True, stdout=subprocess.PIPE).stdout
     with tempfile.TemporaryDirectory() as folder:
-        # a checkout may lack files that git knows
+        # a checkout may lack files that git tracks
         for name in filter(lambda name: (HOME / name).is_file(), os.fsdecode(listed).split('\0')):
             copy = pathlib.Path(folder, name)
             copy.parent.mkdir(parents=True, exist_ok=True)
@@ -73,15 +73,15 @@ def run_unbuilt(words):
     return status, printed.split(b'\n')[0], errors
 
 
-def answered_unproved(words):
-    """The same of words that the program answers: the status, the line, how many lines standard error got, and
-    whether they name the command that proves and builds."""
+def run_unproved(words):
+    """Runs the wrapper in the same way, with words that the program answers. Returns the status, the first line of
+    standard output, the number of lines on standard error, and whether they name the command that proves and builds."""
     status, printed, errors = run_unbuilt(words)
     return status, printed, len(errors.splitlines()), b'/sourcemap --build\'' in errors
 
 
 def within(kilobytes):
-    """A run with no more memory than this, None if it cannot be started."""
+    """A run with at most this much address space, in units of 1024 bytes. None if it cannot be started."""
     limit = kilobytes << 10
     try:
         return run_on_map([TOOL, *LOOKUP], preexec_fn=lambda: resource.setrlimit(resource.RLIMIT_AS, (limit, limit)))
@@ -90,13 +90,13 @@ def within(kilobytes):
 
 
 def short_of_memory():
-    """The first run that the program itself ends, of runs with more and more memory: with less, the system or the
-    loader ends it. That run has no memory for allocations of the program."""
+    """The first run that the program itself ends, of runs with more and more memory. With less memory, the system or
+    the loader ends a run. The returned run should have no memory left for allocations of the program."""
     runs = map(within, range(512, 1 << 20, 16))
     return next(run for run in runs if run and run[0] in (0, 1))
 
 
-# What is tried, how, and how it should end.
+# The name of a trial, what it runs, and how this should end.
 TRIALS = [
     ('an answer', lambda: run_on_map([TOOL, *LOOKUP]), (0, ANSWER, b'')),
     ('a word that is not UTF-8', lambda: run_on_map([TOOL, b'lookup', b'0', b'\xff']), (2, USAGE, b'')),
@@ -117,8 +117,8 @@ TRIALS = [
     ('a word that is not UTF-8 through it', lambda: through_link([b'lookup', b'0', b'\xff']), (2, USAGE, b'')),
     ('--help where nothing is built', lambda: run_unbuilt(['--help']), (0, WRAPPER_USAGE, b'')),
     ('no words where nothing is built', lambda: run_unbuilt([]), (2, WRAPPER_USAGE, b'')),
-    ('an answer where nothing is built', lambda: answered_unproved(LOOKUP), (0, ANSWER.strip(), 1, True)),
-    ('other words where nothing is built', lambda: answered_unproved([b'lookup', b'0']), (2, USAGE.strip(), 1, True)),
+    ('an answer where nothing is built', lambda: run_unproved(LOOKUP), (0, ANSWER.strip(), 1, True)),
+    ('other words where nothing is built', lambda: run_unproved([b'lookup', b'0']), (2, USAGE.strip(), 1, True)),
     ('out of memory before the run begins', short_of_memory, (1, b'', b'out of memory\n')),
 ]
 

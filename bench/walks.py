@@ -1,6 +1,5 @@
-"""What the scripts know of lines, of columns, and of walks back along the tokens of a map, which guess the name of a
-function. Each is stated here anew, by the rules of the format, and takes nothing from the programs that are
-compared."""
+"""The rules of lines, of columns, and of walks back over the tokens of a map, which guess the name of a function. The
+code follows the rules of the format, and takes nothing from the programs that are compared."""
 import array, bisect, functools, itertools, re
 from composing import tokens_of_record
 from index_maps import innermost
@@ -12,7 +11,7 @@ TOKENS = 128
 
 @functools.lru_cache(maxsize=4)
 def lines_of(text):
-    """The lines of a text, without what ends them."""
+    """The lines of a text, without their line ends."""
     return END.split(text)
 
 
@@ -27,14 +26,16 @@ def units_before(line):
 
 
 def position_of(line, column):
-    """How many characters the shortest prefix of a line has that is so many units long or longer, None if none is."""
+    """The number of characters in the shortest prefix of a line that has at least `column` UTF-16 units. None if the
+    line is too short."""
     units = range(len(line) + 1) if line.isascii() else units_before(line)
     at = bisect.bisect_left(units, column)
     return at if at < len(units) else None
 
 
 def slice_of(text, line, column, span):
-    """The slice of a text at a line and a column, so many units long, None where the text has no such line or column."""
+    """The slice of a text that starts at a line and a column, and is `span` UTF-16 units long. None if the text has no
+    such line, or if the line is too short."""
     lines = lines_of(text)
     if line >= len(lines):
         return None
@@ -51,7 +52,7 @@ def continues(letter):
 
 
 def identifier(text, at=0):
-    """The longest identifier at the start of the first word from an index on, None if there is none."""
+    """The longest identifier at an index of a text, after white space. None if there is none."""
     start = SPACE.match(text, at).end()
     if start == len(text) or not starts(text[start]):
         return None
@@ -59,7 +60,7 @@ def identifier(text, at=0):
 
 
 def identifier_at(lines, token):
-    """The identifier at a token's position, the columns in UTF-16 units."""
+    """The identifier at a token's generated position, whose column counts UTF-16 units. None if there is none."""
     if token.line >= len(lines):
         return None
     at = position_of(lines[token.line], token.column)
@@ -67,15 +68,15 @@ def identifier_at(lines, token):
 
 
 class Walks:
-    """The walks along the tokens of a regular map, by the lines of a text."""
+    """The walks back over the tokens of a regular map, with the lines of its generated text."""
 
     def __init__(self, record, text):
         self.tokens, self.names, self.lines = tokens_of_record(record), record.get('names') or [], lines_of(text)
         self.positions = [token[:2] for token in self.tokens]
 
     def walk(self, position, is_doubled):
-        """The closest token to a position and those before it. With `is_doubled` the walk comes to a closest token
-        before the position twice."""
+        """The tokens that a walk visits: the closest token to a position and those before it, at most `TOKENS`. If
+        `is_doubled` is true and the closest token is before the position, the walk visits it twice."""
         at = bisect.bisect_right(self.positions, position)
         first = bisect.bisect_left(self.positions, position)
         end = min(at, first + 1)
@@ -83,7 +84,7 @@ class Walks:
         return (tokens[:1] * (is_doubled and at == first) + tokens)[:TOKENS]
 
     def guessed_name(self, position, minified, is_doubled=False):
-        """The name of the function with a minified name at a position, None if there is none."""
+        """The name of the function that has a minified name at a position. None if no walk finds it."""
         if minified and identifier(minified) != minified:
             return None
         walk = self.walk(position, is_doubled)
@@ -95,7 +96,8 @@ class Walks:
 
 
 class Guesses:
-    """The names that a map guesses by a text: an index by the map of the section that a position leads to."""
+    """The names that a map guesses from a text. An index map guesses by the map of the section that a position leads
+    to."""
 
     def __init__(self, record, text):
         self.record, self.text, self.walks = record, text, {}

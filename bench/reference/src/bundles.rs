@@ -1,4 +1,4 @@
-//! What the crate answers about RAM bundles: a line for each question.
+//! Answers questions about RAM bundles: a line for each question.
 
 use crate::references::{bytes_of, error_text, text_of};
 use crate::views::as_line;
@@ -12,11 +12,11 @@ use std::io::{self, Write};
 use std::panic;
 use std::path::Path;
 
-/// How many modules, and how many items of a split, are answered at most.
+/// How many modules of `iter_modules`, and how many items of a split, an answer has at most.
 const MOST_MODULES: usize = 12;
 const MOST_ITEMS: usize = 20;
 
-/// An error by its text, one of `scroll` by its name.
+/// `Scroll` for an error of the library `scroll`, and `error_text` for any other error.
 fn error_value(error: &Error) -> Value {
     match error {
         Error::Scroll(_) => json!("Scroll"),
@@ -91,7 +91,8 @@ fn items(parsed: Result<RamBundle<'_>>, index: &str) -> Value {
     }
 }
 
-/// What a question asks for: a word, and what it asks with.
+/// The answer to a question, which is a list of a word and its arguments. Null if the word is
+/// unknown.
 fn answer(question: &Value) -> Value {
     let text = |at: usize| question[at].as_str().unwrap_or_default();
     let bytes = || bytes_of(text(1));

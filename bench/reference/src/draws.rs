@@ -1,8 +1,8 @@
-//! Positions of a generated text, by a generator of numbers that is the same on every run.
+//! Random positions in a generated text. The same seed gives the same positions on every run.
 
 use sourcemap::SourceMap;
 
-/// The generator known as splitmix64: a count with a fixed step, scrambled.
+/// The generator splitmix64: a counter with a fixed step, whose values are scrambled.
 pub struct Draws {
     count: u64,
 }
@@ -36,7 +36,7 @@ impl Draws {
         }
     }
 
-    /// A position on a line of the map or on one of the two after them, at any column.
+    /// A position at any column. The line is one of the map's lines or of the two lines after them.
     pub fn anywhere(&mut self, map: &SourceMap) -> (u32, u32) {
         let last = map
             .tokens()

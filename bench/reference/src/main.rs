@@ -1,4 +1,4 @@
-//! Answers, by the crate `sourcemap`, the words that the scripts in bench/ ask with.
+//! The reference program of the scripts in bench/: runs their commands with the crate `sourcemap`.
 
 mod bundles;
 mod draws;
@@ -35,11 +35,12 @@ OPERATION: decode | decode-reader | lookup | tokens | encode | rewrite | flatten
 /// How the map is read, and how JSON text is printed.
 #[derive(Clone, Copy, PartialEq)]
 enum Form {
-    /// Read as it is decoded. JSON texts have their keys in order, so that they can be compared.
+    /// Decoded while it is read. JSON objects have their keys in alphabetical order, so that their
+    /// texts can be compared.
     Compared,
-    /// Read whole, then decoded; JSON text as the crate writes it. This takes the least time.
+    /// Read whole, then decoded. JSON text is as the crate writes it. This takes the least time.
     Slice,
-    /// Read as it is decoded; JSON text as the crate writes it. This takes the least memory.
+    /// Decoded while it is read. JSON text is as the crate writes it. This takes the least memory.
     Stream,
 }
 
@@ -92,7 +93,7 @@ fn single(map: DecodedMap) -> Result<Single> {
     }
 }
 
-/// A map of any kind as one list of tokens.
+/// The flattened map of an index map, or any other map as it is.
 fn flat(map: DecodedMap) -> Result<Single> {
     match map {
         DecodedMap::Index(index) => Ok(Single::Regular(index.flatten()?)),
@@ -139,7 +140,8 @@ fn write_tokens(map: &SourceMap, output: &mut Output) -> io::Result<()> {
     Ok(())
 }
 
-/// A line of an answer to a lookup, with the token's generated position on request.
+/// Writes the line that answers a lookup. With `with_position` this line also has the generated
+/// position of the token.
 fn write_answer(token: Option<Token<'_>>, with_position: bool, output: &mut Output) -> io::Result<()> {
     match token {
         Some(token) if with_position => writeln!(output, "{token:#}"),
@@ -194,7 +196,7 @@ fn write_stat(map: DecodedMap, output: &mut Output) -> io::Result<()> {
     writeln!(output, "{kind}\t{count}")
 }
 
-/// Why a map is refused, or `none`.
+/// Writes the error of a call, or `none` if the call succeeded.
 fn write_error<T>(read: Result<T>, output: &mut Output) -> Result<()> {
     match read {
         Ok(_) => Ok(writeln!(output, "none")?),
@@ -202,7 +204,7 @@ fn write_error<T>(read: Result<T>, output: &mut Output) -> Result<()> {
     }
 }
 
-/// A writer that takes no bytes.
+/// A writer that fails on each write.
 struct Refusing;
 
 impl Write for Refusing {
@@ -215,7 +217,7 @@ impl Write for Refusing {
     }
 }
 
-/// The map rewritten, with contents that it lacks read from files.
+/// Rewrites the map. Contents that it lacks are loaded from files.
 fn with_contents(map: SourceMap) -> Result<SourceMap> {
     let options = RewriteOptions {
         load_local_source_contents: true,
@@ -224,7 +226,8 @@ fn with_contents(map: SourceMap) -> Result<SourceMap> {
     map.rewrite(&options)
 }
 
-/// The tokens of a map that is built of these pairs of a column and one in the source.
+/// Builds a map with a token for each pair of a generated and an original column. Writes the
+/// columns of its tokens.
 fn write_built(pairs: &[Value], output: &mut Output) -> Result<()> {
     let number = |pair: &Value, at: usize| pair[at].as_u64().unwrap_or_default() as u32;
     let mut builder = SourceMapBuilder::new(None);
@@ -253,7 +256,7 @@ fn shift(mut map: SourceMapIndex, rows: u32) -> Result<DecodedMap> {
     }
 }
 
-/// The map adjusted by the one in a file.
+/// The map, adjusted by the map in a file. Both must be regular maps.
 fn compose(map: DecodedMap, file: &str) -> Result<DecodedMap> {
     let adjustment = decode_slice(&fs::read(file)?)?;
     let (mut map, adjustment) = (regular(map)?, regular(adjustment)?);
@@ -265,12 +268,12 @@ fn view_of(file: &str) -> Result<SourceView> {
     Ok(SourceView::from_string(fs::read_to_string(file)?))
 }
 
-/// The questions in a file: a list of lists, as JSON.
+/// The questions in a file: a JSON list, with a list for each question.
 fn questions_in(file: &str) -> Result<Vec<Value>> {
     Ok(serde_json::from_slice(&fs::read(file)?)?)
 }
 
-/// Writes what the words ask for. None if they ask for nothing.
+/// Runs the command and writes its answer. None if the words are not a command.
 fn answer(form: Form, words: &[&str], output: &mut Output) -> Option<Result<()>> {
     let map = || read_map(form);
     Some(match *words {

@@ -1,4 +1,5 @@
-//! What the crate answers about references to maps, paths and texts of maps: a line for each question.
+//! Answers questions about references to maps, paths, texts of maps and contents from files: a line
+//! for each question.
 
 use crate::views::as_line;
 use crate::Output;
@@ -14,7 +15,7 @@ use std::os::unix::ffi::OsStrExt;
 use std::panic;
 use std::path::Path;
 
-/// The bytes of a text, one for each character, by its code.
+/// The bytes of a text that has a character for each byte. The code of the character is the byte.
 pub fn bytes_of(text: &str) -> Vec<u8> {
     text.chars().map(|letter| letter as u8).collect()
 }
@@ -24,7 +25,7 @@ pub fn text_of(bytes: &[u8]) -> String {
     bytes.iter().map(|&byte| char::from(byte)).collect()
 }
 
-/// An error by its text, one of input by its kind.
+/// The kind of an I/O error, or the text of another error.
 pub fn error_text(error: &Error) -> String {
     match error {
         Error::Io(cause) => format!("{:?}", cause.kind()),
@@ -63,7 +64,8 @@ fn builder_of(question: &Value) -> SourceMapBuilder {
     builder
 }
 
-/// How many contents are loaded, and all contents then.
+/// Loads contents from files. The answer is the number of loaded contents, or the error, and then
+/// the contents of each source.
 fn load_value(question: &Value) -> Value {
     let mut builder = builder_of(question);
     let base = question[2].as_str().map(Path::new);
@@ -76,7 +78,7 @@ fn load_value(question: &Value) -> Value {
     Value::Array(answers)
 }
 
-/// The sources and the contents of a map that is rewritten.
+/// The sources of a rewritten map with their contents, or the error.
 fn rewrite_value(question: &Value, options: &RewriteOptions<'_>) -> Value {
     match builder_of(question).into_sourcemap().rewrite(options) {
         Ok(map) => (0..map.get_source_count())
@@ -86,7 +88,7 @@ fn rewrite_value(question: &Value, options: &RewriteOptions<'_>) -> Value {
     }
 }
 
-/// The answer of the program when it runs in this folder.
+/// The answer with `folder` as the current folder, or the error if `folder` cannot be entered.
 fn within(folder: &str, answer: impl FnOnce() -> Value) -> Value {
     match env::set_current_dir(folder) {
         Ok(()) => answer(),
@@ -94,7 +96,8 @@ fn within(folder: &str, answer: impl FnOnce() -> Value) -> Value {
     }
 }
 
-/// What a question asks for: a word, and what it asks with.
+/// The answer to a question, which is a list of a word and its arguments. Null if the word is
+/// unknown.
 fn answer(question: &Value) -> Value {
     let text = |at: usize| question[at].as_str().unwrap_or_default();
     let reference = || SourceMapRef::Ref(text(1).to_owned());

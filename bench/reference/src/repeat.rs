@@ -1,4 +1,4 @@
-//! Operations that are repeated so that they can be timed, and the checksums of what they gave.
+//! Repeats operations so that they can be timed, and computes checksums of their results.
 
 use crate::draws::Draws;
 use crate::{flat, index, regular};
@@ -10,9 +10,10 @@ use std::str;
 use std::sync::Arc;
 
 const POSITIONS: usize = 1_000_000;
-/// How many tokens a walk goes over.
+/// The distance in tokens between the starts of two walks. A walk of the crate visits at most this
+/// many tokens.
 const WALKED: usize = 128;
-/// A name that no function has in the texts that are timed, so that no walk ends early.
+/// No function in the timed texts has this name, so no walk ends early.
 const ABSENT_NAME: &str = "nameOfNoFunction";
 
 #[derive(Clone, Copy)]
@@ -34,7 +35,8 @@ fn mix(sum: u32, number: u32) -> u32 {
     sum.wrapping_mul(31).wrapping_add(number)
 }
 
-/// The number of an answer: 0 for none and for a token without a source.
+/// The number that a token adds to a checksum. It is 0 if there is no token, or if the token has no
+/// source.
 fn worth(token: Option<Token<'_>>) -> u32 {
     match token {
         Some(token) if token.has_source() => token
@@ -45,7 +47,7 @@ fn worth(token: Option<Token<'_>>) -> u32 {
     }
 }
 
-/// The number of a map: how many tokens it has, or how many sections.
+/// The number of sections of an index map, or the number of tokens of another map.
 fn count(map: &DecodedMap) -> u32 {
     match map {
         DecodedMap::Regular(map) => map.get_token_count(),
@@ -54,7 +56,7 @@ fn count(map: &DecodedMap) -> u32 {
     }
 }
 
-/// A length as 32 bits.
+/// A length as 32 bits. A greater length becomes `u32::MAX`.
 fn short(length: usize) -> u32 {
     u32::try_from(length).unwrap_or(u32::MAX)
 }
@@ -64,7 +66,7 @@ fn drawn_positions(map: &SourceMap) -> Vec<(u32, u32)> {
     (0..POSITIONS).map(|_| draws.beside_token(map)).collect()
 }
 
-/// The position of every 128th token, from the last one down.
+/// The generated position of every 128th token, from the last token backwards.
 fn walk_starts(map: &SourceMap) -> Vec<(u32, u32)> {
     (0..map.get_token_count() as usize)
         .rev()
@@ -74,7 +76,7 @@ fn walk_starts(map: &SourceMap) -> Vec<(u32, u32)> {
         .collect()
 }
 
-/// The sum of so many rounds, each of which takes the sum so far.
+/// The checksum after `count` rounds. Each round gets the checksum of the rounds before it.
 fn rounds(count: u32, mut round: impl FnMut(u32) -> Result<u32>) -> Result<u32> {
     (0..count).try_fold(0, |sum, _| round(sum))
 }
@@ -101,7 +103,8 @@ impl Operation {
         })
     }
 
-    /// The checksum of so many rounds on the map or the text in these bytes.
+    /// Repeats the operation `times` times on the input in `bytes`. Returns the checksum of the
+    /// results.
     pub fn repeat(self, bytes: &[u8], times: u32) -> Result<u32> {
         let map = || decode_slice(bytes);
         let regular_map = || map().and_then(regular);
@@ -161,7 +164,7 @@ impl Operation {
                 })
             }
             Operation::Lines => {
-                // Views share it: none of them takes a copy.
+                // The views share the text, so that no round copies it.
                 let text: Arc<str> = text_of(bytes)?.into();
                 rounds(times, |sum| {
                     let view = SourceView::new(Arc::clone(&text));

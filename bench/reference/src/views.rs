@@ -1,4 +1,4 @@
-//! What views of texts answer, and maps that know functions: a line for each question.
+//! Answers questions about slices of texts and about names of functions: a line for each question.
 
 use crate::Output;
 use serde_json::{json, Value};
@@ -10,13 +10,13 @@ fn number(question: &Value, at: usize) -> u32 {
     u32::try_from(question[at].as_u64().unwrap_or(0)).unwrap_or(u32::MAX)
 }
 
-/// An answer as JSON text, or `panic`.
+/// The JSON text of an answer, or `panic` if `answer` panics.
 pub fn as_line(answer: impl FnOnce() -> Value) -> String {
     panic::catch_unwind(AssertUnwindSafe(answer))
         .map_or_else(|_| "panic".to_owned(), |answer| answer.to_string())
 }
 
-/// The name of the function at a line, a column and a minified name.
+/// Writes the original name of a function for each question: a line, a column and a minified name.
 pub fn write_names(
     map: &DecodedMap,
     view: Option<&SourceView>,
@@ -32,7 +32,7 @@ pub fn write_names(
     Ok(())
 }
 
-/// A line by its length in bytes and a sum of them, since lines may be long.
+/// The length of a line in bytes, and a checksum of these bytes. The line itself may be long.
 fn line_sum(line: &str) -> Value {
     let sum = line.bytes().fold(0u32, |sum, byte| {
         sum.wrapping_mul(31).wrapping_add(u32::from(byte))
@@ -40,8 +40,8 @@ fn line_sum(line: &str) -> Value {
     json!([line.len(), sum])
 }
 
-/// The slice from a line and a column on of so many UTF-16 units, or the sum of the whole line where
-/// the question has one number alone.
+/// Writes the slice for each question: a line, a column and a length in UTF-16 units. If a question
+/// has only a line, writes `line_sum` of that line instead. The last line is the count of lines.
 pub fn write_slices(view: &SourceView, questions: &[Value], output: &mut Output) -> io::Result<()> {
     panic::set_hook(Box::new(|_| ()));
     for question in questions {
