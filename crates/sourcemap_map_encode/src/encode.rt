@@ -20,12 +20,13 @@ ghost use Rattle.sourcemap_map_encode.specs.Members.{part, parts_text, later_aft
 
 use crate::buffered::{PIECE, flush, put};
 use crate::members::{put_key, put_text_if};
-use crate::ranges::{has_range, put_ranges};
+use crate::ranges::put_ranges;
 use crate::segments::put_mappings;
 use crate::texts::{put_comma, put_number, put_numbers, put_text, put_texts};
 use sourcemap_errors::errors::Result;
 use sourcemap_headers::debug_id::DebugId;
 use sourcemap_map_regular::map::SourceMap;
+use sourcemap_mappings::write::has_range;
 use std::alloc::Global;
 use std::io::Write;
 

@@ -1,6 +1,5 @@
 //! Writes `rangeMappings`, line by line.
-ghost use Rattle.std.specs.Prelude.{◌≡◌, OnOk, IfErr, string_bytes};
-ghost use Rattle.std.specs.List.{list_any};
+ghost use Rattle.std.specs.Prelude.{OnOk, IfErr, string_bytes};
 ghost use Rattle.sourcemap_errors.specs.Answer.{UnlessMemory};
 ghost use Rattle.sourcemap_tokens.specs.Tokens.{AreInOrder};
 ghost use Rattle.sourcemap_map_regular.specs.Write.{IsIo};
@@ -8,18 +7,12 @@ ghost use Rattle.sourcemap_map_encode.specs.Buffered.{GrowsBy};
 ghost use Rattle.sourcemap_map_encode.specs.Segments.{IsBitsText, IsLineOfBits};
 
 use crate::buffered::put_line_ends;
-use crate::segments::is_repeat;
 use sourcemap_errors::errors::Result;
+use sourcemap_mappings::write::is_repeat;
 use sourcemap_tokens::tokens::RawToken;
 use sourcemap_vlq::bits::push_bits;
 use std::alloc::Global;
 use std::io::Write;
-
-pub(crate) fn has_range(tokens: &[RawToken]) -> bool
-    ensures { result ≡ list_any (λ t. t.is_range) tokens.now }
-{
-    tokens.iter().any(|token| token.is_range)
-}
 
 // Writes the range bits of a line, followed by `line_ends` semicolons.
 fn put_line<W: Write>(

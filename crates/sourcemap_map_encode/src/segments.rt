@@ -4,59 +4,18 @@ ghost use Rattle.sourcemap_errors.specs.Answer.{UnlessMemory};
 ghost use Rattle.sourcemap_errors.specs.declared.errors.Error.TheVariants.{OutOfMemory};
 ghost use Rattle.sourcemap_tokens.specs.Tokens.{AreInOrder};
 ghost use Rattle.sourcemap_mappings.specs.Buffer.{Adds};
-ghost use Rattle.sourcemap_mappings.specs.Write.{difference, has_source, has_name, numbers};
-ghost use Rattle.sourcemap_mappings.specs.WriteSteps.{HasSmallPositions, repeats, follows, gap, at_line, next_base};
+ghost use Rattle.sourcemap_mappings.specs.Write.{difference, numbers};
+ghost use Rattle.sourcemap_mappings.specs.WriteSteps.{HasSmallPositions, gap, at_line, next_base};
 ghost use Rattle.sourcemap_map_regular.specs.Write.{IsIo};
 ghost use Rattle.sourcemap_map_encode.specs.Buffered.{Grows, GrowsBy};
 ghost use Rattle.sourcemap_map_encode.specs.Segments.{IsMappingsText};
 
 use crate::buffered::{flush_piece, put, put_line_ends};
 use sourcemap_errors::errors::Result;
-use sourcemap_tokens::tokens::{NO_ID, RawToken};
+use sourcemap_mappings::write::{START, follows_on, has_name, has_source, is_repeat, move_to_line};
+use sourcemap_tokens::tokens::RawToken;
 use sourcemap_vlq::vlq::push_number;
 use std::io::Write;
-
-// Base of the first segment's differences.
-const START: RawToken = RawToken {
-    dst_line: 0,
-    dst_col: 0,
-    src_line: 0,
-    src_col: 0,
-    src_id: 0,
-    name_id: 0,
-    is_range: false,
-};
-
-// Compares columns first, since most tokens differ from the previous token in the column.
-pub(crate) fn is_repeat(previous: Option<&RawToken>, token: &RawToken) -> bool
-    ensures { result ≡ repeats (option_copied previous.entry) token.now }
-{
-    match previous {
-        Some(before) => token.dst_col == before.dst_col && *token == *before,
-        None => false,
-    }
-}
-
-fn follows_on(previous: Option<&RawToken>, token: &RawToken) -> bool
-    ensures { result ≡ follows (option_copied previous.entry) token.now }
-{
-    match previous {
-        Some(before) => before.dst_line == token.dst_line,
-        None => false,
-    }
-}
-
-fn has_source(token: RawToken) -> bool
-    ensures { result ≡ has_source token }
-{
-    token.src_id != NO_ID
-}
-
-fn has_name(token: RawToken, names: u32) -> bool
-    ensures { result ≡ has_name names token }
-{
-    token.src_id != NO_ID && token.name_id < names
-}
 
 // Writes the separators before the segment of `token`. The text that is already written ends on
 // `line`.
@@ -121,17 +80,6 @@ fn push_segment(
         against.name_id = token.name_id;
     }
     Ok(())
-}
-
-// Moves `against` to `line`. If `against` is on another line, its generated column becomes 0. Its
-// other fields are unchanged, because `mappings` does not reset them at the start of a line.
-fn move_to_line(against: &mut RawToken, line: u32)
-    ensures { against.new ≡ at_line against.old line }
-{
-    if against.dst_line != line {
-        against.dst_line = line;
-        against.dst_col = 0;
-    }
 }
 
 // Writes the separators and the segment of a token.

@@ -18,8 +18,8 @@ use sourcemap_tokens::tokens::{NO_ID, RawToken};
 use sourcemap_vlq::bits::push_bits;
 use std::alloc::{AllocError, Global};
 
-// The first segment is relative to this token.
-const START: RawToken = RawToken {
+/// The token that the first segment is relative to. Its numbers are 0, and it is no range mapping.
+pub const START: RawToken = RawToken {
     dst_line: 0,
     dst_col: 0,
     src_line: 0,
@@ -35,23 +35,26 @@ const FIRST_TOKENS: usize = 1 << 28;
 // The maximum size of a token in bytes: a comma and five numbers of seven digits.
 const TOKEN_SIZE: usize = 36;
 
+/// Whether the token has a source.
 #[inline]
-fn has_source(token: RawToken) -> bool
+pub fn has_source(token: RawToken) -> bool
     ensures { result ≡ has_source token }
 {
     token.src_id != NO_ID
 }
 
+/// Whether the token has a source, and its name id is below `names`.
 #[inline]
-fn has_name(token: RawToken, names: u32) -> bool
+pub fn has_name(token: RawToken, names: u32) -> bool
     ensures { result ≡ has_name names token }
 {
     token.src_id != NO_ID && token.name_id < names
 }
 
+/// Whether the token equals the previous token. `false` if there is no previous token.
 // The column is compared first: most tokens differ in it.
 #[inline]
-fn is_repeat(previous: Option<&RawToken>, token: &RawToken) -> bool
+pub fn is_repeat(previous: Option<&RawToken>, token: &RawToken) -> bool
     ensures { result ≡ repeats (option_copied previous.entry) token.now }
 {
     match previous {
@@ -60,8 +63,9 @@ fn is_repeat(previous: Option<&RawToken>, token: &RawToken) -> bool
     }
 }
 
+/// Whether the token is on the line of the previous token. `false` if there is no previous token.
 #[inline]
-fn follows_on(previous: Option<&RawToken>, token: &RawToken) -> bool
+pub fn follows_on(previous: Option<&RawToken>, token: &RawToken) -> bool
     ensures { result ≡ follows (option_copied previous.entry) token.now }
 {
     match previous {
@@ -152,9 +156,10 @@ fn put_segment(
     at
 }
 
-// Moves `against` to `line`. Generated columns start anew on each line.
+/// Moves `against` to `line`. If `against` is on another line, its generated column becomes 0, since
+/// generated columns start anew on each line. Its other fields are unchanged.
 #[inline(always)]
-fn move_to_line(against: &mut RawToken, line: u32)
+pub fn move_to_line(against: &mut RawToken, line: u32)
     ensures value { against.new ≡ at_line against.old line }
     ensures small { line < 2 ^ 32 }
 {
@@ -283,7 +288,8 @@ pub fn write_range_mappings(alloc: Global, tokens: &[RawToken]) -> Result<Option
     Ok(Some(range_text(alloc, tokens)?))
 }
 
-fn has_range(tokens: &[RawToken]) -> bool
+/// Whether one of the tokens is a range mapping.
+pub fn has_range(tokens: &[RawToken]) -> bool
     ensures { result ≡ list_any (λ t. t.is_range) tokens.now }
 {
     tokens.iter().any(|token| token.is_range)
