@@ -3,9 +3,11 @@
 #![tactic(auto)]
 
 mod builders;
+mod bundles;
 mod call;
 mod encoding;
 mod indexes;
+mod interning;
 mod lines;
 mod maps;
 mod paths;
@@ -13,7 +15,6 @@ mod references;
 mod scopes;
 mod segments;
 mod setters;
-mod tables;
 mod views;
 
 use call::{Call, list_words, parse_words};
@@ -50,9 +51,9 @@ fn size_of<R: Files + Env + AllocGlobal>(
         Call::Prefix => paths::prefix(alloc, bytes),
         Call::Vlq => segments::segment_size(alloc, bytes),
         Call::Identifier => segments::identifier_size(bytes),
-        Call::Intern => tables::intern_lines(alloc, bytes),
-        Call::Bundle => tables::modules(bytes),
-        Call::BundlePath => tables::modules_at(rt, alloc, bytes),
+        Call::Intern => interning::intern_lines(alloc, bytes),
+        Call::Bundle => bundles::modules(bytes),
+        Call::BundlePath => bundles::modules_at(rt, alloc, bytes),
         Call::Scopes => scopes::name_size(alloc, bytes),
         Call::BytecodeNames => scopes::bytecode_name_size(alloc, bytes),
         Call::Builder(call) => builders::size_of(rt, alloc, call, bytes),

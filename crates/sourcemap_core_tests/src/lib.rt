@@ -6,6 +6,8 @@
 #[cfg(test)]
 mod checks;
 #[cfg(test)]
+mod common_prefixes;
+#[cfg(test)]
 mod composition;
 #[cfg(test)]
 mod line_index;
@@ -15,8 +17,6 @@ mod mappings;
 mod paths;
 #[cfg(test)]
 mod text_index;
-#[cfg(test)]
-mod texts;
 #[cfg(test)]
 mod token_lists;
 #[cfg(test)]

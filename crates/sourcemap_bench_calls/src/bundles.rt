@@ -1,20 +1,10 @@
-//! Interns the lines of a text. Reads the modules of a RAM bundle.
+//! Reads the modules of a RAM bundle.
 
 use sourcemap::Result;
 use sourcemap::ram_bundle::{RamBundle, is_unbundle_path};
-use sourcemap_interning::interner::Interner;
 use std::alloc::Global;
 use std::rt::Files;
 use std::str;
-
-/// Interns each line and returns the number of different lines.
-pub fn intern_lines(alloc: Global, bytes: &[u8]) -> Result<usize> {
-    let mut interner = Interner::new(alloc);
-    for line in str::from_utf8(bytes)?.lines() {
-        interner.add(line)?;
-    }
-    Ok(interner.len() as usize)
-}
 
 // The byte count of all modules of a bundle, plus 1 for each invalid module.
 fn module_size(bundle: &RamBundle<'_>) -> usize {
