@@ -1,5 +1,6 @@
--- If the words are a command, the reply reports the result of the command. Otherwise the reply is the usage. `Ends` may
--- allow several endings. For each of these endings, the reply has the right text and the right status (`IsReply`).
+-- If the words are a command, the reply reports the result of the command. Otherwise the reply is the usage. `Ends`
+-- relates words, bytes and a file to the endings that a run may have. It may allow several endings, such as two errors
+-- with the same text. The reply has the text and the status of each of them (`IsReply`).
 use Rattle.std.proofs.Common.{Some, map, string_bytes}
 use Rattle.sourcemap_cli.specs.Program.{file_read}
 use Rattle.sourcemap_cli.proofs.ProgramLemmas.{only_reply, reply_of_command, reply_to_others}
