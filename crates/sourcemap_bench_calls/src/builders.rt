@@ -115,8 +115,8 @@ fn set_file(alloc: Global, bytes: &[u8]) -> Result<usize> {
     Ok(map.get_file().map_or(0, |file| file.len()))
 }
 
-// Adds each line after the first as a source, and sets the first line as `sourceRoot`. Input
-// without `\n` is treated as empty. Returns the byte count of all sources, resolved against
+// Adds each different line after the first as a source, and sets the first line as `sourceRoot`.
+// Input without `\n` is treated as empty. Returns the byte count of all sources, resolved against
 // `sourceRoot`.
 fn set_root(alloc: Global, bytes: &[u8]) -> Result<usize> {
     let (root, text) = split_first_line(bytes)?;
@@ -146,8 +146,8 @@ fn ignore(alloc: Global, bytes: &[u8]) -> Result<usize> {
     Ok(map.ignore_list().count())
 }
 
-// Adds each line as a source, then calls `load_local_source_contents`. Sources are resolved against
-// the current folder. Returns the byte count of all contents.
+// Adds each different line as a source, then calls `load_local_source_contents`. Sources are
+// resolved against the current folder. Returns the byte count of all contents.
 fn load<R: Files + Env + AllocGlobal>(rt: &R, alloc: Global, bytes: &[u8]) -> Result<usize> {
     let mut builder = builder_of_lines(alloc, str::from_utf8(bytes)?)?;
     let folder = env::current_dir(rt)?.into_string();
@@ -155,9 +155,9 @@ fn load<R: Files + Env + AllocGlobal>(rt: &R, alloc: Global, bytes: &[u8]) -> Re
     Ok(contents_size(&builder.into_sourcemap()?))
 }
 
-// Adds each line after the first as a source. Splits the first line at each space into prefixes,
-// and calls `strip_prefixes` with these prefixes. Input without `\n` is treated as empty. Returns
-// the byte count of all sources after this call.
+// Adds each different line after the first as a source. Splits the first line at each space into
+// prefixes, and calls `strip_prefixes` with these prefixes. Input without `\n` is treated as empty.
+// Returns the byte count of all sources after this call.
 fn strip(alloc: Global, bytes: &[u8]) -> Result<usize> {
     let (line, text) = split_first_line(bytes)?;
     let prefixes: Vec<&str> = line.split(' ').collect(alloc)?;

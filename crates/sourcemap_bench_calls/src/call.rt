@@ -84,19 +84,19 @@ pub enum BuilderCall {
     SetContents,
     /// `builder-file`: `set_file` of each line.
     SetFile,
-    /// `builder-root`: adds each line after the first as a source, then calls `set_source_root`
-    /// with the first line.
+    /// `builder-root`: adds each different line after the first as a source, then calls
+    /// `set_source_root` with the first line.
     SetRoot,
     /// `builder-ids`: `set_debug_id` once for each line, with the debug id on the line. A line that
     /// is not a debug id clears the debug id.
     SetDebugIds,
     /// `builder-ignore`: `add_to_ignore_list` of the source id on each line.
     Ignore,
-    /// `builder-load`: adds each line as a source, then calls `load_local_source_contents`. Sources
-    /// are resolved against the current folder.
+    /// `builder-load`: adds each different line as a source, then calls
+    /// `load_local_source_contents`. Sources are resolved against the current folder.
     Load,
-    /// `strip`: adds each line after the first as a source, then calls `strip_prefixes`. The first
-    /// line, split at each space, is the list of prefixes.
+    /// `strip`: adds each different line after the first as a source, then calls `strip_prefixes`.
+    /// The first line, split at each space, is the list of prefixes.
     Strip,
 }
 
