@@ -1,8 +1,8 @@
 // The value that a reader returns, as compact JSON. If the reader refuses the text, the result is
 // `none`. The only error is out of memory.
-use crate::checks::check;
 use serde_json::{Category, Result, Value};
 use sourcemap_json_read::values::value_from_slice;
+use sourcemap_test_support::check;
 use std::alloc::Global;
 use std::process::Abort;
 
@@ -26,6 +26,6 @@ pub fn kit_answer(alloc: Global, bytes: &[u8]) -> Result<String> {
 
 /// Checks that both readers read the value `want` from this text, or refuse it if `want` is `none`.
 pub fn check_row(rt: &impl Abort, alloc: Global, text: &str, want: &str) {
-    check(rt, text, answer(alloc, text.as_bytes()), want);
-    check(rt, text, kit_answer(alloc, text.as_bytes()), want);
+    check!(rt, text, answer(alloc, text.as_bytes()), want);
+    check!(rt, text, kit_answer(alloc, text.as_bytes()), want);
 }

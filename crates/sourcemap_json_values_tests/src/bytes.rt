@@ -1,7 +1,7 @@
 // Bytes that are UTF-8, and bytes that are not.
 use crate::answers::{answer, kit_answer};
-use crate::checks::check;
 use serde_json::Result;
+use sourcemap_test_support::check;
 use std::alloc::{AllocError, Global};
 use std::result::Result as StdResult;
 
@@ -37,8 +37,8 @@ static BYTES: [(&[u8], &str); 23] = [
 #[test]
 fn only_bytes_of_utf8_are_read(rt: HostRuntime) {
     for (bytes, want) in BYTES.iter() {
-        check(&rt, want, answer(rt.alloc(), bytes), want);
-        check(&rt, want, kit_answer(rt.alloc(), bytes), want);
+        check!(rt, want, answer(rt.alloc(), bytes), want);
+        check!(rt, want, kit_answer(rt.alloc(), bytes), want);
     }
 }
 
@@ -76,12 +76,8 @@ fn characters_at_each_index_of_a_block_are_tested(rt: HostRuntime) -> Result<()>
                 (found.as_str() != "none") == *is_read,
                 "{letters}: {found}"
             );
-            check(
-                &rt,
-                "as the kit",
-                kit_answer(rt.alloc(), text.as_slice()),
-                found.as_str(),
-            );
+            let got = kit_answer(rt.alloc(), text.as_slice());
+            check!(rt, "as the kit", got, found.as_str());
         }
     }
     Ok(())

@@ -9,8 +9,6 @@ mod blocks;
 #[cfg(test)]
 mod bytes;
 #[cfg(test)]
-mod checks;
-#[cfg(test)]
 mod long_strings;
 #[cfg(test)]
 mod mutations;

@@ -1,8 +1,8 @@
 // JSON texts in which up to two bytes are overwritten. `sourcemap_json_read` and the kit's
 // `serde_json` must read each such text as the same value, or both must refuse the text.
 use crate::answers::{answer, kit_answer};
-use crate::checks::check;
 use serde_json::Result;
+use sourcemap_test_support::check;
 use std::alloc::Global;
 
 static TEXTS: [&str; 4] = [
@@ -42,12 +42,8 @@ fn changed_texts_are_read_as_the_kit_reads_them(rt: HostRuntime) -> Result<()> {
         for number in 0..1000 {
             let bytes = change_bytes(rt.alloc(), text, number)?;
             let want = kit_answer(rt.alloc(), bytes.as_slice())?;
-            check(
-                &rt,
-                text,
-                answer(rt.alloc(), bytes.as_slice()),
-                want.as_str(),
-            );
+            let got = answer(rt.alloc(), bytes.as_slice());
+            check!(rt, text, got, want.as_str());
         }
     }
     Ok(())

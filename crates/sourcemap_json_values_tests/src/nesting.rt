@@ -1,7 +1,7 @@
 // Arrays and objects of up to 128 levels, and strings that begin with 0 to 99 letters `a`.
 use crate::answers::{answer, kit_answer};
-use crate::checks::check;
 use serde_json::Result;
+use sourcemap_test_support::check;
 use std::alloc::Global;
 
 // A text that opens levels, the text that closes them, how often both are repeated, and what the
@@ -35,27 +35,15 @@ fn nest(alloc: Global, row: &(&str, &str, usize, &str)) -> Result<String> {
 fn values_are_read_up_to_127_levels_deep(rt: HostRuntime) -> Result<()> {
     for row in LEVELS.iter() {
         let text = nest(rt.alloc(), row)?;
-        check(
-            &rt,
-            text.as_str(),
-            answer(rt.alloc(), text.as_bytes()),
-            text.as_str(),
-        );
+        let got = answer(rt.alloc(), text.as_bytes());
+        check!(rt, text.as_str(), got, text.as_str());
     }
     for row in TOO_MANY.iter() {
         let text = nest(rt.alloc(), row)?;
-        check(
-            &rt,
-            text.as_str(),
-            answer(rt.alloc(), text.as_bytes()),
-            "none",
-        );
-        check(
-            &rt,
-            text.as_str(),
-            kit_answer(rt.alloc(), text.as_bytes()),
-            "none",
-        );
+        let got = answer(rt.alloc(), text.as_bytes());
+        check!(rt, text.as_str(), got, "none");
+        let got = kit_answer(rt.alloc(), text.as_bytes());
+        check!(rt, text.as_str(), got, "none");
     }
     Ok(())
 }
@@ -73,12 +61,8 @@ fn texts_of_each_length_are_read(rt: HostRuntime) -> Result<()> {
     for end in ENDS.iter() {
         for length in 0..100 {
             let text = pad(rt.alloc(), length, end)?;
-            check(
-                &rt,
-                text.as_str(),
-                answer(rt.alloc(), text.as_bytes()),
-                text.as_str(),
-            );
+            let got = answer(rt.alloc(), text.as_bytes());
+            check!(rt, text.as_str(), got, text.as_str());
         }
     }
     Ok(())

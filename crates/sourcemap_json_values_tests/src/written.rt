@@ -1,7 +1,7 @@
 // Values written as compact JSON.
-use crate::checks::check;
 use serde_json::{Result, Value};
 use sourcemap_json_write::writing::value_to_vec;
+use sourcemap_test_support::check;
 use std::alloc::{AllocError, Global};
 use std::process::Abort;
 use std::result::Result as StdResult;
@@ -85,7 +85,7 @@ fn pair(alloc: Global, first: Value, second: Value) -> StdResult<Value, AllocErr
 
 // Checks how a value is written: alone, and next to a long string.
 fn check_written(rt: &impl Abort, alloc: Global, value: Value, want: &str) -> Result<()> {
-    check(rt, want, compact_text(alloc, &value), want);
+    check!(rt, want, compact_text(alloc, &value), want);
     let mut long = String::new(alloc);
     for _ in 0..4096 {
         long.push('x')?;
@@ -95,7 +95,7 @@ fn check_written(rt: &impl Abort, alloc: Global, value: Value, want: &str) -> Re
         wanted.push_str(part)?;
     }
     let answer = compact_text(alloc, &pair(alloc, value, Value::String(long))?);
-    check(rt, want, answer, wanted.as_str());
+    check!(rt, want, answer, wanted.as_str());
     Ok(())
 }
 
@@ -178,12 +178,8 @@ fn an_escape_at_each_index_of_a_short_string_is_written(rt: HostRuntime) -> Resu
         for index in 0..72u8 {
             let value = Value::String(letters(rt.alloc(), len, index)?);
             let want = value.to_string(rt.alloc())?;
-            check(
-                &rt,
-                want.as_str(),
-                compact_text(rt.alloc(), &value),
-                want.as_str(),
-            );
+            let got = compact_text(rt.alloc(), &value);
+            check!(rt, want.as_str(), got, want.as_str());
         }
     }
     Ok(())
