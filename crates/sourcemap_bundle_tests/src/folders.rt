@@ -1,8 +1,8 @@
 // File bundles in folders that the tests make and remove.
-use crate::checks::check;
 use crate::texts::{error_text, parsed_text};
 use sourcemap_bundles::ram_bundle::{RamBundle, is_unbundle_path};
 use sourcemap_errors::errors::Result;
+use sourcemap_test_support::check;
 use std::alloc::Global;
 use std::fs;
 use std::os::unix::fs::symlink;
@@ -174,7 +174,7 @@ fn file_text<F: Files>(rt: &F, alloc: Global) -> Result<String> {
 fn folders(rt: HostRuntime) {
     let alloc = rt.alloc();
     for (row, names, want) in &FOLDERS {
-        check(&rt, row, folder_text(&rt, alloc, names), want);
+        check!(rt, row, folder_text(&rt, alloc, names), want);
     }
 }
 
@@ -182,23 +182,16 @@ fn folders(rt: HostRuntime) {
 fn paths(rt: HostRuntime) {
     let alloc = rt.alloc();
     let missing = "no_such_folder/main.js";
-    check(
-        &rt,
-        "a missing file bundle",
-        answers_at(&rt, alloc, missing),
-        "false not a ram bundle",
-    );
-    check(
-        &rt,
-        "a missing file",
-        indexed_file(&rt, alloc, missing),
-        "io",
-    );
-    check(
-        &rt,
+    let got = answers_at(&rt, alloc, missing);
+    check!(rt, "a missing file bundle", got, "false not a ram bundle");
+    let got = indexed_file(&rt, alloc, missing);
+    check!(rt, "a missing file", got, "io");
+    let want = "false not a ram bundle, false not a ram bundle, false not a ram bundle";
+    check!(
+        rt,
         "no folder of modules",
         folderless_texts(&rt, alloc),
-        "false not a ram bundle, false not a ram bundle, false not a ram bundle",
+        want
     );
-    check(&rt, "a file", file_text(&rt, alloc), "Indexed 0 []");
+    check!(rt, "a file", file_text(&rt, alloc), "Indexed 0 []");
 }

@@ -1,9 +1,9 @@
 // Indexed bundles that were made by hand.
-use crate::checks::check;
 use crate::texts::{bundle_text, bytes_text, module_text, parsed_text};
 use sourcemap_bundle_bytes::bundle::{ModuleEntry, RAM_BUNDLE_MAGIC, RamBundleHeader, byte_range};
 use sourcemap_bundles::ram_bundle::{RamBundle, RamBundleType, is_ram_bundle_slice};
 use sourcemap_errors::errors::Result;
+use sourcemap_test_support::check;
 use std::alloc::Global;
 
 // One module, `xyz`, after the startup code `ab`.
@@ -137,8 +137,8 @@ fn bundles_that_are_cut(rt: HostRuntime) {
     let alloc = rt.alloc();
     for (length, want_startup, want_module) in &CUTS {
         let bytes = ONE.get(..*length).unwrap_or(&[]);
-        check(&rt, "startup code", startup(alloc, bytes), want_startup);
-        check(&rt, "module 0", module_at(alloc, bytes, 0), want_module);
+        check!(rt, "startup code", startup(alloc, bytes), want_startup);
+        check!(rt, "module 0", module_at(alloc, bytes, 0), want_module);
     }
 }
 
@@ -147,7 +147,7 @@ fn whole_bundles(rt: HostRuntime) {
     let alloc = rt.alloc();
     for (row, bytes, want) in &WHOLE {
         let parsed = RamBundle::parse_indexed_from_slice(bytes);
-        check(&rt, row, parsed_text(alloc, parsed), want);
+        check!(rt, row, parsed_text(alloc, parsed), want);
     }
 }
 
@@ -155,37 +155,20 @@ fn whole_bundles(rt: HostRuntime) {
 fn one_bundle(rt: HostRuntime) {
     let alloc = rt.alloc();
     let past = "invalid module index in ram bundle";
-    check(
-        &rt,
-        "a number past the count",
-        module_at(alloc, &ONE, 1),
-        past,
-    );
-    check(&rt, "the same, cut", module_at(alloc, &ONE[..12], 1), past);
+    let got = module_at(alloc, &ONE, 1);
+    check!(rt, "a number past the count", got, past);
+    check!(rt, "the same, cut", module_at(alloc, &ONE[..12], 1), past);
     let count = "4294967295";
-    check(&rt, "the largest count", count_text(alloc, &HUGE), count);
+    check!(rt, "the largest count", count_text(alloc, &HUGE), count);
     let range = "parse error: 34359738372+2 past 12";
-    check(&rt, "a huge table", startup(alloc, &HUGE), range);
+    check!(rt, "a huge table", startup(alloc, &HUGE), range);
     let entry = "parse error: 34359738364+8 past 12";
-    check(
-        &rt,
-        "its last entry",
-        module_at(alloc, &HUGE, 4294967294),
-        entry,
-    );
-    check(
-        &rt,
-        "a copy",
-        copy_text(alloc, &ONE),
-        "Indexed 1 [ab] 0=xyz",
-    );
-    check(&rt, "a view", view_text(alloc, &ONE), "xyz");
-    check(
-        &rt,
-        "numbers",
-        numbers(alloc, &ONE),
-        r#"true 1 2 2 4 false "\0""#,
-    );
+    let got = module_at(alloc, &HUGE, 4294967294);
+    check!(rt, "its last entry", got, entry);
+    check!(rt, "a copy", copy_text(alloc, &ONE), "Indexed 1 [ab] 0=xyz");
+    check!(rt, "a view", view_text(alloc, &ONE), "xyz");
+    let got = numbers(alloc, &ONE);
+    check!(rt, "numbers", got, r#"true 1 2 2 4 false "\0""#);
 }
 
 #[test]

@@ -1,7 +1,7 @@
 //! Common prefixes of paths.
-use crate::checks::check;
 use sourcemap_core::errors::Result;
 use sourcemap_core::utils::find_common_prefix;
+use sourcemap_test_support::check;
 use std::alloc::Global;
 
 // Label, paths, and their common prefix.
@@ -61,6 +61,6 @@ fn common(alloc: Global, texts: &[&str]) -> Result<String> {
 #[test]
 fn common_prefixes(rt: HostRuntime) {
     for (about, texts, want) in PREFIXES.iter() {
-        check(&rt, about, common(rt.alloc(), texts), want);
+        check!(rt, about, common(rt.alloc(), texts), want);
     }
 }

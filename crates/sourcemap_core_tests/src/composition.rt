@@ -1,9 +1,9 @@
 //! Composition of two lists of tokens.
-use crate::checks::check;
 use crate::mappings::{BARE, Row, token, tokens_text};
 use sourcemap_compose::composition::compose;
 use sourcemap_core::errors::Result;
 use sourcemap_core::tokens::{NO_ID, RawToken};
+use sourcemap_test_support::check;
 use sourcemap_test_support::results::{again, error_text};
 use std::alloc::Global;
 
@@ -195,12 +195,8 @@ fn compose_text(alloc: Global, originals: &[Way], adjustments: &[Way]) -> Result
 #[test]
 fn composes_tokens(rt: HostRuntime) {
     for (about, originals, adjustments, want) in COMPOSED.iter() {
-        check(
-            &rt,
-            about,
-            compose_text(rt.alloc(), originals, adjustments),
-            want,
-        );
+        let got = compose_text(rt.alloc(), originals, adjustments);
+        check!(rt, about, got, want);
     }
 }
 

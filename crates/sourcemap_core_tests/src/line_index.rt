@@ -1,10 +1,10 @@
 //! Lookups with an index of lines: which token, and how many comparisons.
-use crate::checks::check;
 use sourcemap_core::errors::Result;
 use sourcemap_core::line_index::LineIndex;
 use sourcemap_core::probe::{KeyProbe, Probe};
 use sourcemap_core::tokens::{NO_ID, RawToken};
 use sourcemap_line_index::token_list::TokenList;
+use sourcemap_test_support::check;
 use sourcemap_test_support::results::again;
 use std::alloc::Global;
 
@@ -71,7 +71,7 @@ fn among_equals(
 fn finds_among_equals_by_few_comparisons(rt: HostRuntime) {
     for (count, position, least, most, want) in AMONG_EQUALS.iter() {
         let answer = among_equals(rt.alloc(), *count, *position, *least, *most);
-        check(&rt, want, answer, want);
+        check!(rt, want, answer, want);
     }
 }
 
@@ -108,7 +108,7 @@ fn between_lines(alloc: Global, position: (u32, u32)) -> Result<String> {
 #[test]
 fn finds_between_lines(rt: HostRuntime) {
     for (about, position, want) in BETWEEN_LINES.iter() {
-        check(&rt, about, between_lines(rt.alloc(), *position), want);
+        check!(rt, about, between_lines(rt.alloc(), *position), want);
     }
 }
 
@@ -177,14 +177,10 @@ fn in_list_of_many_lines(alloc: Global, a_line: u32, position: (u32, u32)) -> Re
 #[test]
 fn finds_on_many_lines_by_few_comparisons(rt: HostRuntime) {
     for (a_line, position, want) in ON_MANY_LINES.iter() {
-        check(
-            &rt,
-            want,
-            on_many_lines(rt.alloc(), *a_line, *position),
-            want,
-        );
+        let got = on_many_lines(rt.alloc(), *a_line, *position);
+        check!(rt, want, got, want);
         let by_list = in_list_of_many_lines(rt.alloc(), *a_line, *position);
-        check(&rt, want, by_list, want);
+        check!(rt, want, by_list, want);
     }
 }
 
@@ -217,5 +213,5 @@ fn tables_compared(alloc: Global) -> Result<String> {
 
 #[test]
 fn tables_are_made_row_by_row(rt: HostRuntime) {
-    check(&rt, "rows", tables_compared(rt.alloc()), "true");
+    check!(rt, "rows", tables_compared(rt.alloc()), "true");
 }

@@ -1,10 +1,10 @@
 //! Reading and writing of `mappings` and `rangeMappings`.
-use crate::checks::check;
 use sourcemap_core::errors::{Error, Result};
 use sourcemap_core::mappings::{
     parse_mappings, tokens_in_order, write_mappings, write_range_mappings,
 };
 use sourcemap_core::tokens::{NO_ID, RawToken};
+use sourcemap_test_support::check;
 use sourcemap_test_support::results::error_text;
 use std::alloc::Global;
 
@@ -156,7 +156,7 @@ fn read(alloc: Global, texts: Texts) -> Result<String> {
 #[test]
 fn reads_mappings(rt: HostRuntime) {
     for (about, texts, want) in READ.iter() {
-        check(&rt, about, read(rt.alloc(), *texts), want);
+        check!(rt, about, read(rt.alloc(), *texts), want);
     }
 }
 
@@ -265,8 +265,8 @@ fn ranges_written(alloc: Global, rows: &[Row]) -> Result<String> {
 #[test]
 fn writes_tokens(rt: HostRuntime) {
     for (about, rows, mappings, ranges) in WRITTEN.iter() {
-        check(&rt, about, write_rows(rt.alloc(), rows), mappings);
+        check!(rt, about, write_rows(rt.alloc(), rows), mappings);
         let ranges = ranges.unwrap_or("none");
-        check(&rt, about, ranges_written(rt.alloc(), rows), ranges);
+        check!(rt, about, ranges_written(rt.alloc(), rows), ranges);
     }
 }

@@ -1,8 +1,8 @@
 //! Paths of files: to URLs and back, and relative paths.
-use crate::checks::check;
 use sourcemap_core::errors::{Error, Result};
 use sourcemap_core::places::{path_url, url_path};
 use sourcemap_core::utils::make_relative_path;
+use sourcemap_test_support::check;
 use std::alloc::Global;
 use url::{ParseError, Url};
 
@@ -89,25 +89,21 @@ fn path_of(alloc: Global, text: &str) -> Result<String> {
 #[test]
 fn urls_of_paths(rt: HostRuntime) {
     for (path, folder, want) in URLS.iter() {
-        check(&rt, path, url_of(rt.alloc(), path, *folder), want);
+        check!(rt, path, url_of(rt.alloc(), path, *folder), want);
     }
 }
 
 #[test]
 fn paths_of_urls(rt: HostRuntime) {
     for (url, want) in PATHS.iter() {
-        check(&rt, url, path_of(rt.alloc(), url), want);
+        check!(rt, url, path_of(rt.alloc(), url), want);
     }
 }
 
 #[test]
 fn relative_paths(rt: HostRuntime) {
     for (base, target, want) in RELATIVE.iter() {
-        check(
-            &rt,
-            target,
-            make_relative_path(rt.alloc(), base, target),
-            want,
-        );
+        let got = make_relative_path(rt.alloc(), base, target);
+        check!(rt, target, got, want);
     }
 }

@@ -1,7 +1,7 @@
 //! Numbering of texts, also of texts whose hashes collide.
-use crate::checks::check;
 use sourcemap_core::errors::Result;
 use sourcemap_interning::text_index::TextIndex;
+use sourcemap_test_support::check;
 use std::alloc::Global;
 
 // The largest number of texts of an index.
@@ -26,12 +26,8 @@ fn numbers(alloc: Global, texts: &[&str]) -> Result<String> {
 
 #[test]
 fn numbers_texts_by_their_first_use(rt: HostRuntime) {
-    check(
-        &rt,
-        "equal texts",
-        numbers(rt.alloc(), &TEXTS),
-        "0 1 0 2 3 1 2 of 4",
-    );
+    let got = numbers(rt.alloc(), &TEXTS);
+    check!(rt, "equal texts", got, "0 1 0 2 3 1 2 of 4");
 }
 
 // `count` texts, numbered from 0. Each text is `start`, then its number, padded with leading zeros
@@ -78,7 +74,7 @@ fn numbering_text(alloc: Global, start: &str, end: &str, count: usize) -> Result
 #[test]
 fn numbers_many_texts(rt: HostRuntime) {
     let answer = numbering_text(rt.alloc(), "name", "", 3000);
-    check(&rt, "usual texts", answer, "3000 3000 true false");
+    check!(rt, "usual texts", answer, "3000 3000 true false");
 }
 
 // All texts of this test have the same hash. bench/colliding.py writes such texts.
@@ -90,5 +86,5 @@ fn numbers_texts_that_collide(rt: HostRuntime) {
         "/src/app/file.js",
         300,
     );
-    check(&rt, "texts that collide", answer, "300 300 true false");
+    check!(rt, "texts that collide", answer, "300 300 true false");
 }

@@ -1,10 +1,10 @@
 //! Lists of tokens and interned texts, and searches in them.
-use crate::checks::check;
 use sourcemap_core::errors::Result;
 use sourcemap_core::interner::Interner;
 use sourcemap_core::tokens::{NO_ID, RawToken, sort_tokens, tokens_in_order};
 use sourcemap_core::utils::greatest_lower_bound;
 use sourcemap_line_index::token_list::TokenList;
+use sourcemap_test_support::check;
 use std::alloc::Global;
 
 // Generated positions of four tokens. The tests identify a token by its original column, which is
@@ -50,7 +50,7 @@ fn closest(alloc: Global, line: u32, col: u32) -> Result<String> {
 #[test]
 fn finds_the_closest_token(rt: HostRuntime) {
     for (about, line, col, want) in CLOSEST.iter() {
-        check(&rt, about, closest(rt.alloc(), *line, *col), want);
+        check!(rt, about, closest(rt.alloc(), *line, *col), want);
     }
 }
 
@@ -76,8 +76,8 @@ fn sorted_in_list(alloc: Global) -> Result<String> {
 
 #[test]
 fn sorts_tokens_stably(rt: HostRuntime) {
-    check(&rt, "sorted", sort_text(rt.alloc()), "1 3 0 2 ");
-    check(&rt, "in place", sorted_in_list(rt.alloc()), "1 3 0 2 ");
+    check!(rt, "sorted", sort_text(rt.alloc()), "1 3 0 2 ");
+    check!(rt, "in place", sorted_in_list(rt.alloc()), "1 3 0 2 ");
 }
 
 fn orders(alloc: Global) -> Result<(bool, bool)> {
@@ -110,7 +110,7 @@ fn ends(alloc: Global) -> Result<String> {
 
 #[test]
 fn compares_and_ends(rt: HostRuntime) {
-    check(&rt, "list", ends(rt.alloc()), "(true, false) true true");
+    check!(rt, "list", ends(rt.alloc()), "(true, false) true true");
 }
 
 static PAIRS: [(u32, u32); 5] = [(1, 10), (1, 11), (1, 12), (1, 13), (1, 14)];
@@ -144,7 +144,7 @@ fn bound(alloc: Global, count: usize, key: u32) -> Result<String> {
 #[test]
 fn finds_first_at_and_last_before(rt: HostRuntime) {
     for (count, key, want) in BOUNDS.iter() {
-        check(&rt, want, bound(rt.alloc(), *count, *key), want);
+        check!(rt, want, bound(rt.alloc(), *count, *key), want);
     }
 }
 
@@ -193,19 +193,10 @@ fn texts_text(alloc: Global) -> Result<String> {
 fn equal_texts_have_one_number(rt: HostRuntime) {
     let alloc = rt.alloc();
     assert!(rt; Interner::new(alloc).is_empty());
-    check(&rt, "ids", ids(alloc), "0 1 0 2 1 3 2 ");
-    check(
-        &rt,
-        "texts",
-        interned_texts(alloc),
-        r#"4 (Some("b"), Some(""), None, None)"#,
-    );
-    check(
-        &rt,
-        "all texts",
-        texts_text(alloc),
-        r#"["b", "a", "", "B"]"#,
-    );
+    check!(rt, "ids", ids(alloc), "0 1 0 2 1 3 2 ");
+    let got = interned_texts(alloc);
+    check!(rt, "texts", got, r#"4 (Some("b"), Some(""), None, None)"#);
+    check!(rt, "all texts", texts_text(alloc), r#"["b", "a", "", "B"]"#);
 }
 
 // Four different texts with the same digest and the same length.
@@ -235,10 +226,6 @@ fn colliding_ids(alloc: Global) -> Result<String> {
 
 #[test]
 fn colliding_texts_have_ids_of_their_own(rt: HostRuntime) {
-    check(
-        &rt,
-        "colliding",
-        colliding_ids(rt.alloc()),
-        "1 2 3 4 1 2 3 4 ",
-    );
+    let got = colliding_ids(rt.alloc());
+    check!(rt, "colliding", got, "1 2 3 4 1 2 3 4 ");
 }

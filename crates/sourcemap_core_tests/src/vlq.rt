@@ -1,8 +1,8 @@
 //! VLQ segments and range bits.
-use crate::checks::check;
 use sourcemap_core::bits::{decode_rmi, encode_rmi, push_bits};
 use sourcemap_core::errors::Result;
 use sourcemap_core::vlq::{generate_vlq_segment, parse_vlq_segment};
+use sourcemap_test_support::check;
 use sourcemap_test_support::results::{again, error_text};
 use std::alloc::Global;
 
@@ -56,7 +56,7 @@ fn read(alloc: Global, segment: &str) -> Result<String> {
 #[test]
 fn reads_segments(rt: HostRuntime) {
     for (about, segment, want) in READ.iter() {
-        check(&rt, about, again(|| read(rt.alloc(), segment)), want);
+        check!(rt, about, again(|| read(rt.alloc(), segment)), want);
     }
 }
 
@@ -87,12 +87,8 @@ fn write_numbers(alloc: Global, numbers: &[i64]) -> Result<String> {
 #[test]
 fn writes_segments(rt: HostRuntime) {
     for (about, numbers, want) in WRITTEN.iter() {
-        check(
-            &rt,
-            about,
-            again(|| write_numbers(rt.alloc(), numbers)),
-            want,
-        );
+        let got = again(|| write_numbers(rt.alloc(), numbers));
+        check!(rt, about, got, want);
     }
 }
 
@@ -116,7 +112,7 @@ fn bits_written(alloc: Global, positions: &[usize]) -> Result<String> {
 #[test]
 fn writes_bits(rt: HostRuntime) {
     for (positions, want) in BITS.iter() {
-        check(&rt, want, bits_written(rt.alloc(), positions), want);
+        check!(rt, want, bits_written(rt.alloc(), positions), want);
     }
 }
 
@@ -142,7 +138,7 @@ fn append_bits(alloc: Global, start: &str, positions: &[usize]) -> Result<String
 #[test]
 fn appends_bits_to_a_text(rt: HostRuntime) {
     for (start, positions, want) in APPENDED.iter() {
-        check(&rt, want, append_bits(rt.alloc(), start, positions), want);
+        check!(rt, want, append_bits(rt.alloc(), start, positions), want);
     }
 }
 
@@ -181,6 +177,6 @@ fn bits_read(alloc: Global, text: &str) -> Result<String> {
 #[test]
 fn reads_bits(rt: HostRuntime) {
     for (about, text, want) in TEXTS.iter() {
-        check(&rt, about, bits_read(rt.alloc(), text), want);
+        check!(rt, about, bits_read(rt.alloc(), text), want);
     }
 }

@@ -1,7 +1,7 @@
 // Loading of contents when files cannot be opened or read, or have wrong metadata or none.
-use crate::checks::check;
 use crate::folders::count_or_error;
 use sourcemap::{Result, SourceMapBuilder};
+use sourcemap_test_support::check;
 use sourcemap_test_support::files::{FakeFile, unsupported_error};
 use sourcemap_test_support::readers::NarrowReader;
 use sourcemap_test_support::results::push_optional;
@@ -142,6 +142,6 @@ static ROWS: [(ErrorKind, &[&str], &str); 6] = [
 fn an_error_skips_a_source_unless_out_of_memory(rt: HostRuntime) {
     for (kind, sources, want) in ROWS.iter() {
         let answer = load_failing(rt.alloc(), *kind, sources);
-        check(&rt, want, answer, want);
+        check!(rt, want, answer, want);
     }
 }

@@ -1,7 +1,7 @@
 // Contents loaded by a builder.
-use crate::checks::check;
 use crate::folders::{count_or_error, expand_folder, fill, folder, load};
 use sourcemap::{Result, SourceMapBuilder};
+use sourcemap_test_support::check;
 use sourcemap_test_support::results::push_optional;
 use std::alloc::Global;
 use std::rt::Files;
@@ -255,7 +255,7 @@ fn contents_are_loaded(rt: HostRuntime) -> io::Result<()> {
     let folder = fill(&rt, "contents_are_loaded")?;
     for row in ROWS.iter() {
         let answer = answer(&rt, rt.alloc(), folder.as_str(), row);
-        check(&rt, row.about, answer, row.want);
+        check!(rt, row.about, answer, row.want);
     }
     fs::remove_dir_all(&rt, "contents_are_loaded")
 }
@@ -276,6 +276,6 @@ fn a_long_file_is_loaded_whole(rt: HostRuntime) -> io::Result<()> {
     let bytes = vec![in rt.alloc(); b'y'; 10_000_003]?;
     fs::write(&rt, "a_long_file_is_loaded_whole/long.js", bytes.as_slice())?;
     let answer = long_loaded(&rt, rt.alloc(), folder.as_str(), bytes.as_slice());
-    check(&rt, "a long file", answer, "1 10000003 true");
+    check!(rt, "a long file", answer, "1 10000003 true");
     fs::remove_dir_all(&rt, "a_long_file_is_loaded_whole")
 }

@@ -1,8 +1,8 @@
 // Contents loaded while rewriting, for maps of each kind.
-use crate::checks::check;
 use crate::folders::fill;
 use sourcemap::types::{RewriteOptions, SourceMap, SourceMapIndex};
 use sourcemap::{Result, SourceMapHermes};
+use sourcemap_test_support::check;
 use sourcemap_test_support::results::push_optional;
 use std::alloc::Global;
 use std::process::Abort;
@@ -128,7 +128,7 @@ fn rewritten_row<'a, F: Files>(
 fn check_row<R: Files + AllocGlobal + Abort>(rt: &R, folder: &str, at: usize) {
     if let Some(row) = ROWS.get(at) {
         let answer = rewritten_row(rt, rt.alloc(), folder, row);
-        check(rt, row.about, answer, row.want);
+        check!(rt, row.about, answer, row.want);
     }
 }
 
@@ -180,8 +180,8 @@ fn rewritten_maps_of_other_kinds_have_what_files_hold(rt: HostRuntime) -> io::Re
         ..RewriteOptions::default()
     };
     let answer = hermes_rewritten(&rt, rt.alloc(), HERMES, &options);
-    check(&rt, "a Hermes map", answer, "a.js [x];f");
+    check!(rt, "a Hermes map", answer, "a.js [x];f");
     let answer = flat_rewritten(&rt, rt.alloc(), INDEX, &options);
-    check(&rt, "an index", answer, "a.js [x];sub/c.js [c];");
+    check!(rt, "an index", answer, "a.js [x];sub/c.js [c];");
     fs::remove_dir_all(&rt, name)
 }

@@ -1,5 +1,4 @@
 // Decoding, lookups and encoding of Hermes maps. Expected values are worked out by hand.
-use crate::checks::check;
 use serde_json::Value;
 use sourcemap_errors::errors::{Error, Result};
 use sourcemap_hermes::decode::decode_hermes;
@@ -7,6 +6,7 @@ use sourcemap_hermes::map::SourceMapHermes;
 use sourcemap_map_regular::encode::Encodable;
 use sourcemap_map_regular::token::Token;
 use sourcemap_records::jsontypes::RawSourceMap;
+use sourcemap_test_support::check;
 use sourcemap_test_support::results::box_result;
 use std::alloc::Global;
 
@@ -90,7 +90,7 @@ static MAPS: [&str; 7] = [
 fn names_of_functions(rt: HostRuntime) {
     for (text, offset, want) in NAMES.iter() {
         let answer = name_at(rt.alloc(), text, *offset);
-        check(&rt, text, answer, want);
+        check!(rt, text, answer, want);
     }
 }
 
@@ -110,7 +110,7 @@ fn scope_at(alloc: Global, text: &str, offset: u32) -> Result<String> {
 #[test]
 fn scopes_of_tokens(rt: HostRuntime) {
     for (text, offset, want) in NAMES.iter() {
-        check(&rt, text, scope_at(rt.alloc(), text, *offset), want);
+        check!(rt, text, scope_at(rt.alloc(), text, *offset), want);
     }
 }
 
@@ -126,7 +126,7 @@ fn write_map(alloc: Global, text: &str) -> Result<String> {
 #[test]
 fn scopes_are_written_unchanged(rt: HostRuntime) {
     for text in WRITTEN.iter() {
-        check(&rt, text, write_map(rt.alloc(), text), text);
+        check!(rt, text, write_map(rt.alloc(), text), text);
     }
 }
 
@@ -142,7 +142,7 @@ fn bytes_written(alloc: Global, text: &str) -> Result<String> {
 #[test]
 fn bytes_are_those_of_the_record(rt: HostRuntime) {
     for text in WRITTEN.iter() {
-        check(&rt, text, bytes_written(rt.alloc(), text), text);
+        check!(rt, text, bytes_written(rt.alloc(), text), text);
     }
 }
 
@@ -158,7 +158,7 @@ fn is_read_back(alloc: Global, text: &str) -> Result<String> {
 #[test]
 fn bytes_read_back(rt: HostRuntime) {
     for text in MAPS.iter() {
-        check(&rt, text, is_read_back(rt.alloc(), text), "true");
+        check!(rt, text, is_read_back(rt.alloc(), text), "true");
     }
 }
 
@@ -184,7 +184,7 @@ fn copy_map(alloc: Global, text: &str) -> Result<String> {
 #[test]
 fn copies_and_maps_of_readers_are_equal(rt: HostRuntime) {
     for text in MAPS.iter() {
-        check(&rt, text, copy_map(rt.alloc(), text), "true true");
+        check!(rt, text, copy_map(rt.alloc(), text), "true true");
     }
 }
 
@@ -224,6 +224,6 @@ static KINDS: [(&str, &str); 3] = [
 #[test]
 fn records_of_other_kinds(rt: HostRuntime) {
     for (text, want) in KINDS.iter() {
-        check(&rt, text, kinds_text(rt.alloc(), text), want);
+        check!(rt, text, kinds_text(rt.alloc(), text), want);
     }
 }

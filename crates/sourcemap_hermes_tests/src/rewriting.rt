@@ -1,9 +1,9 @@
 // Rewriting of Hermes maps. Expected values are worked out by hand.
-use crate::checks::check;
 use crate::maps::{BROKEN, LONG, NO_SOURCE, SECOND_SOURCE, SHORT, TWO_FUNCTIONS, name_or_none};
 use sourcemap_errors::errors::{Error, Result};
 use sourcemap_hermes::map::SourceMapHermes;
 use sourcemap_map_regular::rewrite::RewriteOptions;
+use sourcemap_test_support::check;
 use std::alloc::Global;
 use std::rt::Files;
 
@@ -100,12 +100,8 @@ static DEFAULT: [(&str, &str); 12] = [
 fn functions_follow_their_sources(rt: HostRuntime) {
     let options = RewriteOptions::default();
     for (text, want) in DEFAULT.iter() {
-        check(
-            &rt,
-            text,
-            rewrite_with(&rt, rt.alloc(), text, &options),
-            want,
-        );
+        let got = rewrite_with(&rt, rt.alloc(), text, &options);
+        check!(rt, text, got, want);
     }
 }
 
@@ -131,12 +127,8 @@ fn functions_stay_where_prefixes_are_cut(rt: HostRuntime) {
             strip_prefixes: prefixes,
             ..RewriteOptions::default()
         };
-        check(
-            &rt,
-            text,
-            rewrite_with(&rt, rt.alloc(), text, &options),
-            want,
-        );
+        let got = rewrite_with(&rt, rt.alloc(), text, &options);
+        check!(rt, text, got, want);
     }
 }
 
@@ -147,12 +139,8 @@ fn a_folder_is_needed_to_load_contents(rt: HostRuntime) {
         ..RewriteOptions::default()
     };
     let want = "invalid input parameter";
-    check(
-        &rt,
-        want,
-        rewrite_with(&rt, rt.alloc(), TURNED, &options),
-        want,
-    );
+    let got = rewrite_with(&rt, rt.alloc(), TURNED, &options);
+    check!(rt, want, got, want);
 }
 
 // The function name at a bytecode offset after rewriting with default options.
@@ -182,6 +170,6 @@ static NAMES: [(&str, u32, &str); 10] = [
 fn names_of_functions_stay(rt: HostRuntime) {
     for (text, offset, want) in NAMES.iter() {
         let answer = name_then(&rt, rt.alloc(), text, *offset);
-        check(&rt, text, answer, want);
+        check!(rt, text, answer, want);
     }
 }

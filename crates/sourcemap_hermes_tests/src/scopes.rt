@@ -1,6 +1,5 @@
 // Tests of the scopes of sources: lookups, selection by source id, writing, copies and equality.
 // Expected values are worked out by hand.
-use crate::checks::check;
 use crate::maps::name_or_none;
 use serde_json::Value;
 use sourcemap_errors::errors::{Error, Result};
@@ -8,6 +7,7 @@ use sourcemap_hermes_scopes::function_map::HermesFunctionMap;
 use sourcemap_hermes_scopes::scope_lists::ScopeLists;
 use sourcemap_hermes_scopes::source_scopes::SourceScopes;
 use sourcemap_records::jsontypes::RawSourceMap;
+use sourcemap_test_support::check;
 use std::alloc::Global;
 
 // Returns the lists of scopes that a record has under `x_facebook_sources`. If this key is missing
@@ -102,7 +102,7 @@ static MAPPINGS: [(&str, u32, u32, &str); 31] = [
 fn names_of_functions(rt: HostRuntime) {
     for (mappings, line, col, want) in MAPPINGS.iter() {
         let answer = name_in_mappings(rt.alloc(), mappings, *line, *col);
-        check(&rt, mappings, answer, want);
+        check!(rt, mappings, answer, want);
     }
 }
 
@@ -157,12 +157,8 @@ static SOURCES: [(&str, u32, u32, u32, &str); 13] = [
 #[test]
 fn names_by_source(rt: HostRuntime) {
     for (text, source, line, col, want) in SOURCES.iter() {
-        check(
-            &rt,
-            text,
-            name_at_position(rt.alloc(), text, *source, *line, *col),
-            want,
-        );
+        let got = name_at_position(rt.alloc(), text, *source, *line, *col);
+        check!(rt, text, got, want);
     }
 }
 
@@ -215,7 +211,7 @@ static SELECTED: [(&str, &str, &[u32], &str); 5] = [
 #[test]
 fn selected_scopes_are_written(rt: HostRuntime) {
     for (about, text, ids, want) in SELECTED.iter() {
-        check(&rt, about, selected_written(rt.alloc(), text, ids), want);
+        check!(rt, about, selected_written(rt.alloc(), text, ids), want);
     }
 }
 
@@ -243,12 +239,8 @@ static MOVED: [(&str, &str, &[u32], u32, &str); 5] = [
 #[test]
 fn names_of_selected_scopes(rt: HostRuntime) {
     for (about, text, ids, source, want) in MOVED.iter() {
-        check(
-            &rt,
-            about,
-            name_when_selected(rt.alloc(), text, ids, *source),
-            want,
-        );
+        let got = name_when_selected(rt.alloc(), text, ids, *source);
+        check!(rt, about, got, want);
     }
 }
 
@@ -287,7 +279,7 @@ fn copies_are_equal(rt: HostRuntime) -> Result<()> {
     assert!(rt; compare_scopes(alloc, ROW, EMPTY)? == (true, true, false));
     let want =
         r#"{"sources":null,"version":null,"x_facebook_sources":[null,[{"mappings":"AAA","names":["f"]}]]}"#;
-    check(&rt, SECOND, copy_scopes(alloc, SECOND), want);
+    check!(rt, SECOND, copy_scopes(alloc, SECOND), want);
     Ok(())
 }
 
@@ -318,11 +310,7 @@ fn index_at(alloc: Global, mappings: &str, line: u32, col: u32) -> Result<String
 #[test]
 fn copies_of_function_maps_answer_alike(rt: HostRuntime) {
     for (mappings, line, col, want) in FUNCTIONS.iter() {
-        check(
-            &rt,
-            mappings,
-            index_at(rt.alloc(), mappings, *line, *col),
-            want,
-        );
+        let got = index_at(rt.alloc(), mappings, *line, *col);
+        check!(rt, mappings, got, want);
     }
 }

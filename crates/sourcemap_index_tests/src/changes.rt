@@ -1,6 +1,5 @@
 // Tests of index maps that are constructed, not decoded. The tests change `file` or one section,
 // read the lists of an index map for a RAM bundle, or write an index map and read it back.
-use crate::checks::check;
 use crate::decoding::sections_text;
 use crate::getters::lists_text;
 use crate::maps::{map_of, record_text};
@@ -8,6 +7,7 @@ use sourcemap::decoder::decode_slice;
 use sourcemap::encoder::Encodable;
 use sourcemap::errors::{Error, Result};
 use sourcemap::types::{DecodedMap, SourceMapIndex, SourceMapSection};
+use sourcemap_test_support::check;
 use sourcemap_test_support::results::box_result;
 use std::alloc::Global;
 
@@ -192,7 +192,7 @@ static CHANGES: [(Change, &str); 11] = [
 #[test]
 fn one_part_of_an_index_is_changed(rt: HostRuntime) {
     for (change, want) in CHANGES.iter() {
-        check(&rt, want, apply_change(rt.alloc(), *change), want);
+        check!(rt, want, apply_change(rt.alloc(), *change), want);
     }
 }
 
@@ -231,7 +231,7 @@ fn bundle_text(alloc: Global) -> Result<String> {
 #[test]
 fn indexes_are_made_for_bundles(rt: HostRuntime) {
     let want = r#"Some([Some(5), None]) Some(["a.js"]) true"#;
-    check(&rt, "a bundle", bundle_text(rt.alloc()), want);
+    check!(rt, "a bundle", bundle_text(rt.alloc()), want);
 }
 
 fn empty(alloc: Global) -> Result<Box<SourceMapIndex>> {
@@ -264,13 +264,9 @@ fn made_index_text(alloc: Global, index: Result<Box<SourceMapIndex>>) -> Result<
 fn indexes_of_no_section_are_written_and_read_back(rt: HostRuntime) {
     let alloc = rt.alloc();
     let want = r#"{"file":"test.js","sections":[],"sources":null,"version":3} true"#;
-    check(&rt, "a file", made_index_text(alloc, empty(alloc)), want);
+    check!(rt, "a file", made_index_text(alloc, empty(alloc)), want);
     let want =
         r#"{"sections":[],"sources":null,"version":3,"x_facebook_offsets":[5,null],"x_metro_module_paths":["a.js"]} true"#;
-    check(
-        &rt,
-        "a bundle",
-        made_index_text(alloc, bundle_index(alloc)),
-        want,
-    );
+    let got = made_index_text(alloc, bundle_index(alloc));
+    check!(rt, "a bundle", got, want);
 }

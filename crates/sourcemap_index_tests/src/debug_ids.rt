@@ -1,11 +1,11 @@
 // Tests of the debug id of an index map. They decode the id from `debugId` or `debug_id`, set it,
 // remove it and write it.
 use crate::changes::index_of_file;
-use crate::checks::check;
 use crate::maps::{map_of, value_text};
 use sourcemap::errors::Result;
 use sourcemap::jsontypes::DebugId;
 use sourcemap::types::DecodedMap;
+use sourcemap_test_support::check;
 use sourcemap_test_support::results::{box_result, error_of};
 use std::alloc::Global;
 
@@ -79,7 +79,7 @@ static READ: [(&str, &str); 8] = [
 #[test]
 fn debug_ids_of_indexes_are_read(rt: HostRuntime) {
     for (text, want) in READ.iter() {
-        check(&rt, text, read(rt.alloc(), text), want);
+        check!(rt, text, read(rt.alloc(), text), want);
     }
 }
 
@@ -121,7 +121,7 @@ static SET: [(&str, Option<&str>, &str); 4] = [
 #[test]
 fn debug_ids_of_indexes_are_set(rt: HostRuntime) {
     for (text, id, want) in SET.iter() {
-        check(&rt, text, set(rt.alloc(), text, *id), want);
+        check!(rt, text, set(rt.alloc(), text, *id), want);
     }
 }
 
@@ -149,5 +149,5 @@ fn empty_index_text(alloc: Global) -> Result<String> {
 
 #[test]
 fn indexes_that_are_made_get_debug_ids(rt: HostRuntime) {
-    check(&rt, "made", empty_index_text(rt.alloc()), "true true true");
+    check!(rt, "made", empty_index_text(rt.alloc()), "true true true");
 }

@@ -1,8 +1,8 @@
 // Decoding of index maps from texts and data URLs, and its errors.
-use crate::checks::check;
 use sourcemap::decoder::{decode, decode_data_url, decode_slice, decode_vec};
 use sourcemap::errors::Result;
 use sourcemap::types::{DecodedMap, SourceMapIndex, SourceMapSection};
+use sourcemap_test_support::check;
 use sourcemap_test_support::results::{box_result, error_of};
 use std::alloc::Global;
 
@@ -133,9 +133,9 @@ fn records_are_read_section_by_section(rt: HostRuntime) {
     let alloc = rt.alloc();
     for (text, want) in TEXTS.iter() {
         let bytes = text.as_bytes();
-        check(&rt, text, describe(alloc, decode_slice(alloc, bytes)), want);
-        check(&rt, text, describe(alloc, read_owned(alloc, text)), want);
-        check(&rt, text, describe(alloc, decode(alloc, bytes)), want);
+        check!(rt, text, describe(alloc, decode_slice(alloc, bytes)), want);
+        check!(rt, text, describe(alloc, read_owned(alloc, text)), want);
+        check!(rt, text, describe(alloc, decode(alloc, bytes)), want);
     }
 }
 
@@ -182,9 +182,9 @@ fn indexes_alone_are_read(rt: HostRuntime) {
     for (text, want) in INDEXES.iter() {
         let bytes = text.as_bytes();
         let read = SourceMapIndex::from_slice(alloc, bytes);
-        check(&rt, text, index_text(alloc, read), want);
+        check!(rt, text, index_text(alloc, read), want);
         let streamed = SourceMapIndex::from_reader(alloc, bytes);
-        check(&rt, text, index_text(alloc, streamed), want);
+        check!(rt, text, index_text(alloc, streamed), want);
     }
 }
 
@@ -204,6 +204,6 @@ static URLS: [(&str, &str); 2] = [
 fn data_urls_are_read(rt: HostRuntime) {
     let alloc = rt.alloc();
     for (url, want) in URLS.iter() {
-        check(&rt, url, describe(alloc, decode_data_url(alloc, url)), want);
+        check!(rt, url, describe(alloc, decode_data_url(alloc, url)), want);
     }
 }

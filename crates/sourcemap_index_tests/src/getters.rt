@@ -1,9 +1,9 @@
 // Getters of index maps.
-use crate::checks::check;
 use crate::debug_ids::id_text;
 use crate::maps::map_of;
 use sourcemap::errors::{Error, Result};
 use sourcemap::types::{DecodedMap, SourceMapIndex};
+use sourcemap_test_support::check;
 use std::alloc::Global;
 
 const FULL: &str =
@@ -106,6 +106,6 @@ static ANSWERS: [(&str, Getter, &str); 13] = [
 #[test]
 fn getters_return_parts(rt: HostRuntime) {
     for (text, getter, want) in ANSWERS.iter() {
-        check(&rt, want, answer(rt.alloc(), text, *getter), want);
+        check!(rt, want, answer(rt.alloc(), text, *getter), want);
     }
 }

@@ -1,11 +1,11 @@
 // Tests of Hermes maps. A Hermes map is decoded on its own or as the map of a section.
-use crate::checks::check;
 use crate::debug_ids::id_text;
 use crate::maps::{map_of, value_text};
 use serde_json::Value;
 use sourcemap::errors::Result;
 use sourcemap::types::DecodedMap;
 use sourcemap::{SourceMap, SourceMapHermes};
+use sourcemap_test_support::check;
 use sourcemap_test_support::results::error_of;
 use std::alloc::Global;
 
@@ -71,7 +71,7 @@ static NAMES: [(&str, u32, &str); 8] = [
 #[test]
 fn functions_of_a_decoded_map_have_names(rt: HostRuntime) {
     for (text, offset, want) in NAMES.iter() {
-        check(&rt, text, name_at(rt.alloc(), text, *offset), want);
+        check!(rt, text, name_at(rt.alloc(), text, *offset), want);
     }
 }
 
@@ -93,7 +93,7 @@ fn read_back_text(alloc: Global, text: &str) -> Result<String> {
 #[test]
 fn scopes_are_written_as_they_were_read(rt: HostRuntime) {
     for text in [SECOND_SOURCE, SHORT, BROKEN].iter() {
-        check(&rt, text, read_back_text(rt.alloc(), text), text);
+        check!(rt, text, read_back_text(rt.alloc(), text), text);
     }
 }
 
@@ -115,7 +115,7 @@ fn debug_ids_of_hermes_maps_are_set(rt: HostRuntime) {
     let text =
         r#"{"sources":["a.js"],"mappings":"AAAA","debugId":"00000000-0000-0000-0000-000000000000","x_facebook_sources":[[{"names":["f"],"mappings":"AAA"}]]}"#;
     let want = "00000000-0000-0000-0000-000000000000 none f";
-    check(&rt, text, ids(rt.alloc(), text), want);
+    check!(rt, text, ids(rt.alloc(), text), want);
 }
 
 // The errors of reading a text as a regular map and as a Hermes map.
@@ -141,6 +141,6 @@ static KINDS: [(&str, &str); 3] = [
 #[test]
 fn each_kind_is_decoded_by_its_own_reader(rt: HostRuntime) {
     for (text, want) in KINDS.iter() {
-        check(&rt, text, kinds(rt.alloc(), text), want);
+        check!(rt, text, kinds(rt.alloc(), text), want);
     }
 }

@@ -6,8 +6,6 @@
 #[cfg(test)]
 mod changes;
 #[cfg(test)]
-mod checks;
-#[cfg(test)]
 mod debug_ids;
 #[cfg(test)]
 mod decoding;

@@ -1,8 +1,8 @@
 // Lookups in index maps.
-use crate::checks::check;
 use crate::maps::{index_of, map_of};
 use sourcemap::errors::Result;
 use sourcemap::types::{SourceMapIndex, Token};
+use sourcemap_test_support::check;
 use sourcemap_test_support::results::box_result;
 use std::alloc::Global;
 
@@ -100,8 +100,8 @@ fn index_lookup_text(alloc: Global, text: &str, line: u32, col: u32) -> Result<S
 fn positions_are_looked_up_in_the_closest_section(rt: HostRuntime) {
     let alloc = rt.alloc();
     for (text, line, col, want) in POSITIONS.iter() {
-        check(&rt, text, lookup_text(alloc, text, *line, *col), want);
-        check(&rt, text, index_lookup_text(alloc, text, *line, *col), want);
+        check!(rt, text, lookup_text(alloc, text, *line, *col), want);
+        check!(rt, text, index_lookup_text(alloc, text, *line, *col), want);
     }
 }
 
@@ -136,17 +136,9 @@ fn flat_lookup_text(alloc: Global, text: &str, line: u32, col: u32) -> Result<St
 fn positions_are_looked_up_in_an_index_and_in_its_flat_map(rt: HostRuntime) {
     let alloc = rt.alloc();
     for (text, line, col, by_index, by_flat) in FLAT_POSITIONS.iter() {
-        check(
-            &rt,
-            text,
-            index_lookup_text(alloc, text, *line, *col),
-            by_index,
-        );
-        check(
-            &rt,
-            text,
-            flat_lookup_text(alloc, text, *line, *col),
-            by_flat,
-        );
+        let got = index_lookup_text(alloc, text, *line, *col);
+        check!(rt, text, got, by_index);
+        let got = flat_lookup_text(alloc, text, *line, *col);
+        check!(rt, text, got, by_flat);
     }
 }

@@ -1,11 +1,11 @@
 // Nested index maps. Some are constructed in memory, others are decoded from text or JSON values.
-use crate::checks::check;
 use crate::lookups::{flat_token_text, token_text};
 use crate::maps::map_of;
 use serde_json::Value;
 use sourcemap::decoder::decode_slice;
 use sourcemap::errors::Result;
 use sourcemap::types::{DecodedMap, SourceMapIndex, SourceMapSection};
+use sourcemap_test_support::check;
 use sourcemap_test_support::results::{again, box_result, error_of};
 use std::alloc::Global;
 
@@ -66,13 +66,9 @@ static TEXTS: [(usize, &str); 4] = [
 fn nested_index_maps_are_looked_up(rt: HostRuntime) {
     let alloc = rt.alloc();
     for (depth, want) in TEXTS.iter() {
-        check(
-            &rt,
-            "in memory",
-            first_token_text(alloc, nested_index(alloc, *depth)),
-            "a.js:0:0",
-        );
-        check(&rt, want, read(alloc, *depth), want);
+        let got = first_token_text(alloc, nested_index(alloc, *depth));
+        check!(rt, "in memory", got, "a.js:0:0");
+        check!(rt, want, read(alloc, *depth), want);
     }
 }
 
@@ -140,11 +136,11 @@ fn print_nested(alloc: Global, depth: usize) -> Result<String> {
 #[test]
 fn a_hundred_nested_index_maps_are_flattened_copied_and_read_back(rt: HostRuntime) {
     let alloc = rt.alloc();
-    check(&rt, "flat", flatten_nested(alloc, 100), "a.js:0:0");
-    check(&rt, "copied", copy_nested(alloc, 100), "a.js:0:0 true");
-    check(&rt, "by values", read_back(alloc, 100), "a.js:0:0 true");
-    check(&rt, "moved", move_nested(alloc, 100), "a.js:0:0 true");
-    check(&rt, "printed", print_nested(alloc, 100), "100");
+    check!(rt, "flat", flatten_nested(alloc, 100), "a.js:0:0");
+    check!(rt, "copied", copy_nested(alloc, 100), "a.js:0:0 true");
+    check!(rt, "by values", read_back(alloc, 100), "a.js:0:0 true");
+    check!(rt, "moved", move_nested(alloc, 100), "a.js:0:0 true");
+    check!(rt, "printed", print_nested(alloc, 100), "100");
 }
 
 fn text_of_bytes(alloc: Global, map: &DecodedMap, bytes: &[u8]) -> Result<String> {
@@ -182,6 +178,6 @@ static WRITTEN: [(usize, &str); 4] = [
 #[test]
 fn nested_index_maps_are_written_at_any_depth(rt: HostRuntime) {
     for (depth, want) in WRITTEN.iter() {
-        check(&rt, want, write_nested(rt.alloc(), *depth), want);
+        check!(rt, want, write_nested(rt.alloc(), *depth), want);
     }
 }

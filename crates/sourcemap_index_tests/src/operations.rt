@@ -1,9 +1,9 @@
 // Index maps as a whole: flattened, moved down, copied, compared and written.
-use crate::checks::check;
 use crate::decoding::sections_text;
 use crate::maps::{index_of, map_of, record_text, value_text};
 use sourcemap::errors::{Error, Result};
 use sourcemap::types::{DecodedMap, RewriteOptions, SourceMap, SourceMapIndex, SourceMapSection};
+use sourcemap_test_support::check;
 use sourcemap_test_support::results::{again, box_result, error_of};
 use std::alloc::Global;
 use std::rt::Files;
@@ -119,7 +119,7 @@ static FLAT: [(&str, &str); 13] = [
 fn index_maps_are_flattened(rt: HostRuntime) {
     let alloc = rt.alloc();
     for (text, want) in FLAT.iter() {
-        check(&rt, text, flat(alloc, text), want);
+        check!(rt, text, flat(alloc, text), want);
     }
 }
 
@@ -182,12 +182,8 @@ fn flat_maps_are_rewritten(rt: HostRuntime) {
             load_local_source_contents: *load_contents,
             ..RewriteOptions::default()
         };
-        check(
-            &rt,
-            text,
-            flat_rewritten(&rt, rt.alloc(), text, &options),
-            want,
-        );
+        let got = flat_rewritten(&rt, rt.alloc(), text, &options);
+        check!(rt, text, got, want);
     }
 }
 
@@ -255,7 +251,7 @@ static MOVED: [(&str, u32, &str); 8] = [
 fn sections_move_down_all_or_none(rt: HostRuntime) {
     let alloc = rt.alloc();
     for (text, rows, want) in MOVED.iter() {
-        check(&rt, text, move_rows(alloc, text, *rows), want);
+        check!(rt, text, move_rows(alloc, text, *rows), want);
     }
 }
 
@@ -296,7 +292,7 @@ static MOVED_WHOLE: [(&str, u32, &str, &str); 4] = [
 fn only_rows_change_when_sections_move(rt: HostRuntime) {
     let alloc = rt.alloc();
     for (text, rows, after, want) in MOVED_WHOLE.iter() {
-        check(&rt, text, decode_and_move(alloc, text, *rows, after), want);
+        check!(rt, text, decode_and_move(alloc, text, *rows, after), want);
     }
 }
 
@@ -390,11 +386,11 @@ static WRITTEN: [(&str, &str); 9] = [
 fn indexes_are_written(rt: HostRuntime) {
     let alloc = rt.alloc();
     for (text, want) in WRITTEN.iter() {
-        check(&rt, text, write_text(alloc, text), want);
-        check(&rt, text, into_value_text(alloc, text), want);
-        check(&rt, text, into_record_text(alloc, text), want);
-        check(&rt, text, to_writer_text(alloc, text), want);
-        check(&rt, text, index_to_writer_text(alloc, text), want);
+        check!(rt, text, write_text(alloc, text), want);
+        check!(rt, text, into_value_text(alloc, text), want);
+        check!(rt, text, into_record_text(alloc, text), want);
+        check!(rt, text, to_writer_text(alloc, text), want);
+        check!(rt, text, index_to_writer_text(alloc, text), want);
     }
 }
 
@@ -439,7 +435,7 @@ static COMPARED: [(&str, &str, &str); 7] = [
 fn copies_are_equal(rt: HostRuntime) {
     let alloc = rt.alloc();
     for (text, other, want) in COMPARED.iter() {
-        check(&rt, text, compare_maps(alloc, text, other), want);
+        check!(rt, text, compare_maps(alloc, text, other), want);
     }
 }
 
@@ -469,6 +465,6 @@ fn parts_copied(alloc: Global, text: &str) -> Result<String> {
 #[test]
 fn copies_of_indexes_and_sections_are_equal(rt: HostRuntime) {
     for text in [TWO, LINKED, NEITHER, NESTED, HERMES].iter() {
-        check(&rt, text, parts_copied(rt.alloc(), text), "true true");
+        check!(rt, text, parts_copied(rt.alloc(), text), "true true");
     }
 }

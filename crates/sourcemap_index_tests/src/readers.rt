@@ -1,12 +1,12 @@
 // Maps of each kind are read from readers that return one byte a read. These readers are
 // interrupted before each read. Some of them fail after a number of reads.
-use crate::checks::check;
 use crate::lookups::token_text;
 use crate::maps::map_of;
 use sourcemap::SourceMapHermes;
 use sourcemap::decoder::decode;
 use sourcemap::errors::{Error, Result};
 use sourcemap::types::{DecodedMap, SourceMap, SourceMapIndex};
+use sourcemap_test_support::check;
 use sourcemap_test_support::readers::HaltingReader;
 use sourcemap_test_support::results::{again, box_result, error_of};
 use std::alloc::Global;
@@ -61,13 +61,9 @@ fn is_read_alike(alloc: Global, text: &str) -> Result<String> {
 fn maps_are_read_byte_by_byte(rt: HostRuntime) {
     let alloc = rt.alloc();
     for text in TEXTS.iter() {
-        check(&rt, text, again(|| is_read_alike(alloc, text)), "true");
-        check(
-            &rt,
-            text,
-            again(|| decode_halting(alloc, text, usize::MAX)),
-            "a.js:0:0",
-        );
+        check!(rt, text, again(|| is_read_alike(alloc, text)), "true");
+        let got = again(|| decode_halting(alloc, text, usize::MAX));
+        check!(rt, text, got, "a.js:0:0");
     }
 }
 
@@ -75,12 +71,8 @@ fn maps_are_read_byte_by_byte(rt: HostRuntime) {
 fn each_read_may_fail(rt: HostRuntime) {
     for text in TEXTS.iter() {
         for reads in 0..=text.len() {
-            check(
-                &rt,
-                text,
-                decode_halting(rt.alloc(), text, reads),
-                "timed out",
-            );
+            let got = decode_halting(rt.alloc(), text, reads);
+            check!(rt, text, got, "timed out");
         }
     }
 }
@@ -116,25 +108,12 @@ fn maps_of_one_kind_are_read(rt: HostRuntime) {
     let alloc = rt.alloc();
     let incompatible = "encountered incompatible sourcemap format";
     for (kind, text, other) in KINDS.iter() {
-        check(
-            &rt,
-            text,
-            read_error(alloc, *kind, text, usize::MAX),
-            "no error",
-        );
-        check(
-            &rt,
-            other,
-            read_error(alloc, *kind, other, usize::MAX),
-            incompatible,
-        );
+        let got = read_error(alloc, *kind, text, usize::MAX);
+        check!(rt, text, got, "no error");
+        let got = read_error(alloc, *kind, other, usize::MAX);
+        check!(rt, other, got, incompatible);
         for reads in 0..=text.len() {
-            check(
-                &rt,
-                text,
-                read_error(alloc, *kind, text, reads),
-                "timed out",
-            );
+            check!(rt, text, read_error(alloc, *kind, text, reads), "timed out");
         }
     }
 }

@@ -1,10 +1,10 @@
 // RAM bundles that are split by their index maps into the texts and the maps of their modules.
-use crate::checks::check;
 use crate::maps::{index_of, record_text};
 use sourcemap::errors::{Error, Result};
 use sourcemap::ram_bundle::{RamBundle, SplitRamBundleModuleIter, split_ram_bundle};
 use sourcemap::sourceview::SourceView;
 use sourcemap::types::{SourceMap, SourceMapIndex};
+use sourcemap_test_support::check;
 use sourcemap_test_support::results::error_of;
 use std::alloc::Global;
 
@@ -248,7 +248,7 @@ fn read_and_split(alloc: Global, bytes: &[u8], text: &str) -> Result<String> {
 fn bundles_are_split(rt: HostRuntime) {
     for row in &ROWS {
         let items = read_and_split(rt.alloc(), row.bundle, row.index);
-        check(&rt, row.about, items, row.items);
+        check!(rt, row.about, items, row.items);
     }
 }
 
@@ -301,10 +301,8 @@ fn split_where_memory_fails(alloc: Global) -> Result<String> {
 // are as in `ITEMS`. The next call of `split_ram_bundle` then returns all items.
 #[test]
 fn an_error_of_an_item_costs_no_other(rt: HostRuntime) {
-    check(
-        &rt,
-        "items",
-        split_where_memory_fails(rt.alloc()),
-        r#"3 | 0.js [xyz] {"file":"0.js","mappings":"AAAAA,EAAE","names":["n"],"sources":["a.js"],"sourcesContent":["A"],"version":3} | 1.js [uv] {"file":"1.js","mappings":"AAAE","names":[],"sources":["a.js"],"sourcesContent":["A"],"version":3} | 2.js [w] {"file":"2.js","mappings":"AACEA","names":["n"],"sources":["a.js"],"sourcesContent":["A"],"version":3}"#,
-    );
+    let got = split_where_memory_fails(rt.alloc());
+    let want =
+        r#"3 | 0.js [xyz] {"file":"0.js","mappings":"AAAAA,EAAE","names":["n"],"sources":["a.js"],"sourcesContent":["A"],"version":3} | 1.js [uv] {"file":"1.js","mappings":"AAAE","names":[],"sources":["a.js"],"sourcesContent":["A"],"version":3} | 2.js [w] {"file":"2.js","mappings":"AACEA","names":["n"],"sources":["a.js"],"sourcesContent":["A"],"version":3}"#;
+    check!(rt, "items", got, want);
 }

@@ -1,11 +1,11 @@
 // Maps of each kind are written to writers that take one byte a write. Some writers fail after a
 // number of bytes. Other writers are interrupted before each byte. Some of the interrupted writers
 // take only a limited number of bytes in total. Maps are also written to buffers passed by value.
-use crate::checks::check;
 use crate::maps::map_of;
 use sourcemap::encoder::encode;
 use sourcemap::errors::{Error, Result};
 use sourcemap::types::DecodedMap;
+use sourcemap_test_support::check;
 use sourcemap_test_support::writers::{HaltingWriter, NarrowWriter};
 use std::alloc::Global;
 use std::io::{BufWriter, Write};
@@ -124,7 +124,7 @@ static WHOLE: [Way; 4] = [
 fn all_bytes_are_written(rt: HostRuntime) {
     for text in WRITTEN.iter() {
         for way in WHOLE.iter() {
-            check(&rt, text, write_by(rt.alloc(), text, *way), text);
+            check!(rt, text, write_by(rt.alloc(), text, *way), text);
         }
     }
 }
@@ -142,8 +142,11 @@ fn cut_text(alloc: Global, text: &str, most: usize, error: &str) -> Result<Strin
 
 fn check_cut(rt: &impl Abort, alloc: Global, text: &str, way: Way, want: Result<String>) {
     match want {
-        Ok(want) => check(rt, text, write_by(alloc, text, way), want.as_str()),
-        Err(error) => check(rt, text, Err(error), ""),
+        Ok(want) => check!(rt, text, write_by(alloc, text, way), want.as_str()),
+        Err(error) => {
+            let got: Result<String> = Err(error);
+            check!(rt, text, got, "");
+        }
     }
 }
 

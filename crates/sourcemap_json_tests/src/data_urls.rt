@@ -1,8 +1,8 @@
 // Data URLs. Three forms are decoded: without a charset, with `charset=utf-8` and with
 // `charset=utf8`. Each other form returns an error. One text is encoded as a data URL.
-use crate::checks::check;
 use sourcemap_errors::errors::Result;
 use sourcemap_json::data_url::{data_url, data_url_bytes};
+use sourcemap_test_support::check;
 use sourcemap_test_support::results::error_text;
 use std::alloc::Global;
 use std::str;
@@ -64,8 +64,8 @@ fn read(alloc: Global, url: &str) -> Result<String> {
 #[test]
 fn reads_and_writes(rt: HostRuntime) {
     for (about, url, want) in READ.iter() {
-        check(&rt, about, read(rt.alloc(), url), want);
+        check!(rt, about, read(rt.alloc(), url), want);
     }
     let (about, url, text) = READ[1];
-    check(&rt, about, data_url(rt.alloc(), text.as_bytes()), url);
+    check!(rt, about, data_url(rt.alloc(), text.as_bytes()), url);
 }

@@ -1,8 +1,8 @@
 // Detection of source maps in slices and in readers. Each reader returns at most one byte per read.
 // Some readers are interrupted or fail.
-use crate::checks::check;
 use sourcemap_errors::errors::{Error, Result};
 use sourcemap_json::detector::{is_sourcemap, is_sourcemap_slice};
+use sourcemap_test_support::check;
 use sourcemap_test_support::readers::{HaltingReader, NarrowReader};
 use std::alloc::Global;
 use std::io::ErrorKind;
@@ -83,20 +83,12 @@ fn detect(alloc: Global, bytes: &[u8]) -> Result<String> {
 #[test]
 fn maps_and_other_texts(rt: HostRuntime) {
     for (about, text) in MAPS.iter() {
-        check(
-            &rt,
-            about,
-            detect(rt.alloc(), text.as_bytes()),
-            "true, true, true",
-        );
+        let got = detect(rt.alloc(), text.as_bytes());
+        check!(rt, about, got, "true, true, true");
     }
     for (about, text) in OTHERS.iter() {
-        check(
-            &rt,
-            about,
-            detect(rt.alloc(), text.as_bytes()),
-            "false, false, false",
-        );
+        let got = detect(rt.alloc(), text.as_bytes());
+        check!(rt, about, got, "false, false, false");
     }
 }
 
@@ -115,12 +107,8 @@ fn detect_failing(alloc: Global, bytes: &[u8], count: usize) -> Result<String> {
 fn a_failed_read_is_no_map(rt: HostRuntime) {
     let bytes = r#"{"sections":[]}"#.as_bytes();
     for count in 0..=bytes.len() {
-        check(
-            &rt,
-            "a reader that fails",
-            detect_failing(rt.alloc(), bytes, count),
-            "false",
-        );
+        let got = detect_failing(rt.alloc(), bytes, count);
+        check!(rt, "a reader that fails", got, "false");
     }
 }
 

@@ -1,7 +1,7 @@
 // Junk headers, with bytes that come one by one and reads that fail.
-use crate::checks::check;
 use sourcemap_errors::errors::{Error, Result};
 use sourcemap_json::decoder::{StripHeaderReader, strip_junk_header};
+use sourcemap_test_support::check;
 use sourcemap_test_support::readers::NarrowReader;
 use sourcemap_test_support::results::error_text;
 use std::alloc::Global;
@@ -47,7 +47,7 @@ fn read(alloc: Global, text: &[u8]) -> Result<String> {
 #[test]
 fn drops_the_header(rt: HostRuntime) {
     for (about, text, want) in READ.iter() {
-        check(&rt, about, read(rt.alloc(), text), want);
+        check!(rt, about, read(rt.alloc(), text), want);
     }
 }
 
@@ -76,7 +76,7 @@ fn strip(alloc: Global, text: &[u8]) -> Result<String> {
 #[test]
 fn strips_the_header(rt: HostRuntime) {
     for (about, text, want) in STRIPPED.iter() {
-        check(&rt, about, strip(rt.alloc(), text), want);
+        check!(rt, about, strip(rt.alloc(), text), want);
     }
 }
 
@@ -162,12 +162,8 @@ fn read_by_sizes(
 #[test]
 fn errors_come_at_their_reads(rt: HostRuntime) {
     for (about, text, left, sizes, want) in INVALID.iter() {
-        check(
-            &rt,
-            about,
-            read_by_sizes(rt.alloc(), text, *left, *sizes),
-            want,
-        );
+        let got = read_by_sizes(rt.alloc(), text, *left, *sizes);
+        check!(rt, about, got, want);
     }
 }
 
@@ -234,11 +230,7 @@ fn read_through_errors(alloc: Global, left: usize, kind: ErrorKind) -> Result<St
 #[test]
 fn errors_of_the_inner_reader_are_passed_on(rt: HostRuntime) {
     for (about, left, kind, want) in PASSED_ON.iter() {
-        check(
-            &rt,
-            about,
-            read_through_errors(rt.alloc(), *left, *kind),
-            want,
-        );
+        let got = read_through_errors(rt.alloc(), *left, *kind);
+        check!(rt, about, got, want);
     }
 }

@@ -1,8 +1,8 @@
 // Records read from JSON texts and written as JSON texts.
-use crate::checks::check;
 use serde_json::Value;
 use sourcemap_errors::errors::{Error, JsonFault, Result};
 use sourcemap_json::jsontypes::{DebugId, FacebookScopeMapping, MinimalRawSourceMap, RawSourceMap};
+use sourcemap_test_support::check;
 use std::alloc::Global;
 
 fn read(alloc: Global, text: &str) -> Result<RawSourceMap> {
@@ -99,13 +99,9 @@ fn written_texts(rt: HostRuntime) -> Result<()> {
     let alloc = rt.alloc();
     for (about, text, want) in WRITTEN.iter() {
         for text in [*text, *want] {
-            check(
-                &rt,
-                about,
-                value_text(alloc, by_reference(alloc, text)),
-                want,
-            );
-            check(&rt, about, value_text(alloc, by_moving(alloc, text)), want);
+            let got = value_text(alloc, by_reference(alloc, text));
+            check!(rt, about, got, want);
+            check!(rt, about, value_text(alloc, by_moving(alloc, text)), want);
             assert!(rt; are_equal(alloc, text, want)?, "{about}");
         }
     }
@@ -150,17 +146,13 @@ fn id_in(alloc: Global, text: &str) -> Result<String> {
 #[test]
 fn debug_ids(rt: HostRuntime) {
     for (about, text, want) in IDS.iter() {
-        check(&rt, about, id_text(rt.alloc(), DebugId::parse(text)), want);
+        check!(rt, about, id_text(rt.alloc(), DebugId::parse(text)), want);
     }
     // `debugId` wins
     let text =
         r#"{"debug_id":"11111111-1111-1111-1111-111111111111","debugId":"00000000000000000000000000000000"}"#;
-    check(
-        &rt,
-        text,
-        id_in(rt.alloc(), text),
-        "00000000-0000-0000-0000-000000000000",
-    );
+    let got = id_in(rt.alloc(), text);
+    check!(rt, text, got, "00000000-0000-0000-0000-000000000000");
 }
 
 const NAMES: &str = r#"{"names":[1.5,true,7,"a"],"mappings":null,"version":3}"#;
@@ -190,8 +182,8 @@ fn keys_in(alloc: Global, text: &str) -> Result<String> {
 
 #[test]
 fn names_and_keys(rt: HostRuntime) {
-    check(&rt, NAMES, names_in(rt.alloc(), NAMES), r#"4 true 7 "a""#);
-    check(&rt, NAMES, keys_in(rt.alloc(), NAMES), "Some(3) true false");
+    check!(rt, NAMES, names_in(rt.alloc(), NAMES), r#"4 true 7 "a""#);
+    check!(rt, NAMES, keys_in(rt.alloc(), NAMES), "Some(3) true false");
 }
 
 fn new_scopes_equal_their_copy(alloc: Global) -> Result<bool> {

@@ -3,12 +3,12 @@ ghost use Rattle.std.specs.Prelude.{◌≡◌};
 ghost use Rattle.std.specs.Bool.{Decides};
 ghost use Rattle.sourcemap_json.specs.References.{reference};
 
-use crate::checks::check;
 use sourcemap_errors::errors::{Error, Result};
 use sourcemap_json::detector::{
     SourceMapRef, is_sourcemap, locate_sourcemap_reference, locate_sourcemap_reference_slice,
 };
 use sourcemap_source_views::sourceview::SourceView;
+use sourcemap_test_support::check;
 use sourcemap_test_support::readers::{HaltingReader, NarrowReader};
 use sourcemap_test_support::results::error_text;
 use std::alloc::Global;
@@ -112,7 +112,7 @@ fn locates_in_slices(rt: HostRuntime) {
     let alloc = rt.alloc();
     for (about, bytes, want) in LOCATED.iter() {
         let found = locate_sourcemap_reference_slice(alloc, bytes);
-        check(&rt, about, reference_text(alloc, found), want);
+        check!(rt, about, reference_text(alloc, found), want);
     }
 }
 
@@ -128,7 +128,7 @@ fn read(alloc: Global, bytes: &[u8], reads: usize) -> Result<String> {
 #[test]
 fn locates_in_readers(rt: HostRuntime) {
     for (about, bytes, want) in LOCATED.iter() {
-        check(&rt, about, read(rt.alloc(), bytes, usize::MAX), want);
+        check!(rt, about, read(rt.alloc(), bytes, usize::MAX), want);
     }
 }
 
@@ -136,19 +136,11 @@ fn locates_in_readers(rt: HostRuntime) {
 fn a_failed_read_is_no_reference(rt: HostRuntime) {
     let bytes = b"a\n//# sourceMappingURL=a.map";
     for reads in 0..29 {
-        check(
-            &rt,
-            "a read that fails",
-            read(rt.alloc(), bytes, reads),
-            "timed out",
-        );
+        let got = read(rt.alloc(), bytes, reads);
+        check!(rt, "a read that fails", got, "timed out");
     }
-    check(
-        &rt,
-        "no read that fails",
-        read(rt.alloc(), bytes, 29),
-        "#a.map",
-    );
+    let got = read(rt.alloc(), bytes, 29);
+    check!(rt, "no read that fails", got, "#a.map");
 }
 
 // The reference in a reader that is interrupted before each byte. After `reads` reads that were
@@ -162,7 +154,7 @@ fn read_halting(alloc: Global, bytes: &[u8], reads: usize, kind: ErrorKind) -> R
 fn interrupted_reads_are_made_again(rt: HostRuntime) {
     for (about, bytes, want) in LOCATED.iter() {
         let found = read_halting(rt.alloc(), bytes, usize::MAX, ErrorKind::TimedOut);
-        check(&rt, about, found, want);
+        check!(rt, about, found, want);
     }
 }
 
@@ -193,7 +185,7 @@ fn read_view(alloc: Global, bytes: &[u8]) -> Result<String> {
 #[test]
 fn views_have_the_same_reference(rt: HostRuntime) {
     for (about, bytes, want) in LOCATED[..13].iter() {
-        check(&rt, about, read_view(rt.alloc(), bytes), want);
+        check!(rt, about, read_view(rt.alloc(), bytes), want);
     }
 }
 
@@ -279,12 +271,8 @@ fn slice_and_reader(alloc: Global, head: &[u8], piece: &[u8], tail: &[u8]) -> Re
 #[test]
 fn locates_in_long_texts(rt: HostRuntime) {
     for (about, head, piece, tail, want) in LONG.iter() {
-        check(
-            &rt,
-            about,
-            slice_and_reader(rt.alloc(), head, piece, tail),
-            want,
-        );
+        let got = slice_and_reader(rt.alloc(), head, piece, tail);
+        check!(rt, about, got, want);
     }
 }
 
@@ -319,7 +307,7 @@ fn resolve(alloc: Global, url: &str, base: &str) -> Result<String> {
 #[test]
 fn leads_to_urls(rt: HostRuntime) {
     for (url, base, want) in RESOLVED.iter() {
-        check(&rt, url, resolve(rt.alloc(), url, base), want);
+        check!(rt, url, resolve(rt.alloc(), url, base), want);
     }
 }
 
@@ -342,7 +330,7 @@ fn resolve_path_of(alloc: Global, url: &str, base: &str) -> Result<String> {
 #[test]
 fn leads_to_paths(rt: HostRuntime) {
     for (url, base, want) in PATHS.iter() {
-        check(&rt, url, resolve_path_of(rt.alloc(), url, base), want);
+        check!(rt, url, resolve_path_of(rt.alloc(), url, base), want);
     }
 }
 
@@ -364,18 +352,10 @@ fn compare(alloc: Global, a: &str, b: &str) -> Result<String> {
 
 #[test]
 fn equal_by_mark_and_text(rt: HostRuntime) {
-    check(
-        &rt,
-        "one text",
-        compare(rt.alloc(), "a", "a"),
-        "a true false",
-    );
-    check(
-        &rt,
-        "two texts",
-        compare(rt.alloc(), "a", "b"),
-        "a false false",
-    );
+    let got = compare(rt.alloc(), "a", "a");
+    check!(rt, "one text", got, "a true false");
+    let got = compare(rt.alloc(), "a", "b");
+    check!(rt, "two texts", got, "a false false");
 }
 
 // A reader that fails at its first read.
@@ -410,7 +390,7 @@ fn detect_failing(alloc: Global, kind: ErrorKind) -> Result<String> {
 #[test]
 fn reads_that_fail_for_memory_are_out_of_memory(rt: HostRuntime) {
     for (kind, want, is_map) in FAILED.iter() {
-        check(&rt, want, locate_failing(rt.alloc(), *kind), want);
-        check(&rt, is_map, detect_failing(rt.alloc(), *kind), is_map);
+        check!(rt, want, locate_failing(rt.alloc(), *kind), want);
+        check!(rt, is_map, detect_failing(rt.alloc(), *kind), is_map);
     }
 }

@@ -1,9 +1,9 @@
 // Adjusting of mappings.
-use crate::checks::check;
 use crate::lookups::{lookup_text, token_text};
 use crate::samples::{Made, NONE, Row, make_map, map_text};
 use sourcemap::errors::{Error, Result};
 use sourcemap::types::{RawToken, SourceMap, Token};
+use sourcemap_test_support::check;
 use sourcemap_test_support::results::box_result;
 use std::alloc::Global;
 
@@ -139,7 +139,7 @@ fn adjusted_maps_are_looked_up(rt: HostRuntime) {
     let alloc = rt.alloc();
     for (originals, adjustments, (line, col), want) in ADJUSTED.iter() {
         let map = adjust_rows(alloc, originals, adjustments);
-        check(&rt, want, lookup_text(alloc, map, *line, *col), want);
+        check!(rt, want, lookup_text(alloc, map, *line, *col), want);
     }
 }
 
@@ -350,7 +350,7 @@ fn adjusted_maps_have_these_tokens_and_no_others(rt: HostRuntime) {
     let alloc = rt.alloc();
     for (about, originals, adjustments, want) in LISTS.iter() {
         let map = adjust_rows(alloc, originals, adjustments);
-        check(&rt, about, tokens_of(alloc, map), want);
+        check!(rt, about, tokens_of(alloc, map), want);
     }
 }
 
@@ -437,9 +437,9 @@ fn moved_positions_keep_their_meaning(rt: HostRuntime) {
         let [originals, adjustments] = *tokens;
         let [position, old_position] = *positions;
         let old_meaning = meaning(alloc, original(alloc, originals), old_position);
-        check(&rt, about, old_meaning, want);
+        check!(rt, about, old_meaning, want);
         let map = adjust_rows(alloc, originals, adjustments);
-        check(&rt, about, meaning(alloc, map, position), want);
+        check!(rt, about, meaning(alloc, map, position), want);
     }
 }
 
@@ -474,7 +474,7 @@ fn adjusted_maps_are_written(rt: HostRuntime) {
     let alloc = rt.alloc();
     for (originals, adjustments, want) in WRITTEN.iter() {
         let map = adjust_rows(alloc, originals, adjustments);
-        check(&rt, want, map_text(alloc, map), want);
+        check!(rt, want, map_text(alloc, map), want);
     }
 }
 
@@ -502,10 +502,5 @@ fn refusal_text(alloc: Global) -> Result<String> {
 
 #[test]
 fn an_error_leaves_the_map_unchanged(rt: HostRuntime) {
-    check(
-        &rt,
-        "past the last column",
-        refusal_text(rt.alloc()),
-        "true",
-    );
+    check!(rt, "past the last column", refusal_text(rt.alloc()), "true");
 }

@@ -1,10 +1,10 @@
 // Building of maps, step by step.
-use crate::checks::check;
 use sourcemap::builder::SourceMapBuilder;
 use sourcemap::encoder::Encodable;
 use sourcemap::errors::{Error, Result};
 use sourcemap::jsontypes::DebugId;
 use sourcemap::types::{RawToken, SourceMap};
+use sourcemap_test_support::check;
 use std::alloc::Global;
 
 // A call of a builder method. If the name of a variant does not suggest the method, a comment names
@@ -362,19 +362,11 @@ fn describe(alloc: Global, builder: Result<SourceMapBuilder>) -> Result<String> 
 fn builders_return_and_are_written(rt: HostRuntime) {
     let alloc = rt.alloc();
     for row in ROWS.iter() {
-        check(&rt, row.about, answers(alloc, row.steps), row.answers);
-        check(
-            &rt,
-            row.about,
-            describe(alloc, builder_after(alloc, row.steps)),
-            row.getters,
-        );
-        check(
-            &rt,
-            row.about,
-            write_built(alloc, builder_after(alloc, row.steps)),
-            row.written,
-        );
+        check!(rt, row.about, answers(alloc, row.steps), row.answers);
+        let got = describe(alloc, builder_after(alloc, row.steps));
+        check!(rt, row.about, got, row.getters);
+        let got = write_built(alloc, builder_after(alloc, row.steps));
+        check!(rt, row.about, got, row.written);
     }
 }
 
@@ -387,12 +379,8 @@ fn builder_text(alloc: Global, builder: Result<SourceMapBuilder>) -> Result<Stri
 #[test]
 fn sources_are_resolved_against_the_root(rt: HostRuntime) {
     let want = r#"(Some("r/x.js"), Some("r/x.js"), Some("r/y.js")) 2"#;
-    check(
-        &rt,
-        want,
-        builder_text(rt.alloc(), builder_after(rt.alloc(), ROWS[0].steps)),
-        want,
-    );
+    let got = builder_text(rt.alloc(), builder_after(rt.alloc(), ROWS[0].steps));
+    check!(rt, want, got, want);
 }
 
 // Label, prefixes, a source, and the source after `strip_prefixes` was called with the prefixes.
@@ -437,6 +425,6 @@ fn strip_source(alloc: Global, prefixes: &[&str], source: &str) -> Result<String
 #[test]
 fn prefixes_are_cut(rt: HostRuntime) {
     for (about, prefixes, source, want) in PREFIXES.iter() {
-        check(&rt, about, strip_source(rt.alloc(), prefixes, source), want);
+        check!(rt, about, strip_source(rt.alloc(), prefixes, source), want);
     }
 }

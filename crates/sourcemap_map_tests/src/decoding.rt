@@ -1,10 +1,10 @@
 // Decoding of maps from bytes and data URLs, and the errors of decoding. Also copies and debug ids
 // of decoded maps, and the writing of data URLs.
-use crate::checks::check;
 use crate::getters::id_text;
 use crate::lookups::token_text;
 use sourcemap::errors::Result;
 use sourcemap::{DecodedMap, Error, SourceMap, decode, decode_data_url, decode_slice};
+use sourcemap_test_support::check;
 use sourcemap_test_support::results::{again, error_of};
 use std::alloc::Global;
 
@@ -69,18 +69,10 @@ fn are_read_alike(alloc: Global, text: &str) -> Result<bool> {
 fn regular_maps_are_read_alone(rt: HostRuntime) -> Result<()> {
     for (about, text, want) in REGULAR.iter() {
         let bytes = text.as_bytes();
-        check(
-            &rt,
-            about,
-            count(rt.alloc(), SourceMap::from_slice(rt.alloc(), bytes)),
-            want,
-        );
-        check(
-            &rt,
-            about,
-            count(rt.alloc(), SourceMap::from_reader(rt.alloc(), bytes)),
-            want,
-        );
+        let got = count(rt.alloc(), SourceMap::from_slice(rt.alloc(), bytes));
+        check!(rt, about, got, want);
+        let got = count(rt.alloc(), SourceMap::from_reader(rt.alloc(), bytes));
+        check!(rt, about, got, want);
     }
     assert!(rt; are_read_alike(rt.alloc(), README)?);
     Ok(())
@@ -116,9 +108,9 @@ fn maps_of_any_kind_are_read(rt: HostRuntime) {
     for (about, text, want) in ANY_KIND.iter() {
         let bytes = text.as_bytes();
         let sliced = again(|| lookup_text(rt.alloc(), decode_slice(rt.alloc(), bytes)));
-        check(&rt, about, sliced, want);
+        check!(rt, about, sliced, want);
         let read = again(|| lookup_text(rt.alloc(), decode(rt.alloc(), bytes)));
-        check(&rt, about, read, want);
+        check!(rt, about, read, want);
     }
 }
 
@@ -136,7 +128,7 @@ fn beginning_read(alloc: Global, text: &str, end: usize) -> Result<String> {
 fn proper_beginnings_of_a_text_are_no_json(rt: HostRuntime) {
     let want = "bad json: the text is not JSON";
     for end in 0..README.len() {
-        check(&rt, want, beginning_read(rt.alloc(), README, end), want);
+        check!(rt, want, beginning_read(rt.alloc(), README, end), want);
     }
 }
 
@@ -184,7 +176,7 @@ fn debug_id(alloc: Global, text: &str) -> Result<String> {
 #[test]
 fn of_two_debug_ids_the_newer_key_wins(rt: HostRuntime) {
     for (about, text, want) in DEBUG_IDS.iter() {
-        check(&rt, about, debug_id(rt.alloc(), text), want);
+        check!(rt, about, debug_id(rt.alloc(), text), want);
     }
 }
 
@@ -226,8 +218,8 @@ fn url_of(alloc: Global, text: &str) -> Result<String> {
 fn data_urls_are_read_and_written(rt: HostRuntime) {
     for (about, url, want) in URLS.iter() {
         let read = again(|| write_decoded(rt.alloc(), decode_data_url(rt.alloc(), url)));
-        check(&rt, about, read, want);
+        check!(rt, about, read, want);
     }
     let (about, url, text) = URLS[1];
-    check(&rt, about, url_of(rt.alloc(), text), url);
+    check!(rt, about, url_of(rt.alloc(), text), url);
 }

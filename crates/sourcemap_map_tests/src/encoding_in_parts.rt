@@ -1,11 +1,11 @@
 // Encoding in parts writes the same text as encoding at once. One test encodes a token on a far
 // line. `NarrowWriter` and `HaltingWriter` take at most one byte in each write. Some tests also
 // limit the bytes in total. `HaltingWriter` returns `Interrupted` from every second write.
-use crate::checks::check;
 use crate::samples::{Made, NONE, make_map, mixed_map, range_map, readme};
 use crate::writing::{BARE, WRITTEN, cut_writing, outcome_text, regular};
 use sourcemap::encoder::{encode_in_parts, encode_to_vec};
 use sourcemap::{Result, SourceMap};
+use sourcemap_test_support::check;
 use sourcemap_test_support::writers::{HaltingWriter, NarrowWriter};
 use std::alloc::Global;
 use std::io::Write;
@@ -75,7 +75,7 @@ fn far_lines_take_little_memory(rt: HostRuntime) {
     // worked out by hand: `mappings` and `rangeMappings` have 300,000,000 line ends each
     let want =
         r#"{"file":"f","mappings":"A","names":[],"rangeMappings":"B","sources":[],"version":3} 600000000 true"#;
-    check(&rt, "a far line", far_text(rt.alloc()), want);
+    check!(rt, "a far line", far_text(rt.alloc()), want);
 }
 
 // Writes the map with `encode_in_parts`, and returns the `outcome_text`. The writer takes one byte
@@ -97,8 +97,8 @@ fn decoded_text(alloc: Global, text: &str, left: Option<usize>) -> Result<String
 fn parts_are_the_text(rt: HostRuntime) {
     let alloc = rt.alloc();
     for (about, text, want) in WRITTEN.iter() {
-        check(&rt, about, decoded_text(alloc, text, None), want);
-        check(&rt, about, decoded_text(alloc, want, None), want);
+        check!(rt, about, decoded_text(alloc, text, None), want);
+        check!(rt, about, decoded_text(alloc, want, None), want);
     }
 }
 
@@ -108,7 +108,7 @@ fn check_same(rt: &impl Abort, alloc: Global, about: &str, map: Made) {
         Ok(map) => same_text(alloc, &*map),
         Err(error) => Err(error),
     };
-    check(rt, about, outcome, "true");
+    check!(rt, about, outcome, "true");
 }
 
 fn same_text(alloc: Global, map: &SourceMap) -> Result<String> {
@@ -155,7 +155,7 @@ fn parts_end_where_a_write_fails(rt: HostRuntime) {
     for taken in 0..want.len() {
         let due = cut_writing(alloc, want, taken).expect(&rt, "memory");
         let out = decoded_text(alloc, text, Some(taken));
-        check(&rt, about, out, due.as_str());
+        check!(rt, about, out, due.as_str());
     }
 }
 
@@ -173,7 +173,7 @@ fn halted_text(alloc: Global, text: &str, left: Option<usize>) -> Result<String>
 #[test]
 fn parts_are_written_past_interruptions(rt: HostRuntime) {
     let (about, text, want) = BARE;
-    check(&rt, about, halted_text(rt.alloc(), text, None), want);
+    check!(rt, about, halted_text(rt.alloc(), text, None), want);
     let due = "{\"m failed to write whole buffer";
-    check(&rt, about, halted_text(rt.alloc(), text, Some(3)), due);
+    check!(rt, about, halted_text(rt.alloc(), text, Some(3)), due);
 }

@@ -1,8 +1,8 @@
 // The texts that errors print. Some errors hold numbers, such as a byte offset or a length. Their
 // texts must have these numbers.
-use crate::checks::check;
 use sourcemap::Error;
 use sourcemap::errors::{Base64Fault, RangeFault, Result};
+use sourcemap_test_support::check;
 use std::alloc::Global;
 use std::io::ErrorKind;
 use std::{io, str};
@@ -33,10 +33,10 @@ fn utf8_text(alloc: Global, bytes: &[u8]) -> Result<String> {
 fn errors_of_the_library_print_its_texts(rt: HostRuntime) {
     for (kind, want) in KINDS.iter() {
         let error = Error::from(io::Error::from(*kind));
-        check(&rt, want, describe(rt.alloc(), error), want);
+        check!(rt, want, describe(rt.alloc(), error), want);
     }
     for (bytes, want) in NOT_UTF8.iter() {
-        check(&rt, want, utf8_text(rt.alloc(), bytes), want);
+        check!(rt, want, utf8_text(rt.alloc(), bytes), want);
     }
 }
 
@@ -47,13 +47,9 @@ fn errors_of_positions_print_their_numbers(rt: HostRuntime) {
         size: 3,
         len: 14,
     });
-    check(
-        &rt,
-        "range",
-        describe(rt.alloc(), range),
-        "parse error: 12+3 past 14",
-    );
+    let got = describe(rt.alloc(), range);
+    check!(rt, "range", got, "parse error: 12+3 past 14");
     let digit = Error::from(Base64Fault { at: 7 });
     let want = "invalid range mapping index: bad base64 at 7";
-    check(&rt, "digit", describe(rt.alloc(), digit), want);
+    check!(rt, "digit", describe(rt.alloc(), digit), want);
 }

@@ -1,8 +1,8 @@
 // Getters of maps and of tokens.
-use crate::checks::check;
 use sourcemap::errors::Result;
 use sourcemap::jsontypes::DebugId;
 use sourcemap::types::{SourceMap, Token};
+use sourcemap_test_support::check;
 use sourcemap_test_support::results::box_result;
 use std::alloc::Global;
 
@@ -118,6 +118,6 @@ static ANSWERS: [(Getter, &str); 7] = [
 #[test]
 fn getters_return_parts(rt: HostRuntime) {
     for (getter, want) in ANSWERS.iter() {
-        check(&rt, want, answer(rt.alloc(), *getter), want);
+        check!(rt, want, answer(rt.alloc(), *getter), want);
     }
 }

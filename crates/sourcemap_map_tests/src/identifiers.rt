@@ -1,7 +1,7 @@
 //! Which texts are identifiers, and which identifier the first word of a text starts with.
-use crate::checks::check;
 use sourcemap::Result;
 use sourcemap::js_identifiers::{get_javascript_token, is_valid_javascript_identifier};
+use sourcemap_test_support::check;
 use sourcemap_test_support::results::optional_text;
 use std::alloc::Global;
 
@@ -56,6 +56,6 @@ fn describe(alloc: Global, text: &str) -> Result<String> {
 #[test]
 fn identifiers_are_recognized(rt: HostRuntime) {
     for (text, want) in TEXTS.iter() {
-        check(&rt, text, describe(rt.alloc(), text), want);
+        check!(rt, text, describe(rt.alloc(), text), want);
     }
 }

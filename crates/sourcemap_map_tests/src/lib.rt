@@ -12,8 +12,6 @@ mod builder;
 #[cfg(test)]
 mod changes;
 #[cfg(test)]
-mod checks;
-#[cfg(test)]
 mod decoding;
 #[cfg(test)]
 mod encoding_in_parts;

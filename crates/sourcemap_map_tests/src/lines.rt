@@ -1,7 +1,7 @@
 //! Tables of lines, and positions by UTF-16 columns.
-use crate::checks::check;
 use sourcemap::Result;
 use sourcemap_core::lines::{LineTable, utf16_offset};
+use sourcemap_test_support::check;
 use std::alloc::Global;
 use std::process::Abort;
 
@@ -39,7 +39,7 @@ fn push_range(answer: &mut String, range: Option<(usize, usize)>) -> Result<()> 
 #[test]
 fn tables_hold_where_lines_begin_and_end(rt: HostRuntime) {
     for (text, want) in TEXTS.iter() {
-        check(&rt, text, describe(rt.alloc(), text), want);
+        check!(rt, text, describe(rt.alloc(), text), want);
     }
 }
 
@@ -122,7 +122,7 @@ fn all_ranges(alloc: Global, text: &str) -> Result<String> {
 
 fn check_ends(rt: &impl Abort, alloc: Global, text: &str) -> Result<()> {
     let want = lines_by_character(alloc, text)?;
-    check(rt, text, all_ranges(alloc, text), want.as_str());
+    check!(rt, text, all_ranges(alloc, text), want.as_str());
     Ok(())
 }
 
@@ -161,6 +161,6 @@ fn offset_text(alloc: Global, line: &str, col: u64) -> Result<String> {
 #[test]
 fn utf16_columns_lead_to_byte_offsets(rt: HostRuntime) {
     for (line, col, want) in COLUMNS.iter() {
-        check(&rt, line, offset_text(rt.alloc(), line, *col), want);
+        check!(rt, line, offset_text(rt.alloc(), line, *col), want);
     }
 }

@@ -1,10 +1,10 @@
 // Lookups in maps made from tokens, and the JSON text of these maps. Each lookup is repeated after
 // the map was converted to a record and decoded again.
-use crate::checks::check;
 use crate::samples::{Made, bare, map_text, range_map, readme, record_of};
 use sourcemap::decoder::decode_regular;
 use sourcemap::errors::Result;
 use sourcemap::types::Token;
+use sourcemap_test_support::check;
 use sourcemap_test_support::results::box_result;
 use std::alloc::Global;
 
@@ -52,14 +52,10 @@ fn read_back(alloc: Global, map: Made) -> Made {
 fn tokens_out_of_order_are_looked_up(rt: HostRuntime) {
     let alloc = rt.alloc();
     for (line, col, want) in README.iter() {
-        check(
-            &rt,
-            want,
-            lookup_text(alloc, readme(alloc), *line, *col),
-            want,
-        );
+        let got = lookup_text(alloc, readme(alloc), *line, *col);
+        check!(rt, want, got, want);
         let back = read_back(alloc, readme(alloc));
-        check(&rt, want, lookup_text(alloc, back, *line, *col), want);
+        check!(rt, want, lookup_text(alloc, back, *line, *col), want);
     }
 }
 
@@ -67,14 +63,10 @@ fn tokens_out_of_order_are_looked_up(rt: HostRuntime) {
 fn ranges_reach_along_their_line(rt: HostRuntime) {
     let alloc = rt.alloc();
     for (line, col, want) in RANGED.iter() {
-        check(
-            &rt,
-            want,
-            lookup_text(alloc, range_map(alloc), *line, *col),
-            want,
-        );
+        let got = lookup_text(alloc, range_map(alloc), *line, *col);
+        check!(rt, want, got, want);
         let back = read_back(alloc, range_map(alloc));
-        check(&rt, want, lookup_text(alloc, back, *line, *col), want);
+        check!(rt, want, lookup_text(alloc, back, *line, *col), want);
     }
 }
 
@@ -83,17 +75,13 @@ fn tokens_are_written_in_order(rt: HostRuntime) {
     let alloc = rt.alloc();
     let want =
         r#"{"file":"f","mappings":"AAAA,GAAIA,GAAI,EACR,IAAIA,GAAK,EAAG,CACVC,MAAM","names":["x","alert"],"sources":["coolstuff.js"],"version":3}"#;
-    check(&rt, "readme", map_text(alloc, readme(alloc)), want);
+    check!(rt, "readme", map_text(alloc, readme(alloc)), want);
     let want =
         r#"{"file":"f","mappings":"AAAA,KAAK","names":[],"rangeMappings":"C","sources":["coolstuff.js"],"version":3}"#;
-    check(&rt, "ranged", map_text(alloc, range_map(alloc)), want);
+    check!(rt, "ranged", map_text(alloc, range_map(alloc)), want);
     let want =
         r#"{"file":"f","mappings":"A;A","names":[],"rangeMappings":";B","sources":[],"version":3}"#;
-    check(&rt, "bare", map_text(alloc, bare(alloc)), want);
-    check(
-        &rt,
-        "bare",
-        map_text(alloc, read_back(alloc, bare(alloc))),
-        want,
-    );
+    check!(rt, "bare", map_text(alloc, bare(alloc)), want);
+    let got = map_text(alloc, read_back(alloc, bare(alloc)));
+    check!(rt, "bare", got, want);
 }

@@ -1,7 +1,7 @@
 // Tests of the original names of functions, of the views of contents, and of `rev_token_iter`.
-use crate::checks::check;
 use sourcemap::decoder::decode_slice;
 use sourcemap::{DecodedMap, Result, SourceMap, SourceView, Token};
+use sourcemap_test_support::check;
 use std::alloc::Global;
 
 // The generated text of `MAP`. The function `foo` of the source is called `b` here.
@@ -77,12 +77,8 @@ fn describe(
 #[test]
 fn names_of_functions_are_guessed_by_maps(rt: HostRuntime) {
     for (map, position, minified, want) in NAMES.iter() {
-        check(
-            &rt,
-            minified,
-            name_in(rt.alloc(), map, *position, minified),
-            want,
-        );
+        let got = name_in(rt.alloc(), map, *position, minified);
+        check!(rt, minified, got, want);
     }
 }
 
@@ -120,12 +116,8 @@ fn name_with(
 #[test]
 fn maps_but_hermes_maps_need_a_name_and_a_view(rt: HostRuntime) {
     for (map, position, with_name, with_view, want) in LESS.iter() {
-        check(
-            &rt,
-            map,
-            name_with(rt.alloc(), map, *position, *with_name, *with_view),
-            want,
-        );
+        let got = name_with(rt.alloc(), map, *position, *with_name, *with_view);
+        check!(rt, map, got, want);
     }
 }
 
@@ -144,14 +136,9 @@ fn name_by_kind(alloc: Global, map: &str, (line, col): (u32, u32)) -> Result<Str
 
 #[test]
 fn each_kind_of_map_names_functions(rt: HostRuntime) {
-    check(&rt, "map", name_by_kind(rt.alloc(), MAP, (0, 9)), "foo");
-    check(
-        &rt,
-        "index",
-        name_by_kind(rt.alloc(), INDEX, (2, 12)),
-        "foo",
-    );
-    check(&rt, "hermes", name_by_kind(rt.alloc(), HERMES, (0, 7)), "f");
+    check!(rt, "map", name_by_kind(rt.alloc(), MAP, (0, 9)), "foo");
+    check!(rt, "index", name_by_kind(rt.alloc(), INDEX, (2, 12)), "foo");
+    check!(rt, "hermes", name_by_kind(rt.alloc(), HERMES, (0, 7)), "f");
 }
 
 // The column of the last token on line 1, and the name found for the function `b`, or `none`. The
@@ -180,7 +167,7 @@ fn name_from_afar(alloc: Global, last: u32) -> Result<String> {
 #[test]
 fn walks_are_128_tokens_long(rt: HostRuntime) {
     for (last, want) in FAR.iter() {
-        check(&rt, want, name_from_afar(rt.alloc(), *last), want);
+        check!(rt, want, name_from_afar(rt.alloc(), *last), want);
     }
 }
 
@@ -227,8 +214,8 @@ fn line_of_token(alloc: Global, id: u32, line: u32) -> Result<String> {
 #[test]
 fn contents_are_views(rt: HostRuntime) {
     for (id, line, want) in LINES.iter() {
-        check(&rt, want, line_of_source(rt.alloc(), *id, *line), want);
-        check(&rt, want, line_of_token(rt.alloc(), *id, *line), want);
+        check!(rt, want, line_of_source(rt.alloc(), *id, *line), want);
+        check!(rt, want, line_of_token(rt.alloc(), *id, *line), want);
     }
 }
 
@@ -275,6 +262,6 @@ static WALKS: [(usize, &str); 4] = [
 #[test]
 fn walks_along_the_tokens_of_a_map_find_identifiers(rt: HostRuntime) {
     for (last, want) in WALKS.iter() {
-        check(&rt, want, walk_tokens(rt.alloc(), "abc👌def", *last), want);
+        check!(rt, want, walk_tokens(rt.alloc(), "abc👌def", *last), want);
     }
 }

@@ -1,8 +1,8 @@
 // Equality of records and sections, field by field.
-use crate::checks::check;
 use serde_json::Value;
 use sourcemap::errors::Result;
 use sourcemap::jsontypes::{RawSection, RawSourceMap};
+use sourcemap_test_support::check;
 use std::alloc::Global;
 
 // Each differs from the empty record in one field.
@@ -90,10 +90,6 @@ fn sections_compared(alloc: Global, text: &str) -> Result<String> {
 
 #[test]
 fn sections_that_differ_in_a_field_are_not_equal(rt: HostRuntime) {
-    check(
-        &rt,
-        "sections",
-        sections_compared(rt.alloc(), SECTIONS),
-        "==!!!!!",
-    );
+    let got = sections_compared(rt.alloc(), SECTIONS);
+    check!(rt, "sections", got, "==!!!!!");
 }

@@ -1,8 +1,8 @@
 // Rewriting of maps.
-use crate::checks::check;
 use crate::samples::record_written;
 use sourcemap::errors::{Error, Result};
 use sourcemap::types::{RewriteOptions, SourceMap};
+use sourcemap_test_support::check;
 use std::alloc::Global;
 use std::rt::Files;
 
@@ -56,7 +56,7 @@ fn used_sources_and_names_are_kept(rt: HostRuntime) {
     let options = RewriteOptions::default();
     for (about, text, want) in DEFAULT.iter() {
         let answer = rewrite_with(&rt, rt.alloc(), text, &options);
-        check(&rt, about, answer, want);
+        check!(rt, about, answer, want);
     }
 }
 
@@ -112,7 +112,7 @@ fn prefixes_are_cut(rt: HostRuntime) {
             ..RewriteOptions::default()
         };
         let answer = rewrite_with(&rt, rt.alloc(), text, &options);
-        check(&rt, about, answer, want);
+        check!(rt, about, answer, want);
     }
 }
 
@@ -157,7 +157,7 @@ fn names_and_contents_are_left_out(rt: HostRuntime) {
             ..RewriteOptions::default()
         };
         let answer = rewrite_with(&rt, rt.alloc(), text, &options);
-        check(&rt, about, answer, want);
+        check!(rt, about, answer, want);
     }
 }
 
@@ -178,12 +178,8 @@ fn contents_are_loaded_from_absolute_folders_alone(rt: HostRuntime) {
             base_path: *base_path,
             ..RewriteOptions::default()
         };
-        check(
-            &rt,
-            want,
-            rewrite_with(&rt, rt.alloc(), PATHS, &options),
-            want,
-        );
+        let got = rewrite_with(&rt, rt.alloc(), PATHS, &options);
+        check!(rt, want, got, want);
     }
 }
 
@@ -223,6 +219,6 @@ fn old_ids<F: Files>(
 fn sources_are_known_by_their_old_ids(rt: HostRuntime) {
     let options = RewriteOptions::default();
     for (about, text, want) in OLD_IDS.iter() {
-        check(&rt, about, old_ids(&rt, rt.alloc(), text, &options), want);
+        check!(rt, about, old_ids(&rt, rt.alloc(), text, &options), want);
     }
 }

@@ -1,8 +1,8 @@
 // The number of comparisons that a lookup makes.
-use crate::checks::check;
 use crate::samples::{Made, NONE};
 use sourcemap::errors::Result;
 use sourcemap::types::{RawToken, SourceMap};
+use sourcemap_test_support::check;
 use sourcemap_test_support::results::box_result;
 use std::alloc::Global;
 
@@ -137,69 +137,45 @@ static ON_A_LONG_LINE: [Counted; 13] = [
 #[test]
 fn no_tokens_take_two_comparisons(rt: HostRuntime) {
     for row in AMONG_NONE.iter() {
-        check(
-            &rt,
-            "none",
-            describe(rt.alloc(), equal_tokens(rt.alloc(), 0), row),
-            row.3,
-        );
+        let got = describe(rt.alloc(), equal_tokens(rt.alloc(), 0), row);
+        check!(rt, "none", got, row.3);
     }
 }
 
 #[test]
 fn a_thousand_equal_tokens_take_few_comparisons(rt: HostRuntime) {
     for row in AMONG_THOUSAND.iter() {
-        check(
-            &rt,
-            "thousand",
-            describe(rt.alloc(), equal_tokens(rt.alloc(), 1000), row),
-            row.3,
-        );
+        let got = describe(rt.alloc(), equal_tokens(rt.alloc(), 1000), row);
+        check!(rt, "thousand", got, row.3);
     }
 }
 
 #[test]
 fn a_million_equal_tokens_take_few_comparisons(rt: HostRuntime) {
     for row in AMONG_MILLION.iter() {
-        check(
-            &rt,
-            "million",
-            describe(rt.alloc(), equal_tokens(rt.alloc(), 1000000), row),
-            row.3,
-        );
+        let got = describe(rt.alloc(), equal_tokens(rt.alloc(), 1000000), row);
+        check!(rt, "million", got, row.3);
     }
 }
 
 #[test]
 fn lines_without_tokens_take_few_comparisons(rt: HostRuntime) {
     for row in ON_TWO_LINES.iter() {
-        check(
-            &rt,
-            "two lines",
-            describe(rt.alloc(), two_lines(rt.alloc()), row),
-            row.3,
-        );
+        let got = describe(rt.alloc(), two_lines(rt.alloc()), row);
+        check!(rt, "two lines", got, row.3);
     }
 }
 
 #[test]
 fn tokens_of_a_long_line_take_few_comparisons(rt: HostRuntime) {
     for row in ON_A_LONG_LINE.iter() {
-        check(
-            &rt,
-            "long line",
-            describe(rt.alloc(), long_line(rt.alloc()), row),
-            row.3,
-        );
+        let got = describe(rt.alloc(), long_line(rt.alloc()), row);
+        check!(rt, "long line", got, row.3);
     }
 }
 
 #[test]
 fn distinct_tokens_take_enough_comparisons(rt: HostRuntime) {
-    check(
-        &rt,
-        "enough",
-        counts_enough(rt.alloc(), long_line(rt.alloc())),
-        "true",
-    );
+    let got = counts_enough(rt.alloc(), long_line(rt.alloc()));
+    check!(rt, "enough", got, "true");
 }

@@ -1,8 +1,8 @@
 // Tests of tokens: `==` and `<`, `TokenIter::seek`, and printing.
-use crate::checks::check;
 use crate::samples::{Made, mixed_map};
 use sourcemap::errors::Result;
 use sourcemap::types::{SourceMap, Token, TokenIter};
+use sourcemap_test_support::check;
 use std::alloc::Global;
 
 // Whether the first two tokens are equal, whether their raw tokens are equal, and whether the
@@ -26,7 +26,7 @@ fn mixed_compared(alloc: Global) -> Result<String> {
 #[test]
 fn tokens_are_ordered_by_their_answers(rt: HostRuntime) {
     let answer = mixed_compared(rt.alloc());
-    check(&rt, "order", answer, "Some((true, false, true))");
+    check!(rt, "order", answer, "Some((true, false, true))");
 }
 
 // Label, and a position for `seek`. Then what `seek` returns, and the generated position and the
@@ -63,12 +63,8 @@ fn seek_in_map(alloc: Global, map: Made, line: u32, col: u32) -> Result<String> 
 #[test]
 fn seeking_goes_on_after_the_closest_token(rt: HostRuntime) {
     for (about, line, col, want) in SOUGHT.iter() {
-        check(
-            &rt,
-            about,
-            seek_in_map(rt.alloc(), mixed_map(rt.alloc()), *line, *col),
-            want,
-        );
+        let got = seek_in_map(rt.alloc(), mixed_map(rt.alloc()), *line, *col);
+        check!(rt, about, got, want);
     }
 }
 
@@ -103,11 +99,7 @@ fn lookup_line(alloc: Global, map: Made, line: u32, col: u32) -> Result<String> 
 #[test]
 fn tokens_are_printed(rt: HostRuntime) {
     for (line, col, want) in PRINTED.iter() {
-        check(
-            &rt,
-            want,
-            lookup_line(rt.alloc(), mixed_map(rt.alloc()), *line, *col),
-            want,
-        );
+        let got = lookup_line(rt.alloc(), mixed_map(rt.alloc()), *line, *col);
+        check!(rt, want, got, want);
     }
 }

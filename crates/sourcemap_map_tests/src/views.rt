@@ -1,7 +1,7 @@
 //! Tests of source views: lines, slices of lines, copies, `Debug` text, and source map references.
-use crate::checks::check;
 use sourcemap::Result;
 use sourcemap::sourceview::SourceView;
+use sourcemap_test_support::check;
 use sourcemap_test_support::results::{again, optional_text};
 use std::alloc::Global;
 
@@ -85,7 +85,7 @@ fn slice_text(alloc: Global, text: &str, position: (u32, u32, u32)) -> Result<St
 fn lines_are_sliced_by_utf16_columns(rt: HostRuntime) {
     for (text, position, want) in SLICES.iter() {
         let slice = again(|| slice_text(rt.alloc(), text, *position));
-        check(&rt, text, slice, want);
+        check!(rt, text, slice, want);
     }
 }
 
@@ -120,7 +120,7 @@ fn push_line(answer: &mut String, line: &str) -> Result<()> {
 #[test]
 fn lines_in_turn(rt: HostRuntime) {
     for (text, want) in LINES.iter() {
-        check(&rt, text, again(|| lines_text(rt.alloc(), text)), want);
+        check!(rt, text, again(|| lines_text(rt.alloc(), text)), want);
     }
 }
 
@@ -159,7 +159,7 @@ fn line_at(alloc: Global, text: &str, line: u32) -> Result<String> {
 fn lines_out_of_turn(rt: HostRuntime) {
     for (text, line, want) in LINES_BY_INDEX.iter() {
         let found = again(|| line_at(rt.alloc(), text, *line));
-        check(&rt, want, found, want);
+        check!(rt, want, found, want);
     }
 }
 
@@ -187,7 +187,7 @@ fn copy_view(alloc: Global, text: &str, other: &str) -> Result<String> {
 #[test]
 fn copies_are_equal_and_print_their_text(rt: HostRuntime) {
     let want = "true false a\nb SourceView { source: \"a\\nb\" }";
-    check(&rt, "copy", copy_view(rt.alloc(), "a\nb", "a\r\nb"), want);
+    check!(rt, "copy", copy_view(rt.alloc(), "a\nb", "a\r\nb"), want);
 }
 
 // A text, and the first reference to a source map in the text, or `None`.
@@ -213,6 +213,6 @@ fn reference_of(alloc: Global, text: &str) -> Result<String> {
 #[test]
 fn references_are_found(rt: HostRuntime) {
     for (text, want) in REFERENCES.iter() {
-        check(&rt, text, reference_of(rt.alloc(), text), want);
+        check!(rt, text, reference_of(rt.alloc(), text), want);
     }
 }

@@ -1,7 +1,7 @@
 //! Tests of walks back along tokens: `rev_token_iter` and `get_original_function_name`.
-use crate::checks::check;
 use sourcemap::Result;
 use sourcemap::sourceview::{SourceView, WalkedToken};
+use sourcemap_test_support::check;
 use sourcemap_test_support::results::{optional_text, push_optional};
 use std::alloc::Global;
 
@@ -162,7 +162,7 @@ fn along(alloc: Global, view: &SourceView, chain_tokens: &[ChainToken]) -> Resul
 #[test]
 fn walks_find_the_identifier_at_each_position(rt: HostRuntime) {
     for (text, positions, want) in WALKS.iter() {
-        check(&rt, text, walk_text(rt.alloc(), text, positions), want);
+        check!(rt, text, walk_text(rt.alloc(), text, positions), want);
     }
 }
 
@@ -262,7 +262,7 @@ fn guess_name(
 #[test]
 fn walks_guess_the_name_after_the_word_function(rt: HostRuntime) {
     for (about, name, walk, want) in NAMES.iter() {
-        check(&rt, about, name_by_walk(rt.alloc(), name, *walk), want);
+        check!(rt, about, name_by_walk(rt.alloc(), name, *walk), want);
     }
 }
 
@@ -300,6 +300,6 @@ fn compare_walks(alloc: Global, text: &str, name: &str) -> Result<String> {
 #[test]
 fn names_are_compared_whole(rt: HostRuntime) {
     for (text, name, want) in COMPARED.iter() {
-        check(&rt, text, compare_walks(rt.alloc(), text, name), want);
+        check!(rt, text, compare_walks(rt.alloc(), text, name), want);
     }
 }

@@ -1,12 +1,12 @@
 // Tests of the encoding of maps: as records, as JSON values, and as bytes. The writers take one
 // byte in each write, and some fail after a number of bytes.
-use crate::checks::check;
 use crate::records::record;
 use crate::samples::{Made, map_text, record_of, record_written, value_written};
 use serde_json::Value;
 use sourcemap::decoder::decode_regular;
 use sourcemap::encoder::{Encodable, encode, encode_to};
 use sourcemap::{DecodedMap, Error, Result, SourceMap, decode_slice};
+use sourcemap_test_support::check;
 use sourcemap_test_support::results::{again, box_result};
 use sourcemap_test_support::writers::NarrowWriter;
 use std::alloc::Global;
@@ -117,10 +117,10 @@ fn moved_written(alloc: Global, map: Result<DecodedMap>) -> Result<String> {
 }
 
 fn check_each_way(rt: &impl Abort, alloc: Global, about: &str, text: &str, want: &str) {
-    check(rt, about, by_record(alloc, text), want);
-    check(rt, about, by_moved_record(alloc, text), want);
-    check(rt, about, by_value(alloc, text), want);
-    check(rt, about, by_moved_value(alloc, text), want);
+    check!(rt, about, by_record(alloc, text), want);
+    check!(rt, about, by_moved_record(alloc, text), want);
+    check!(rt, about, by_value(alloc, text), want);
+    check!(rt, about, by_moved_value(alloc, text), want);
 }
 
 #[test]
@@ -232,7 +232,7 @@ fn check_each_call(
     left: Option<usize>,
 ) {
     for call in CALLS.iter() {
-        check(rt, about, held_text(alloc, text, *call, left), want);
+        check!(rt, about, held_text(alloc, text, *call, left), want);
     }
 }
 
@@ -278,8 +278,8 @@ fn any_encoded(alloc: Global, text: &str, capacity: usize) -> Result<String> {
 fn nothing_is_written_without_memory(rt: HostRuntime) {
     let alloc = rt.alloc();
     for (about, text, want) in WRITTEN.iter() {
-        check(&rt, about, regular_encoded(alloc, text, want.len()), want);
-        check(&rt, about, any_encoded(alloc, text, want.len()), want);
+        check!(rt, about, regular_encoded(alloc, text, want.len()), want);
+        check!(rt, about, any_encoded(alloc, text, want.len()), want);
     }
 }
 
