@@ -1,10 +1,11 @@
 //! Composition of two lists of tokens.
-use crate::mappings::{BARE, Row, token, tokens_text};
+use crate::mappings::{BARE, tokens_text};
 use sourcemap_compose::composition::compose;
 use sourcemap_core::errors::Result;
 use sourcemap_core::tokens::{NO_ID, RawToken};
 use sourcemap_test_support::check;
 use sourcemap_test_support::results::{again, error_text};
+use sourcemap_test_support::tokens::{Row, token};
 use std::alloc::Global;
 
 // The generated and the original position of a token.

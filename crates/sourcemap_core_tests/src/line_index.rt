@@ -6,26 +6,19 @@ use sourcemap_core::tokens::{NO_ID, RawToken};
 use sourcemap_line_index::token_list::TokenList;
 use sourcemap_test_support::check;
 use sourcemap_test_support::results::again;
+use sourcemap_test_support::tokens::token;
 use std::alloc::Global;
 
 // A token at this generated position, identified by its original column.
-fn token(position: (u32, u32), src_col: u32) -> RawToken {
-    RawToken {
-        dst_line: position.0,
-        dst_col: position.1,
-        src_line: 0,
-        src_col,
-        src_id: 0,
-        name_id: NO_ID,
-        is_range: false,
-    }
+fn token_at(position: (u32, u32), src_col: u32) -> RawToken {
+    token((position, (0, 0, src_col), NO_ID, false))
 }
 
 // `count` tokens at line 0, column 0, identified by their index.
 fn equal_tokens(alloc: Global, count: u32) -> Result<TokenList> {
     let mut tokens = Vec::new(alloc);
     for src_col in 0..count {
-        tokens.push(token((0, 0), src_col))?;
+        tokens.push(token_at((0, 0), src_col))?;
     }
     Ok(TokenList::from_unsorted(tokens)?)
 }
@@ -82,7 +75,7 @@ static POSITIONS: [(u32, u32); 5] = [(0, 3), (2, 5), (2, 5), (2, 9), (4, 0)];
 fn tokens_on_lines(alloc: Global) -> Result<TokenList> {
     let mut tokens = Vec::new(alloc);
     for (at, position) in POSITIONS.iter().enumerate() {
-        tokens.push(token(*position, at as u32))?;
+        tokens.push(token_at(*position, at as u32))?;
     }
     Ok(TokenList::from_unsorted(tokens)?)
 }
@@ -121,7 +114,7 @@ fn tokens_on_many_lines(alloc: Global, a_line: u32) -> Result<TokenList> {
         let number = at.checked_rem(a_line).unwrap_or(0);
         let row = at.checked_div(a_line).unwrap_or(0);
         let col = 10 * (number - u32::from(number > 1));
-        tokens.push(token((row * 2, col), at))?;
+        tokens.push(token_at((row * 2, col), at))?;
     }
     Ok(TokenList::from_unsorted(tokens)?)
 }

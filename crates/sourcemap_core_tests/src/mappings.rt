@@ -6,6 +6,7 @@ use sourcemap_core::mappings::{
 use sourcemap_core::tokens::{NO_ID, RawToken};
 use sourcemap_test_support::check;
 use sourcemap_test_support::results::error_text;
+use sourcemap_test_support::tokens::{Row, tokens};
 use std::alloc::Global;
 
 // The `mappings` text, the `rangeMappings` text, then the count of sources and the count of names.
@@ -160,10 +161,6 @@ fn reads_mappings(rt: HostRuntime) {
     }
 }
 
-/// Generated line and column, then source with original line and column, then name, then range
-/// flag.
-pub type Row = ((u32, u32), (u32, u32, u32), u32, bool);
-
 /// No source and no original position.
 pub const BARE: (u32, u32, u32) = (NO_ID, NO_ID, NO_ID);
 
@@ -221,27 +218,6 @@ static WRITTEN: [(&str, &[Row], &str, Option<&str>); 8] = [
         None,
     ),
 ];
-
-pub fn token(row: Row) -> RawToken {
-    let ((dst_line, dst_col), (src_id, src_line, src_col), name_id, is_range) = row;
-    RawToken {
-        dst_line,
-        dst_col,
-        src_line,
-        src_col,
-        src_id,
-        name_id,
-        is_range,
-    }
-}
-
-fn tokens(alloc: Global, rows: &[Row]) -> Result<Vec<RawToken>> {
-    let mut tokens = Vec::new(alloc);
-    for row in rows {
-        tokens.push(token(*row))?;
-    }
-    Ok(tokens)
-}
 
 fn write_rows(alloc: Global, rows: &[Row]) -> Result<String> {
     let tokens = tokens(alloc, rows)?;

@@ -1,10 +1,11 @@
 // Adjusting of mappings.
 use crate::lookups::{lookup_text, token_text};
-use crate::samples::{Made, NONE, Row, make_map, map_text};
+use crate::samples::{Made, NONE, make_map, map_text};
 use sourcemap::errors::{Error, Result};
 use sourcemap::types::{RawToken, SourceMap, Token};
 use sourcemap_test_support::check;
 use sourcemap_test_support::results::box_result;
+use sourcemap_test_support::tokens::Row;
 use std::alloc::Global;
 
 // One token starts before position 8:30, the other after it. `MOVED` moves 8:30 to 17:23.

@@ -5,8 +5,9 @@ use serde_json::Value;
 use sourcemap::encoder::Encodable;
 use sourcemap::errors::{Error, Result};
 use sourcemap::jsontypes::RawSourceMap;
-use sourcemap::types::{RawToken, SourceMap};
+use sourcemap::types::SourceMap;
 use sourcemap_test_support::results::box_result;
+use sourcemap_test_support::tokens::{Row, tokens};
 use std::alloc::Global;
 
 /// A map in a box, as `box_result` makes it, or an error.
@@ -14,9 +15,6 @@ pub type Made = Result<Box<SourceMap>>;
 
 /// No id. Also the original line and column of a token without an original position.
 pub const NONE: u32 = u32::MAX;
-
-/// Generated line and column, then source id with original line and column, name id, range flag.
-pub type Row = ((u32, u32), (u32, u32, u32), u32, bool);
 
 // The tokens of the map in the documentation of the Rust crate `sourcemap`. The token with the last
 // generated position is first in this list. The other tokens follow in order.
@@ -100,27 +98,6 @@ fn copies(alloc: Global, all: &[&str]) -> Result<Vec<String>> {
         copies.push(String::from_str(alloc, text)?)?;
     }
     Ok(copies)
-}
-
-fn tokens(alloc: Global, rows: &[Row]) -> Result<Vec<RawToken>> {
-    let mut tokens = Vec::new(alloc);
-    for row in rows {
-        tokens.push(token(*row))?;
-    }
-    Ok(tokens)
-}
-
-fn token(row: Row) -> RawToken {
-    let ((dst_line, dst_col), (src_id, src_line, src_col), name_id, is_range) = row;
-    RawToken {
-        dst_line,
-        dst_col,
-        src_line,
-        src_col,
-        src_id,
-        name_id,
-        is_range,
-    }
 }
 
 /// The record of a map.

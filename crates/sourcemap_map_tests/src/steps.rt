@@ -4,6 +4,7 @@ use sourcemap::errors::Result;
 use sourcemap::types::{RawToken, SourceMap};
 use sourcemap_test_support::check;
 use sourcemap_test_support::results::box_result;
+use sourcemap_test_support::tokens::token;
 use std::alloc::Global;
 
 // A position. Then the least and the greatest number of comparisons allowed for a lookup of the
@@ -11,23 +12,15 @@ use std::alloc::Global;
 type Counted = ((u32, u32), u32, u32, &'static str);
 
 // A token at this position, identified by its original column.
-fn token(position: (u32, u32), src_col: u32) -> RawToken {
-    RawToken {
-        dst_line: position.0,
-        dst_col: position.1,
-        src_line: 0,
-        src_col,
-        src_id: NONE,
-        name_id: NONE,
-        is_range: false,
-    }
+fn token_at(position: (u32, u32), src_col: u32) -> RawToken {
+    token((position, (NONE, 0, src_col), NONE, false))
 }
 
 // A map of `count` tokens at line 0, column 0. The original column of each token is its index.
 fn equal_tokens(alloc: Global, count: u32) -> Made {
     let mut tokens = Vec::new(alloc);
     for src_col in 0..count {
-        tokens.push(token((0, 0), src_col))?;
+        tokens.push(token_at((0, 0), src_col))?;
     }
     map_of(alloc, tokens)
 }
@@ -39,7 +32,7 @@ static POSITIONS: [(u32, u32); 2] = [(0, 3), (2, 5)];
 fn two_lines(alloc: Global) -> Made {
     let mut tokens = Vec::new(alloc);
     for (at, position) in POSITIONS.iter().enumerate() {
-        tokens.push(token(*position, at as u32))?;
+        tokens.push(token_at(*position, at as u32))?;
     }
     map_of(alloc, tokens)
 }
@@ -49,10 +42,10 @@ fn two_lines(alloc: Global) -> Made {
 fn long_line(alloc: Global) -> Made {
     let mut tokens = Vec::new(alloc);
     for number in 0..5 {
-        tokens.push(token((0, number), number))?;
+        tokens.push(token_at((0, number), number))?;
     }
     for number in 0..3000 {
-        tokens.push(token((2, 3 * number), 5 + number))?;
+        tokens.push(token_at((2, 3 * number), 5 + number))?;
     }
     map_of(alloc, tokens)
 }
