@@ -147,8 +147,9 @@ impl<'a> Files for Disk<'a> {
     }
 }
 
-// The text of an error, or the kind of an error of the file system.
-fn error_text(alloc: Global, error: Error) -> Result<String> {
+// The kind of an error of the file system, or the text of any other error. `OutOfMemory` also
+// becomes a text, because some rows expect it.
+fn error_or_kind(alloc: Global, error: Error) -> Result<String> {
     match error {
         Error::Io(cause) => Ok(format!(in alloc; "{:?}", cause.kind())?),
         other => Ok(format!(in alloc; "{other}")?),
@@ -158,21 +159,21 @@ fn error_text(alloc: Global, error: Error) -> Result<String> {
 fn read_text(alloc: Global, disk: &Disk<'_>) -> Result<String> {
     match RamBundle::parse_unbundle_from_path(disk, alloc, "m.js") {
         Ok(bundle) => bundle_text(alloc, &bundle),
-        Err(error) => error_text(alloc, error),
+        Err(error) => error_or_kind(alloc, error),
     }
 }
 
 fn is_bundle_text(alloc: Global, disk: &Disk<'_>) -> Result<String> {
     match is_unbundle_path(disk, alloc, "m.js") {
         Ok(is_bundle) => Ok(format!(in alloc; "{is_bundle}")?),
-        Err(error) => error_text(alloc, error),
+        Err(error) => error_or_kind(alloc, error),
     }
 }
 
 // `names`, `step` and `path` are the fields of a `Disk`. `refused` is the wanted answer for the
 // `kind` `PermissionDenied`. `no_memory` is the wanted answer for the `kind` `OutOfMemory`. An
 // answer is the result of `is_unbundle_path`, then the `bundle_text` of the bundle that
-// `parse_unbundle_from_path` returns. If a call returns an error, the `error_text` of the error
+// `parse_unbundle_from_path` returns. If a call returns an error, the `error_or_kind` of the error
 // replaces the result of that call.
 struct Row {
     about: &'static str,

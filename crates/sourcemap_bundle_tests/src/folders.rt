@@ -1,5 +1,5 @@
 // File bundles in folders that the tests make and remove.
-use crate::texts::{error_text, parsed_text};
+use crate::texts::{error_or_io, parsed_text};
 use sourcemap_bundles::ram_bundle::{RamBundle, is_unbundle_path};
 use sourcemap_errors::errors::Result;
 use sourcemap_test_support::check;
@@ -155,7 +155,7 @@ fn folderless_texts<F: Files>(rt: &F, alloc: Global) -> Result<String> {
 fn indexed_file<F: Files>(rt: &F, alloc: Global, path: &str) -> Result<String> {
     match RamBundle::parse_indexed_from_path(rt, alloc, path) {
         Ok(_) => Ok(String::from_str(alloc, "a bundle")?),
-        Err(error) => error_text(alloc, error),
+        Err(error) => error_or_io(alloc, error),
     }
 }
 
@@ -186,12 +186,8 @@ fn paths(rt: HostRuntime) {
     check!(rt, "a missing file bundle", got, "false not a ram bundle");
     let got = indexed_file(&rt, alloc, missing);
     check!(rt, "a missing file", got, "io");
+    let got = folderless_texts(&rt, alloc);
     let want = "false not a ram bundle, false not a ram bundle, false not a ram bundle";
-    check!(
-        rt,
-        "no folder of modules",
-        folderless_texts(&rt, alloc),
-        want
-    );
+    check!(rt, "no folder of modules", got, want);
     check!(rt, "a file", file_text(&rt, alloc), "Indexed 0 []");
 }

@@ -1,15 +1,15 @@
 // Bundles as texts.
 use sourcemap_bundles::ram_bundle::{RamBundle, RamBundleModule};
 use sourcemap_errors::errors::{Error, Result};
+use sourcemap_test_support::results::error_text;
 use std::alloc::Global;
 
-/// Returns the text of an error, or `io` for an error of the file system. `OutOfMemory` stays an
-/// error.
-pub fn error_text(alloc: Global, error: Error) -> Result<String> {
+/// Returns `io` for an error of the file system, or the text of any other error. `OutOfMemory`
+/// stays an error.
+pub fn error_or_io(alloc: Global, error: Error) -> Result<String> {
     match error {
-        Error::OutOfMemory => Err(Error::OutOfMemory),
         Error::Io(_) => Ok(String::from_str(alloc, "io")?),
-        other => Ok(format!(in alloc; "{other}")?),
+        other => error_text(alloc, &other),
     }
 }
 
@@ -17,7 +17,7 @@ pub fn error_text(alloc: Global, error: Error) -> Result<String> {
 pub fn bytes_text(alloc: Global, answer: Result<&[u8]>) -> Result<String> {
     match answer {
         Ok(bytes) => Ok(String::from_utf8_lossy(alloc, bytes)?),
-        Err(error) => error_text(alloc, error),
+        Err(error) => error_or_io(alloc, error),
     }
 }
 
@@ -29,13 +29,13 @@ pub fn module_text(alloc: Global, answer: Result<RamBundleModule<'_>>) -> Result
             let text = String::from_utf8_lossy(alloc, found.data())?;
             Ok(format!(in alloc; "{id}={text}")?)
         },
-        Err(error) => error_text(alloc, error),
+        Err(error) => error_or_io(alloc, error),
     }
 }
 
 /// Returns the type of the bundle, its `module_count`, the startup code in brackets, and the
 /// `module_text` of each item of `iter_modules`, separated by spaces. If the startup code cannot be
-/// read, the brackets contain the `error_text`. The only error is `OutOfMemory`.
+/// read, the brackets contain the `error_or_io`. The only error is `OutOfMemory`.
 pub fn bundle_text(alloc: Global, bundle: &RamBundle<'_>) -> Result<String> {
     let kind = bundle.bundle_type();
     let count = bundle.module_count();
@@ -48,10 +48,10 @@ pub fn bundle_text(alloc: Global, bundle: &RamBundle<'_>) -> Result<String> {
     Ok(text)
 }
 
-/// Returns the `bundle_text` of a parsed bundle, or the `error_text` of the error of parsing.
+/// Returns the `bundle_text` of a parsed bundle, or the `error_or_io` of the error of parsing.
 pub fn parsed_text(alloc: Global, parsed: Result<RamBundle<'_>>) -> Result<String> {
     match parsed {
         Ok(bundle) => bundle_text(alloc, &bundle),
-        Err(error) => error_text(alloc, error),
+        Err(error) => error_or_io(alloc, error),
     }
 }

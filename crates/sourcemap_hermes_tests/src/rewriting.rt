@@ -1,9 +1,10 @@
 // Rewriting of Hermes maps. Expected values are worked out by hand.
 use crate::maps::{BROKEN, LONG, NO_SOURCE, SECOND_SOURCE, SHORT, TWO_FUNCTIONS, name_or_none};
-use sourcemap_errors::errors::{Error, Result};
+use sourcemap_errors::errors::Result;
 use sourcemap_hermes::map::SourceMapHermes;
 use sourcemap_map_regular::rewrite::RewriteOptions;
 use sourcemap_test_support::check;
+use sourcemap_test_support::results::error_text;
 use std::alloc::Global;
 use std::rt::Files;
 
@@ -23,8 +24,7 @@ fn write_rewritten(alloc: Global, map: Result<SourceMapHermes>) -> Result<String
             let value = map.into_raw_sourcemap()?.into_value(alloc)?;
             Ok(value.to_string(alloc)?)
         }
-        Err(Error::OutOfMemory) => Err(Error::OutOfMemory),
-        Err(error) => Ok(format!(in alloc; "{error}")?),
+        Err(error) => error_text(alloc, &error),
     }
 }
 

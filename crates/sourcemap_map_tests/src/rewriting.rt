@@ -1,8 +1,9 @@
 // Rewriting of maps.
 use crate::samples::record_written;
-use sourcemap::errors::{Error, Result};
+use sourcemap::errors::Result;
 use sourcemap::types::{RewriteOptions, SourceMap};
 use sourcemap_test_support::check;
+use sourcemap_test_support::results::error_text;
 use std::alloc::Global;
 use std::rt::Files;
 
@@ -19,8 +20,7 @@ fn rewrite_with<F: Files>(
 fn write_rewritten(alloc: Global, map: Result<SourceMap>) -> Result<String> {
     match map {
         Ok(map) => record_written(alloc, map.into_raw_sourcemap()),
-        Err(Error::OutOfMemory) => Err(Error::OutOfMemory),
-        Err(error) => Ok(format!(in alloc; "{error}")?),
+        Err(error) => error_text(alloc, &error),
     }
 }
 
