@@ -40,7 +40,8 @@ fn nested_text(alloc: Global, depth: usize) -> Result<String> {
     Ok(format!(in alloc; "{head}{INNERMOST}{tail}")?)
 }
 
-fn first_token_text(alloc: Global, map: Result<Box<DecodedMap>>) -> Result<String> {
+/// The text of the token at 0:0 in a map, or the error.
+pub fn first_token_text(alloc: Global, map: Result<Box<DecodedMap>>) -> Result<String> {
     match map {
         Ok(map) => token_text(alloc, map.lookup_token(0, 0)),
         error => error_of(alloc, error),

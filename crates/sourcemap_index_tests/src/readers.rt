@@ -1,7 +1,7 @@
 // Maps of each kind are read from readers that return one byte a read. These readers are
 // interrupted before each read. Some of them fail after a number of reads.
-use crate::lookups::token_text;
 use crate::maps::map_of;
+use crate::nested::first_token_text;
 use sourcemap::SourceMapHermes;
 use sourcemap::decoder::decode;
 use sourcemap::errors::{Error, Result};
@@ -33,17 +33,9 @@ fn halting_reader(text: &str, reads: usize, kind: ErrorKind) -> HaltingReader<'_
     HaltingReader::new(text.as_bytes(), reads, kind)
 }
 
-// The text of the token at 0:0 in a map, or the error.
-fn position_text(alloc: Global, map: Result<Box<DecodedMap>>) -> Result<String> {
-    match map {
-        Ok(map) => token_text(alloc, map.lookup_token(0, 0)),
-        error => error_of(alloc, error),
-    }
-}
-
 fn decode_halting(alloc: Global, text: &str, reads: usize) -> Result<String> {
     let reader = halting_reader(text, reads, ErrorKind::TimedOut);
-    position_text(alloc, box_result(alloc, decode(alloc, reader)))
+    first_token_text(alloc, box_result(alloc, decode(alloc, reader)))
 }
 
 fn is_as_from_slice(alloc: Global, map: &DecodedMap, text: &str) -> Result<bool> {

@@ -1,5 +1,5 @@
 // Tests of the original names of functions, of the views of contents, and of `rev_token_iter`.
-use sourcemap::decoder::decode_slice;
+use crate::writing::decode_boxed;
 use sourcemap::{DecodedMap, Result, SourceMap, SourceView, Token};
 use sourcemap_test_support::check;
 use std::alloc::Global;
@@ -46,12 +46,6 @@ static NAMES: [(&str, (u32, u32), &str, &str); 17] = [
     (HERMES, (1, 0), "b", "none"),
 ];
 
-// prover: one drop
-fn map_of(alloc: Global, text: &str) -> Result<Box<DecodedMap>> {
-    let map = decode_slice(alloc, text.as_bytes())?;
-    Ok(Box::new(alloc, map)?)
-}
-
 fn regular_of(alloc: Global, text: &str) -> Result<Box<SourceMap>> {
     let map = SourceMap::from_slice(alloc, text.as_bytes())?;
     Ok(Box::new(alloc, map)?)
@@ -59,7 +53,7 @@ fn regular_of(alloc: Global, text: &str) -> Result<Box<SourceMap>> {
 
 fn name_in(alloc: Global, map: &str, position: (u32, u32), minified: &str) -> Result<String> {
     let view = SourceView::new(alloc, TEXT)?;
-    let map = map_of(alloc, map)?;
+    let map = decode_boxed(alloc, map)?;
     describe(alloc, &*map, position, Some(minified), Some(&view))
 }
 
@@ -107,7 +101,7 @@ fn name_with(
     with_view: bool,
 ) -> Result<String> {
     let view = SourceView::new(alloc, TEXT)?;
-    let map = map_of(alloc, map)?;
+    let map = decode_boxed(alloc, map)?;
     let minified = if with_name { Some("b") } else { None };
     let view = if with_view { Some(&view) } else { None };
     describe(alloc, &*map, position, minified, view)
@@ -125,7 +119,7 @@ fn maps_but_hermes_maps_need_a_name_and_a_view(rt: HostRuntime) {
 // `DecodedMap`. Returns the name, or `none` if the method returns `None`.
 fn name_by_kind(alloc: Global, map: &str, (line, col): (u32, u32)) -> Result<String> {
     let view = SourceView::new(alloc, TEXT)?;
-    let map = map_of(alloc, map)?;
+    let map = decode_boxed(alloc, map)?;
     let name = match &*map {
         DecodedMap::Regular(map) => map.get_original_function_name(line, col, "b", &view),
         DecodedMap::Index(map) => map.get_original_function_name(line, col, "b", &view),

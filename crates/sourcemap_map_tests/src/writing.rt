@@ -82,7 +82,8 @@ pub fn regular(alloc: Global, text: &str) -> Made {
     box_result(alloc, decode_regular(alloc, record))
 }
 
-fn decode_boxed(alloc: Global, text: &str) -> Result<Box<DecodedMap>> {
+/// A map of any kind that is decoded from this JSON text.
+pub fn decode_boxed(alloc: Global, text: &str) -> Result<Box<DecodedMap>> {
     box_result(alloc, decode_slice(alloc, text.as_bytes()))
 }
 
