@@ -1,5 +1,4 @@
 // Decoding, lookups and encoding of Hermes maps. Expected values are worked out by hand.
-use serde_json::Value;
 use sourcemap_errors::errors::{Error, Result};
 use sourcemap_hermes::decode::decode_hermes;
 use sourcemap_hermes::map::SourceMapHermes;
@@ -7,6 +6,7 @@ use sourcemap_map_regular::encode::Encodable;
 use sourcemap_map_regular::token::Token;
 use sourcemap_records::jsontypes::RawSourceMap;
 use sourcemap_test_support::check;
+use sourcemap_test_support::records::record;
 use sourcemap_test_support::results::box_result;
 use std::alloc::Global;
 
@@ -186,10 +186,6 @@ fn copies_and_maps_of_readers_are_equal(rt: HostRuntime) {
     for text in MAPS.iter() {
         check!(rt, text, copy_map(rt.alloc(), text), "true true");
     }
-}
-
-fn record(alloc: Global, text: &str) -> Result<RawSourceMap> {
-    RawSourceMap::from_owned(alloc, Value::from_str(alloc, text)?)
 }
 
 fn is_decoded(alloc: Global, text: &str) -> Result<bool> {

@@ -1,19 +1,18 @@
 // Tests of the scopes of sources: lookups, selection by source id, writing, copies and equality.
 // Expected values are worked out by hand.
 use crate::maps::name_or_none;
-use serde_json::Value;
 use sourcemap_errors::errors::{Error, Result};
 use sourcemap_hermes_scopes::function_map::HermesFunctionMap;
 use sourcemap_hermes_scopes::scope_lists::ScopeLists;
 use sourcemap_hermes_scopes::source_scopes::SourceScopes;
-use sourcemap_records::jsontypes::RawSourceMap;
 use sourcemap_test_support::check;
+use sourcemap_test_support::records::record;
 use std::alloc::Global;
 
 // Returns the lists of scopes that a record has under `x_facebook_sources`. If this key is missing
 // or null, the error is `IncompatibleSourceMap`.
 fn lists(alloc: Global, text: &str) -> Result<ScopeLists> {
-    let mut record = RawSourceMap::from_owned(alloc, Value::from_str(alloc, text)?)?;
+    let mut record = record(alloc, text)?;
     record
         .x_facebook_sources
         .take()
@@ -163,7 +162,7 @@ fn names_by_source(rt: HostRuntime) {
 }
 
 fn write_scopes(alloc: Global, lists: ScopeLists) -> Result<String> {
-    let mut record = RawSourceMap::from_owned(alloc, Value::from_str(alloc, "{}")?)?;
+    let mut record = record(alloc, "{}")?;
     record.x_facebook_sources = Some(lists);
     Ok(record.into_value(alloc)?.to_string(alloc)?)
 }

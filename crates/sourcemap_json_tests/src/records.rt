@@ -3,11 +3,8 @@ use serde_json::Value;
 use sourcemap_errors::errors::{Error, JsonFault, Result};
 use sourcemap_json::jsontypes::{DebugId, FacebookScopeMapping, MinimalRawSourceMap, RawSourceMap};
 use sourcemap_test_support::check;
+use sourcemap_test_support::records::record;
 use std::alloc::Global;
-
-fn read(alloc: Global, text: &str) -> Result<RawSourceMap> {
-    RawSourceMap::from_owned(alloc, Value::from_str(alloc, text)?)
-}
 
 // In each text a value has the wrong type, a number is not a `u32`, a debug id is invalid, or a
 // required key is missing.
@@ -30,7 +27,7 @@ static WRONG_SHAPE: [&str; 15] = [
 ];
 
 fn is_of_wrong_shape(alloc: Global, text: &str) -> Result<bool> {
-    match read(alloc, text) {
+    match record(alloc, text) {
         Err(Error::OutOfMemory) => Err(Error::OutOfMemory),
         answer => Ok(matches!(answer, Err(Error::BadJson(JsonFault::Shape)))),
     }
@@ -76,7 +73,7 @@ fn value_text(alloc: Global, value: Result<Value>) -> Result<String> {
 }
 
 fn by_reference(alloc: Global, text: &str) -> Result<Value> {
-    read(alloc, text)?.to_value(alloc)
+    record(alloc, text)?.to_value(alloc)
 }
 
 fn by_moving(alloc: Global, text: &str) -> Result<Value> {
@@ -84,13 +81,13 @@ fn by_moving(alloc: Global, text: &str) -> Result<Value> {
     RawSourceMap::from_value(alloc, &value)?.into_value(alloc)
 }
 
-fn is_that_of(alloc: Global, record: &RawSourceMap, text: &str) -> Result<bool> {
-    let other = read(alloc, text)?;
-    Ok(other == *record)
+fn is_that_of(alloc: Global, one: &RawSourceMap, text: &str) -> Result<bool> {
+    let other = record(alloc, text)?;
+    Ok(other == *one)
 }
 
 fn are_equal(alloc: Global, one: &str, other: &str) -> Result<bool> {
-    let record = read(alloc, one)?;
+    let record = record(alloc, one)?;
     is_that_of(alloc, &record, other)
 }
 
@@ -140,7 +137,7 @@ fn id_text(alloc: Global, id: Option<DebugId>) -> Result<String> {
 }
 
 fn id_in(alloc: Global, text: &str) -> Result<String> {
-    id_text(alloc, read(alloc, text)?.debug_id)
+    id_text(alloc, record(alloc, text)?.debug_id)
 }
 
 #[test]
@@ -170,7 +167,7 @@ fn names_text(alloc: Global, names: &[Value]) -> Result<String> {
 }
 
 fn names_in(alloc: Global, text: &str) -> Result<String> {
-    let names = read(alloc, text)?.names;
+    let names = record(alloc, text)?.names;
     names_text(alloc, names.as_ref().map_or(&[], |names| names.as_slice()))
 }
 

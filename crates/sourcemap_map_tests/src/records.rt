@@ -1,8 +1,8 @@
 // Equality of records and sections, field by field.
-use serde_json::Value;
 use sourcemap::errors::Result;
 use sourcemap::jsontypes::{RawSection, RawSourceMap};
 use sourcemap_test_support::check;
+use sourcemap_test_support::records::record;
 use std::alloc::Global;
 
 // Each differs from the empty record in one field.
@@ -22,11 +22,6 @@ static ONE_FIELD: [&str; 14] = [
     r#"{"x_facebook_sources":[]}"#,
     r#"{"debugId":"00000000-0000-0000-0000-000000000000"}"#,
 ];
-
-/// The record that is read from this JSON text.
-pub fn record(alloc: Global, text: &str) -> Result<RawSourceMap> {
-    RawSourceMap::from_owned(alloc, Value::from_str(alloc, text)?)
-}
 
 // `=` if both operators say equal, `!` if both say different, `?` if `==` and `!=` disagree.
 fn verdict(is_equal: bool, is_different: bool) -> char {

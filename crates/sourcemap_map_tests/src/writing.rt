@@ -1,12 +1,12 @@
 // Tests of the encoding of maps: as records, as JSON values, and as bytes. The writers take one
 // byte in each write, and some fail after a number of bytes.
-use crate::records::record;
 use crate::samples::{Made, map_text, record_of, record_written, value_written};
 use serde_json::Value;
 use sourcemap::decoder::decode_regular;
 use sourcemap::encoder::{Encodable, encode, encode_to};
 use sourcemap::{DecodedMap, Error, Result, SourceMap, decode_slice};
 use sourcemap_test_support::check;
+use sourcemap_test_support::records::record;
 use sourcemap_test_support::results::{again, box_result};
 use sourcemap_test_support::writers::NarrowWriter;
 use std::alloc::Global;
