@@ -43,7 +43,7 @@ fn numbered_texts(alloc: Global, start: &str, end: &str, count: usize) -> Result
 // Enters `texts` in `index`, in order. Stops at `texts[at]` if `index` already has `MOST` texts, or
 // if `index` does not assign the number `at` to `texts[at]`. Returns `at` after a stop, otherwise
 // the length of `texts`.
-fn count_numbered<'a>(index: &mut TextIndex<'a>, texts: &'a [String]) -> Result<usize> {
+fn count_numbered<'a>(index: &mut TextIndex<&'a str>, texts: &'a [String]) -> Result<usize> {
     for (at, text) in texts.iter().enumerate() {
         if index.len() >= MOST {
             return Ok(at);

@@ -26,7 +26,7 @@ pub(crate) struct Entry<'a> {
 pub(crate) struct Table<'a> {
     pub(crate) entries: Vec<Entry<'a>>,
     // finds the number of a text, which is the index of its entry
-    ids: TextIndex<'a>,
+    ids: TextIndex<&'a str>,
 }
 
 impl<'a> Table<'a> {
@@ -87,7 +87,7 @@ impl<'a> Table<'a> {
 }
 
 // Whether the text is new and no id is left for it.
-fn is_full(ids: &TextIndex<'_>, text: &str) -> bool
+fn is_full(ids: &TextIndex<&str>, text: &str) -> bool
     ensures free { result ≡ false → id_of text.now ids.now ≡ None
         → length ids.now < 4294967295 }
     ensures full { result ≡ true → are_too_many (with_text ids.now text.now) ≡ true }

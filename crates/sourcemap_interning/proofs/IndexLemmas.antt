@@ -1,5 +1,5 @@
 -- The result of a search, and the table after one more text.
-use Rattle.std.proofs.Common.{◌≡◌, ◌≢◌, refl, sym, ap, subst, ◌∙◌, ℕ, zero, suc, ◌+◌, ◌<◌, List, [], ◌∷◌, ◌++◌, length, Bool, true, false, cond, Some, None, Option, arith, inl, inr, ◌⊎◌, slice_get, slice_set, take, is_some, if◌then◌else◌}
+use Rattle.std.proofs.Common.{◌≡◌, ◌≢◌, refl, sym, ap, subst, ◌∙◌, ℕ, zero, suc, ◌+◌, ◌<◌, List, [], ◌∷◌, ◌++◌, length, true, cond, Some, None, Option, Result, Ok, Err, OnOk, is_ok, arith, inl, inr, ◌⊎◌, slice_get, slice_set, take, is_some, if◌then◌else◌}
 use Rattle.std.specs.Str.{bytes_eq}
 use Rattle.std.proofs.lemmas.Bool.{cases_Bool, cases_eq}
 use Rattle.std.proofs.lemmas.List.{length_push, length-set}
@@ -7,8 +7,7 @@ use Rattle.std.proofs.lemmas.Option.{slice_get_within}
 use Rattle.std.proofs.lemmas.Slice.Eq.{bytes_eq-Decides}
 use Rattle.sourcemap_interning.specs.Interner.{AreDistinct, id_of, with_text}
 use Rattle.sourcemap_interning.proofs.InternerLemmas.{AreDistinct-append, slice_get-append, slice_get-id_of}
-use Rattle.sourcemap_interning.specs.Slots.{IsTaken, IsFree, IsRight, AreRight, ArePassed, AreTaken, IsReached, IsIndex, IsProbed, hash_of, start_of}
-use Rattle.sourcemap_interning.specs.declared.slots.Probe.{Probe}
+use Rattle.sourcemap_interning.specs.Slots.{IsTaken, IsFree, IsRight, AreRight, AreTaken, IsReached, IsIndex, hash_of, start_of}
 use Rattle.sourcemap_interning.specs.declared.slots.Slot.{Slot}
 use Rattle.sourcemap_interning.proofs.ItemLemmas.{slice_get-set_same, slice_get-set_other, slice_get-pushed, slice_get-last}
 
@@ -24,6 +23,12 @@ one_slot slots slot_index a b e f = cc
 
 taken_or_free : (slots : List Slot) (slot_index : ℕ) → IsTaken slots slot_index → IsFree slots slot_index → ⊥
 taken_or_free slots slot_index taken free = taken.2 (ap (λ (s : Slot). s.number) (one_slot slots slot_index taken.0 free.0 taken.1 free.1) ∙ free.2)
+
+-- all slots from `start` to before `start + count` are taken, none of them by `text`
+abbrev pub ArePassed : List (List ℕ) → List Slot → ℕ → List ℕ → ℕ → Type 0
+ArePassed texts slots start text count =
+    (k : ℕ) → k < count → (slot : Slot) × (slice_get slots (start + k) ≡ Some slot) × (slot.number ≢ 4294967295)
+    × (slice_get texts slot.number ≢ Some text)
 
 module _ (texts : List (List ℕ)) (mask : ℕ) (slots : List Slot) (others : List ℕ → Option ℕ) (is : IsIndex texts mask slots others) (text : List ℕ) where
   -- the text that is looked for is in none of the slots that its search has passed
@@ -71,14 +76,14 @@ module _ (texts : List (List ℕ)) (mask : ℕ) (slots : List Slot) (others : Li
       ])
 
   -- one more text
-  module _ (below_max : length texts < 4294967295) where
+  module _ (below_max : length texts < 4294967295) (new : id_of text texts ≡ None) where
     abbrev new_slot : Slot
     new_slot = record { hash = hash_of text; number = length texts }
 
     right_more : (slot : Slot) → IsRight texts slot → IsRight (texts ++ text ∷ []) slot
     right_more slot right = (right.0, slice_get-pushed texts text right.0 slot.number right.1, right.2)
 
-    module _ (k : ℕ) (few : k < 32) (free : IsFree slots (start_of mask (hash_of text) + k)) (passed : ArePassed texts slots (start_of mask (hash_of text)) text k) where
+    module _ (k : ℕ) (few : k < 32) (free : IsFree slots (start_of mask (hash_of text) + k)) (taken_before : (j : ℕ) → j < k → IsTaken slots (start_of mask (hash_of text) + j)) where
       abbrev slot_index : ℕ
       slot_index = start_of mask (hash_of text) + k
 
@@ -109,7 +114,7 @@ module _ (texts : List (List ℕ)) (mask : ℕ) (slots : List Slot) (others : Li
       pub index-free : IsIndex (texts ++ text ∷ []) mask after others
       index-free = record {
         few = let more = length_push texts text in omega (arith, more, below_max);
-        distinct = AreDistinct-append texts text is.distinct (none-free k few free passed);
+        distinct = AreDistinct-append texts text is.distinct new;
         long = length-set slots slot_index new_slot ∙ is.long;
         right = right';
         found = found';
@@ -134,30 +139,38 @@ module _ (texts : List (List ℕ)) (mask : ℕ) (slots : List Slot) (others : Li
               | inl reached ↦ inl (reached_still (start_of mask (hash_of t)) n (number_below n t old) reached)
               | inr other ↦ inr (λ j below. taken_still (start_of mask (hash_of t) + j) (other.0 j below), other.1)
             ]
-            | inr new ↦
+            | inr last ↦
                 let here : IsReached after (start_of mask (hash_of text)) n = record {
                   steps = k;
                   few = few;
                   slot = new_slot;
                   at = slice_get-set_same slots slot_index new_slot (slice_get_within slots slot_index free.0 free.1);
-                  is = sym new.0;
-                  before = λ j below. let slot = passed j below in taken_still (start_of mask (hash_of text) + j) (slot.0, slot.1, slot.2);
+                  is = sym last.0;
+                  before = λ j below. taken_still (start_of mask (hash_of text) + j) (taken_before j below);
                 } in
-                inl (subst (λ u. IsReached after (start_of mask (hash_of u)) n) new.1 here)
+                inl (subst (λ u. IsReached after (start_of mask (hash_of u)) n) last.1 here)
           ]
 
     -- if no slot is free, the index stays valid when the new `text` goes to the overflow tree
-    pub index-full : (others' : List ℕ → Option ℕ) → ArePassed texts slots (start_of mask (hash_of text)) text 32 → others text ≡ None
+    pub index-full : (others' : List ℕ → Option ℕ) → AreTaken slots (start_of mask (hash_of text))
         → ((t : List ℕ) → others' t ≡ cond (bytes_eq text t) (Some (length texts)) (others t)) → IsIndex (texts ++ text ∷ []) mask slots others'
-    index-full others' passed new now = record {
+    index-full others' all now = record {
       few = let more = length_push texts text in omega (arith, more, below_max);
-      distinct = AreDistinct-append texts text is.distinct (others-full passed ∙ new);
+      distinct = AreDistinct-append texts text is.distinct new;
       long = is.long;
       right = λ p slot at taken. right_more slot (is.right p slot at taken);
       found = found';
       others_right = others_right';
     }
       where
+        -- the tree has no number for the new text yet
+        none_there : others text ≡ None
+        none_there = by_case (others text) refl
+          where
+            by_case : (o : Option ℕ) → others text ≡ o → others text ≡ None
+            by_case None e = e
+            by_case (Some n) e = let found : id_of text texts ≡ Some n = is.distinct text n (is.others_right n text e) in cc
+
         here : others' text ≡ Some (length texts)
         here = let same : bytes_eq text text ≡ true = (bytes_eq-Decides text text).1 refl in rw (now text, same) refl
 
@@ -169,14 +182,13 @@ module _ (texts : List (List ℕ)) (mask : ℕ) (slots : List Slot) (others : Li
             | inr other ↦ elim (cases_Bool (bytes_eq text t)) [
               | inl same ↦
                   let alike : text ≡ t = (bytes_eq-Decides text t).0 same in
-                  let never : others t ≡ None = subst (λ u. others u ≡ None) alike new in
+                  let never : others t ≡ None = subst (λ u. others u ≡ None) alike none_there in
                   let found = other.1 in
                   cc
               | inr apart ↦ inr (other.0, now t ∙ ap (λ b. cond b (Some (length texts)) (others t)) apart ∙ other.1)
             ]
           ]
           | inr last ↦
-              let all : AreTaken slots (start_of mask (hash_of text)) = λ j below. let slot = passed j below in (slot.0, slot.1, slot.2) in
               inr (subst (λ u. AreTaken slots (start_of mask (hash_of u))) last.1 all, subst (λ u. others' u ≡ Some n) last.1 (here ∙ ap Some (sym last.0)))
         ]
 
@@ -189,13 +201,6 @@ module _ (texts : List (List ℕ)) (mask : ℕ) (slots : List Slot) (others : Li
               subst (λ m. slice_get (texts ++ text ∷ []) m ≡ Some t) is_last (slice_get-last texts text ∙ ap Some alike)
           | inr apart ↦ slice_get-pushed texts text t n (is.others_right n t (sym (ap (λ b. cond b (Some (length texts)) (others t)) apart) ∙ sym (now t) ∙ e))
         ]
-
-pub probed-here : (texts texts' : List (List ℕ)) (slots slots' : List Slot) (mask hash hash' : ℕ) (text : List ℕ) (result : Probe) → texts ≡ texts' → slots ≡ slots' → hash ≡ hash'
-    → IsProbed texts slots (start_of mask hash) text result → IsProbed texts' slots' (start_of mask hash') text result
-probed-here texts texts' slots slots' mask hash hash' text result t s h probed =
-    subst (λ us. IsProbed us slots' (start_of mask hash') text result) t
-    (subst (λ us. IsProbed texts us (start_of mask hash') text result) s
-    (subst (λ n. IsProbed texts slots (start_of mask n) text result) h probed))
 
 pub with-new : (texts : List (List ℕ)) (text : List ℕ) → id_of text texts ≡ None → with_text texts text ≡ texts ++ text ∷ []
 with-new texts text e = ap (λ o. cond (is_some o) texts (texts ++ text ∷ [])) e
@@ -220,13 +225,11 @@ new-among texts i text distinct at = none_has (take i texts) text never
         let same : n ≡ i = cc in
         absurd (omega (arith, same, before.0))
 
--- let there be fewer than 4294967295 texts, and no free slot for the new `text`. An attempt to add `text` to the
--- overflow tree succeeds (`put` is `true`) or fails. The index stays valid in both cases
+-- let there be fewer than 4294967295 texts, and no free slot for the new `text`. If `text` could be added to the overflow
+-- tree, the index is valid with `text`
 pub index-put : (texts : List (List ℕ)) (mask : ℕ) (slots : List Slot) (others : List ℕ → Option ℕ) (is : IsIndex texts mask slots others) (text : List ℕ) → length texts < 4294967295
-    → ArePassed texts slots (start_of mask (hash_of text)) text 32 → others text ≡ None
-    → (put : Bool) (texts' : List (List ℕ)) (others' : List ℕ → Option ℕ) → texts' ≡ (if put then texts ++ text ∷ [] else texts)
-    → ((t : List ℕ) → others' t ≡ (if put then cond (bytes_eq text t) (Some (length texts)) (others t) else others t)) → IsIndex texts' mask slots others'
-index-put texts mask slots others is text below_max passed new true texts' others' t o =
-    subst (λ us. IsIndex us mask slots others') (sym t) (index-full texts mask slots others is text below_max others' passed new o)
-index-put texts mask slots others is text below_max passed new false texts' others' t o =
-    subst (λ us. IsIndex us mask slots others') (sym t) (subst (IsIndex texts mask slots) (λ i u. sym (o u) i) is)
+    → id_of text texts ≡ None → AreTaken slots (start_of mask (hash_of text)) → (others' : List ℕ → Option ℕ) → {A E : Type 0} (result : Result A E)
+    → ((t : List ℕ) → others' t ≡ (if is_ok result then cond (bytes_eq text t) (Some (length texts)) (others t) else others t))
+    → OnOk result (IsIndex (texts ++ text ∷ []) mask slots others')
+index-put texts mask slots others is text below_max new all others' (Ok x) now = index-full texts mask slots others is text below_max new others' all now
+index-put texts mask slots others is text below_max new all others' (Err e) now = tt

@@ -1,5 +1,5 @@
 -- Items of a list after one is set or appended.
-use Rattle.std.proofs.Common.{◌≡◌, ◌≢◌, refl, ap, ℕ, zero, suc, ◌<◌, List, [], ◌∷◌, ◌++◌, length, Some, arith, slice_get, slice_set}
+use Rattle.std.proofs.Common.{◌≡◌, ◌≢◌, refl, ap, ℕ, zero, suc, ◌+◌, ◌<◌, ◌⊎◌, inl, inr, List, [], ◌∷◌, ◌++◌, length, Some, arith, slice_get, slice_set}
 
 module _ {X : Type 0} where
   pub slice_get-set_same : (xs : List X) (i : ℕ) (y : X) → i < length xs → slice_get (slice_set xs i y) i ≡ Some y
@@ -22,3 +22,9 @@ module _ {X : Type 0} where
   pub slice_get-last : (xs : List X) (y : X) → slice_get (xs ++ y ∷ []) (length xs) ≡ Some y
   slice_get-last [] y = refl
   slice_get-last (x ∷ xs) y = slice_get-last xs y
+
+pub below_or_last : (k n : ℕ) → k < n + 1 → (k < n) ⊎ (k ≡ n)
+below_or_last zero zero h = inr refl
+below_or_last zero (suc n) h = inl (omega arith)
+below_or_last (suc k) zero h = absurd (omega (arith, h))
+below_or_last (suc k) (suc n) h = elim (below_or_last k n (omega (arith, h))) [ inl l ↦ inl (omega (arith, l)) | inr e ↦ inr (ap suc e) ]

@@ -1,4 +1,3 @@
 pub mod ItemLemmas
-pub mod DigestIndexLemmas
 mod IndexLemmas
 pub mod InternerLemmas

@@ -5,6 +5,11 @@ use Rattle.std.specs.Str.{bytes_eq}
 use Rattle.sourcemap_errors.specs.declared.errors.Error.{Error}
 use Rattle.sourcemap_errors.specs.declared.errors.Error.TheVariants.{IncompatibleSourceMap}
 
+-- the strings of an index that may not be made yet
+abbrev pub texts_of : Option (List (List ℕ)) → List (List ℕ)
+texts_of None = []
+texts_of (Some texts) = texts
+
 -- the id of a string: its index in the list; `None` if the list does not have it
 abbrev pub id_of : List ℕ → List (List ℕ) → Option ℕ
 id_of text texts = position_from (bytes_eq text) 0 texts

@@ -1,4 +1,3 @@
-pub mod DigestIndex
-pub mod Digests
 pub mod Interner
 pub mod Slots
+pub mod Texts

@@ -1,17 +1,13 @@
 //! Interned strings: equal strings have the same id.
-ghost use Rattle.std.specs.Prelude.{◌≡◌, ◌≤◌, ℕ, List, [], ◌∷◌, ◌++◌, Some, Err, cond, is_ok, if◌then◌else◌, ◌==◌, map, length, IsOk, IsSome, IfOk, IfErr, OnOk, OnErr, IfSome, option_map, slice_get, string_bytes};
-ghost use Rattle.std.specs.BTreeMap.{get, get_by_text};
-ghost use Rattle.std.specs.Ordering.{nat_cmp};
-ghost use Rattle.std.specs.Str.{bytes_eq};
+ghost use Rattle.std.specs.Prelude.{◌≡◌, ◌≤◌, ℕ, List, [], ◌∷◌, Some, Err, ◌==◌, map, length, IsOk, IsSome, IfOk, OnOk, OnErr, option_map, slice_get, string_bytes};
 ghost use Rattle.sourcemap_errors.specs.Answer.{Gives};
 ghost use Rattle.sourcemap_interning.specs.Interner.{id_of, AreDistinct, with_text, id_for};
-ghost use Rattle.sourcemap_interning.specs.DigestIndex.{matching_id};
-ghost use Rattle.sourcemap_errors.specs.declared.errors.Error.TheVariants.{IncompatibleSourceMap, OutOfMemory};
+ghost use Rattle.sourcemap_errors.specs.declared.errors.Error.TheVariants.{IncompatibleSourceMap};
 
-use crate::digests::digest;
+use crate::slots::hash_of;
+use crate::text_index::TextIndex;
 use sourcemap_errors::errors::{Error, Result};
 use std::alloc::Global;
-use std::collections::BTreeMap;
 use std::marker::Model;
 
 // The maximum number of strings.
@@ -20,28 +16,18 @@ const MOST: usize = 4294967295;
 /// Distinct strings, each with an id. Ids count from 0, in the order of the first `add`.
 #[derive(Drop)]
 pub struct Interner {
-    texts: Vec<String>,
-    // For each digest, the id of the first string that has this digest.
-    firsts: BTreeMap<u64, u32>,
-    // The ids of all other strings. Each of these strings has the same digest as an earlier string.
-    // This tree finds one of n strings in log n time, even if all n strings have equal digests.
-    others: BTreeMap<String, u32>,
+    alloc: Global,
+    // `None` until the first string is added
+    index: Option<TextIndex<String>>,
 }
 
 impl Model for Interner {
-    ghost use Rattle.std.specs.Prelude.{◌≡◌, ◌≤◌, ℕ, List, map, length, string_bytes};
-    ghost use Rattle.std.specs.BTreeMap.{get, get_by_text};
-    ghost use Rattle.std.specs.Ordering.{nat_cmp};
-    ghost use Rattle.sourcemap_interning.specs.Interner.{AreDistinct};
-    ghost use Rattle.sourcemap_interning.specs.DigestIndex.{IsIndex};
+    ghost use Rattle.std.specs.Prelude.{ℕ, List};
+    ghost use Rattle.sourcemap_interning.specs.Interner.{texts_of};
 
     ghost Value = { List (List ℕ) };
 
-    ghost view = { λ a. map string_bytes a.texts.items };
-
-    ghost invariant = { λ a. (length (map string_bytes a.texts.items) ≤ 4294967295)
-        × AreDistinct (map string_bytes a.texts.items)
-        × IsIndex (get nat_cmp a.firsts) (get_by_text a.others) (map string_bytes a.texts.items) };
+    ghost view = { λ i. texts_of i.index };
 }
 
 impl Interner {
@@ -49,11 +35,7 @@ impl Interner {
     pub fn new(alloc: Global) -> Interner
         ensures { result ≡ [] }
     {
-        Interner {
-            texts: Vec::new(alloc),
-            firsts: BTreeMap::new(alloc),
-            others: BTreeMap::new(alloc),
-        }
+        Interner { alloc, index: None }
     }
 
     /// Returns the id of `text`. A new string is added under the next id. Only a new string
@@ -73,24 +55,12 @@ impl Interner {
         ensures full { id_for self.old text.now ≡ Err IncompatibleSourceMap
             → result ≡ Err IncompatibleSourceMap }
     {
-        let digest = digest(text);
-        let first = self.firsts.get(&digest).copied();
-        if let Some(id) = matching_id(self.texts.as_slice(), text, first) {
-            return Ok(id);
+        if let Some(index) = &mut self.index {
+            return add_to(index, text, self.alloc);
         }
-        if let Some(id) = self.others.get(text) {
-            return Ok(*id);
-        }
-        let count = self.texts.len();
-        if count >= MOST {
-            return Err(Error::IncompatibleSourceMap);
-        }
-        let id = count as u32;
-        if first.is_some() {
-            put_other(&mut self.texts, &mut self.others, text, id)?;
-            return Ok(id);
-        }
-        put_first(&mut self.texts, &mut self.firsts, digest, text, id)?;
+        let mut index = TextIndex::new(self.alloc)?;
+        let id = add_to(&mut index, text, self.alloc)?;
+        self.index = Some(index);
         Ok(id)
     }
 
@@ -98,7 +68,10 @@ impl Interner {
     pub fn get(&self, id: u32) -> Option<&str>
         ensures text { option_map (λ text. text.now) result ≡ slice_get self.now id }
     {
-        text_at(self.texts.as_slice(), id)
+        match self.as_slice().get(id as usize) {
+            Some(text) => Some(text.as_str()),
+            None => None,
+        }
     }
 
     /// The number of strings.
@@ -106,14 +79,17 @@ impl Interner {
         ensures count { result ≡ length self.now }
         ensures distinct { AreDistinct self.now }
     {
-        self.texts.len() as u32
+        match &self.index {
+            Some(index) => index.len() as u32,
+            None => 0,
+        }
     }
 
     /// Whether there are no strings.
     pub fn is_empty(&self) -> bool
         ensures { result ≡ (length self.now == 0) }
     {
-        self.texts.is_empty()
+        self.len() == 0
     }
 
     /// The strings in order of their ids.
@@ -121,7 +97,10 @@ impl Interner {
         ensures texts { map string_bytes result.now ≡ self.now }
         ensures few { length result.now ≤ 4294967295 }
     {
-        self.texts.as_slice()
+        match &self.index {
+            Some(index) => index.as_slice(),
+            None => &[],
+        }
     }
 
     /// The strings in order of their ids, moved out without a copy.
@@ -129,79 +108,33 @@ impl Interner {
         ensures texts { map string_bytes result.items ≡ self }
         ensures distinct { AreDistinct self }
     {
-        let Interner { texts, .. } = self;
-        texts
+        let Interner { alloc, index } = self;
+        match index {
+            Some(index) => index.into_texts(),
+            None => Vec::new(alloc),
+        }
     }
 }
 
-fn text_at(texts: &[String], id: u32) -> Option<&str>
-    ensures { option_map (λ text. text.now) result ≡ slice_get (map string_bytes texts.now) id }
+// `Interner::add` for an index that is there already.
+fn add_to(index: &mut TextIndex<String>, text: &str, alloc: Global) -> Result<u32>
+    ensures id { Gives (λ id. id) result (id_for index.old text.now) }
+    ensures texts { OnOk result (index.new ≡ with_text index.old text.now) }
+    ensures unchanged { OnErr result (index.new ≡ index.old) }
+    ensures index { IfOk result (λ id. id_of text.now index.new ≡ Some id) }
+    ensures text { IfOk result (λ id. slice_get index.new id ≡ Some text.now) }
+    ensures existing { IsSome (id_of text.now index.old) → IsOk result }
+    ensures full { id_for index.old text.now ≡ Err IncompatibleSourceMap
+        → result ≡ Err IncompatibleSourceMap }
 {
-    match texts.get(id as usize) {
-        Some(text) => Some(text.as_str()),
-        None => None,
+    let hash = hash_of(text);
+    if let Some(id) = index.find(text, hash) {
+        return Ok(id);
     }
-}
-
-// Two strings may have equal digests, so the whole strings are compared.
-fn matching_id(texts: &[String], text: &str, id: Option<u32>) -> Option<u32>
-    ensures { result ≡ matching_id (map string_bytes texts.now) text.now id }
-{
-    let id = id?;
-    let candidate = text_at(texts, id)?;
-    if text == candidate { Some(id) } else { None }
-}
-
-// Appends `text` to `texts` and enters `id` in `firsts` under `digest`. If memory runs out, neither
-// changes. `add` calls this function for a new string with a new digest.
-fn put_first(
-    texts: &mut Vec<String>,
-    firsts: &mut BTreeMap<u64, u32>,
-    digest: u64,
-    text: &str,
-    id: u32,
-) -> Result<()>
-    ensures texts { map string_bytes texts.new.items
-        ≡ (if is_ok result then map string_bytes texts.old.items ++ text.now ∷ []
-        else map string_bytes texts.old.items) }
-    ensures firsts { (other : ℕ) → get nat_cmp firsts.new other
-        ≡ (if is_ok result
-        then cond (digest == other) (Some id) (get nat_cmp firsts.old other)
-        else get nat_cmp firsts.old other) }
-    ensures only { IfErr result (λ e. e ≡ OutOfMemory) }
-{
-    let kept = String::from_str(*texts.allocator(), text)?;
-    // so that the push below cannot fail
-    texts.reserve(1)?;
-    firsts.insert(digest, id)?;
-    texts.push(kept)?;
-    Ok(())
-}
-
-// Appends a string to `texts`, and its id to `others`. If memory runs out, neither changes. `add`
-// calls this function for a new string if `firsts` already has an id under the digest of that
-// string.
-fn put_other(
-    texts: &mut Vec<String>,
-    others: &mut BTreeMap<String, u32>,
-    text: &str,
-    id: u32,
-) -> Result<()>
-    ensures texts { map string_bytes texts.new.items
-        ≡ (if is_ok result then map string_bytes texts.old.items ++ text.now ∷ []
-        else map string_bytes texts.old.items) }
-    ensures others { (other : List ℕ) → get_by_text others.new other
-        ≡ (if is_ok result
-        then cond (bytes_eq text.now other) (Some id) (get_by_text others.old other)
-        else get_by_text others.old other) }
-    ensures only { IfErr result (λ e. e ≡ OutOfMemory) }
-{
-    let alloc = *texts.allocator();
+    if index.len() >= MOST {
+        return Err(Error::IncompatibleSourceMap);
+    }
     let kept = String::from_str(alloc, text)?;
-    let key = String::from_str(alloc, text)?;
-    // so that the push below cannot fail
-    texts.reserve(1)?;
-    others.insert(key, id)?;
-    texts.push(kept)?;
-    Ok(())
+    let id = index.append(kept, hash)?;
+    Ok(id)
 }

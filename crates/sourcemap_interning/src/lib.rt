@@ -2,7 +2,7 @@
 //! worst, even if the texts were constructed to have equal hashes.
 #![tactic(auto)]
 
-mod digests;
 pub mod interner;
 mod slots;
+pub mod text;
 pub mod text_index;

@@ -1,174 +1,145 @@
-//! An index that assigns a number to each text. A hash table stores the numbers. The search for a
-//! text reads at most 32 slots of the table. If other texts occupy all 32 slots, a tree stores the
-//! number of the new text instead.
-ghost use Rattle.std.specs.Prelude.{◌≡◌, ◌<◌, ◌≤◌, ◌*◌, ◌++◌, ◌∷◌, ℕ, List, [], None, Some, cond, if◌then◌else◌, is_ok, length, map, vec_len, is_some, IfOk, OnOk, OnErr, IsOkUnless};
-ghost use Rattle.std.specs.Str.{bytes_eq};
-ghost use Rattle.sourcemap_interning.specs.Slots.{number_in_tree};
-ghost use Rattle.sourcemap_interning.specs.Interner.{id_of, with_text};
+//! An index that assigns a number to each text, in the order in which the texts first occur.
+ghost use Rattle.std.specs.Prelude.{◌≡◌, ◌<◌, ◌≤◌, ◌++◌, ◌∷◌, ℕ, List, [], None, Some, length, map, is_some, IfOk, OnOk, OnErr, IsOkUnless};
+ghost use Rattle.sourcemap_interning.specs.Interner.{AreDistinct, id_of, with_text};
+ghost use Rattle.sourcemap_interning.specs.Slots.{hash_of};
 ghost use Rattle.sourcemap_errors.specs.declared.errors.Error.TheVariants.{OutOfMemory};
 
-use crate::slots::{NO_NUMBER, Probe, Slot, WINDOW, hash_of, look_up};
+use crate::slots::{NumberTable, hash_of};
+use crate::text::Text;
 use sourcemap_errors::errors;
 use std::alloc::{AllocError, Global};
-use std::collections::BTreeMap;
 use std::marker::Model;
 
-// The mask of a new index. A search starts at the slot `hash & mask`.
+// The mask of a new table.
 const FIRST_MASK: usize = 31;
 
 /// Texts that are numbered in the order in which they first occur. A search starts at the slot that
 /// the hash of the text selects and reads at most 32 slots. If these are all taken by other texts,
 /// the text goes to a tree. So n texts take n log n time at worst, also if their hashes collide.
 #[derive(Drop)]
-pub struct TextIndex<'a> {
+pub struct TextIndex<T: Text> {
     // the texts, by number
-    texts: Vec<&'a str>,
-    slots: Vec<Slot>,
-    // a search starts at the slot `hash & mask`
-    mask: usize,
-    // the numbers of the texts that found no free slot
-    others: BTreeMap<&'a str, u32>,
+    texts: Vec<T>,
+    table: NumberTable<T>,
 }
 
-impl<'a> Model for TextIndex<'a> {
+impl<T: Text> Model for TextIndex<T> {
     ghost use Rattle.std.specs.Prelude.{ℕ, List, map};
-    ghost use Rattle.sourcemap_interning.specs.Slots.{IsIndex, number_in_tree};
+    ghost use Rattle.sourcemap_interning.specs.Slots.{IsTable};
 
     ghost Value = { List (List ℕ) };
 
-    ghost view = { λ i. map (λ t. t.now) i.texts.items };
+    ghost view = { λ i. map T.bytes i.texts.items };
 
-    ghost invariant = { λ i. IsIndex (map (λ t. t.now) i.texts.items) i.mask i.slots.items
-        (number_in_tree i.others) };
+    ghost invariant = { λ i. IsTable T.bytes (map T.bytes i.texts.items) i.table };
 }
 
-impl<'a> TextIndex<'a> {
-    // An empty index. A search starts at one of the slots from 0 to `mask`, inclusive.
-    fn with_mask(alloc: Global, mask: usize) -> Result<Self, AllocError>
-        requires { mask ≤ 4294967296 * 64 }
-        ensures { IfOk result (λ index. index ≡ []) }
-    {
-        let none = Slot {
-            hash: 0,
-            number: NO_NUMBER,
-        };
-        Ok(TextIndex {
-            texts: Vec::new(alloc),
-            slots: vec![in alloc; none; mask + 1 + WINDOW]?,
-            mask,
-            others: BTreeMap::new(alloc),
-        })
-    }
-
+impl<T: Text> TextIndex<T> {
     /// An empty index. The only error is `OutOfMemory`.
     pub fn new(alloc: Global) -> errors::Result<Self>
         ensures ok { IfOk result (λ index. index ≡ []) }
         ensures memory { IsOkUnless result OutOfMemory }
     {
-        let index = TextIndex::with_mask(alloc, FIRST_MASK)?;
-        Ok(index)
+        let table = NumberTable::with_mask(alloc, FIRST_MASK)?;
+        Ok(TextIndex {
+            texts: Vec::new(alloc),
+            table,
+        })
     }
 
     /// The number of texts.
     pub fn len(&self) -> usize
         ensures count { result ≡ length self.now }
         ensures few { result ≤ 4294967295 }
+        ensures distinct { AreDistinct self.now }
     {
         self.texts.len()
+    }
+
+    /// The texts in order of their numbers.
+    pub fn as_slice(&self) -> &[T]
+        ensures texts { map T.bytes result.now ≡ self.now }
+        ensures few { length result.now ≤ 4294967295 }
+    {
+        self.texts.as_slice()
+    }
+
+    /// The texts in order of their numbers, moved out without a copy.
+    pub fn into_texts(self) -> Vec<T>
+        ensures texts { map T.bytes result.items ≡ self }
+        ensures distinct { AreDistinct self }
+    {
+        let TextIndex { texts, .. } = self;
+        texts
     }
 
     /// Whether the text has a number.
     pub fn contains(&self, text: &str) -> bool
         ensures { result ≡ is_some (id_of text.now self.now) }
     {
-        let texts = self.texts.as_slice();
-        match look_up(self.slots.as_slice(), self.mask, texts, text, hash_of(text)) {
-            Probe::Found(_) => true,
-            Probe::Free(_) => false,
-            Probe::Full => self.others.contains_key(text),
-        }
+        self.find(text, hash_of(text)).is_some()
     }
 
     /// Returns the number of a text. A new text gets the next number; before it is added, there
     /// must be fewer than 4294967295 texts. The only error is `OutOfMemory`; it leaves the index
     /// unchanged.
-    pub fn number_of(&mut self, text: &'a str) -> errors::Result<u32>
-        requires few { id_of text.now self.old ≡ None → length self.old < 4294967295 }
-        ensures number { IfOk result (λ number. id_of text.now self.new ≡ Some number) }
-        ensures texts { OnOk result (self.new ≡ with_text self.old text.now) }
+    pub fn number_of(&mut self, text: T) -> errors::Result<u32>
+        requires few { id_of (T.bytes text) self.old ≡ None → length self.old < 4294967295 }
+        ensures number { IfOk result (λ number. id_of (T.bytes text) self.new ≡ Some number) }
+        ensures texts { OnOk result (self.new ≡ with_text self.old (T.bytes text)) }
         ensures unchanged { OnErr result (self.new ≡ self.old) }
         ensures memory { IsOkUnless result OutOfMemory }
     {
-        self.grow()?;
-        let number = self.enter(text)?;
+        let hash = hash_of(text.as_text());
+        if let Some(number) = self.find(text.as_text(), hash) {
+            return Ok(number);
+        }
+        let number = self.append(text, hash)?;
         Ok(number)
     }
 
-    // Grows the table if the number of texts is at least half of `mask + 1`. The texts and their
-    // numbers stay the same, also after an error.
+    // The number of a text, whose hash is `hash`.
+    pub(crate) fn find(&self, text: &str, hash: u32) -> Option<u32>
+        requires { hash ≡ hash_of text.now }
+        ensures { result ≡ id_of text.now self.now }
+    {
+        self.table.number(self.texts.as_slice(), text, hash)
+    }
+
+    // Adds a new text, whose hash is `hash`, under the next number, and returns this number.
+    pub(crate) fn append(&mut self, text: T, hash: u32) -> Result<u32, AllocError>
+        requires hash { hash ≡ hash_of (T.bytes text) }
+        requires new { id_of (T.bytes text) self.old ≡ None }
+        requires few { length self.old < 4294967295 }
+        ensures number { IfOk result (λ number. number ≡ length self.old) }
+        ensures index { IfOk result (λ number. id_of (T.bytes text) self.new ≡ Some number) }
+        ensures texts { OnOk result (self.new ≡ self.old ++ T.bytes text ∷ []) }
+        ensures unchanged { OnErr result (self.new ≡ self.old) }
+    {
+        self.grow()?;
+        let alloc = *self.texts.allocator();
+        // so that the push below cannot fail
+        self.texts.reserve(1)?;
+        let number = self.texts.len() as u32;
+        self.table.enter(&text, hash, number, alloc)?;
+        self.texts.push(text)?;
+        Ok(number)
+    }
+
+    // Makes a larger table once the texts fill half of the slots where a search can start. The
+    // texts and their numbers stay the same, also after an error.
     fn grow(&mut self) -> Result<(), AllocError>
         ensures { self.new ≡ self.old }
     {
-        if self.texts.len() <= self.mask / 2 {
+        let Some(mask) = self.table.larger_mask(self.texts.len()) else {
             return Ok(());
-        }
+        };
         let alloc = *self.texts.allocator();
-        let mut larger = TextIndex::with_mask(alloc, self.mask * 4 + 3)?;
-        for text in &self.texts {
-            larger.enter(*text)?;
+        let mut larger = NumberTable::with_mask(alloc, mask)?;
+        for (number, text) in self.texts.iter().enumerate() {
+            larger.enter(text, hash_of(text.as_text()), number as u32, alloc)?;
         }
-        *self = larger;
+        self.table = larger;
         Ok(())
     }
-
-    fn enter(&mut self, text: &'a str) -> Result<u32, AllocError>
-        requires few { id_of text.now self.old ≡ None → length self.old < 4294967295 }
-        ensures number { IfOk result (λ number. id_of text.now self.new ≡ Some number) }
-        ensures texts { OnOk result (self.new ≡ with_text self.old text.now) }
-        ensures unchanged { OnErr result (self.new ≡ self.old) }
-    {
-        let hash = hash_of(text);
-        let texts = self.texts.as_slice();
-        match look_up(self.slots.as_slice(), self.mask, texts, text, hash) {
-            Probe::Found(number) => Ok(number),
-            Probe::Free(at) => {
-                let number = self.texts.len() as u32;
-                self.texts.push(text)?;
-                self.slots[at] = Slot { hash, number };
-                Ok(number)
-            }
-            Probe::Full => {
-                if let Some(number) = self.others.get(text) {
-                    return Ok(*number);
-                }
-                let number = put_other(&mut self.texts, &mut self.others, text)?;
-                Ok(number)
-            }
-        }
-    }
-}
-
-// Appends a text to `texts` and enters its number in `others`. An error leaves both unchanged.
-fn put_other<'a>(
-    texts: &mut Vec<&'a str>,
-    others: &mut BTreeMap<&'a str, u32>,
-    text: &'a str,
-) -> Result<u32, AllocError>
-    requires { vec_len texts.old < 4294967295 }
-    ensures number { IfOk result (λ number. number ≡ vec_len texts.old) }
-    ensures texts { map (λ t. t.now) texts.new.items
-        ≡ (if is_ok result then map (λ t. t.now) texts.old.items ++ text.now ∷ []
-        else map (λ t. t.now) texts.old.items) }
-    ensures others { (other : List ℕ) → number_in_tree others.new other
-        ≡ (if is_ok result
-        then cond (bytes_eq text.now other) (Some (vec_len texts.old))
-        (number_in_tree others.old other)
-        else number_in_tree others.old other) }
-{
-    let number = texts.len() as u32;
-    // so that the push after the insert cannot fail
-    texts.reserve(1)?;
-    others.insert(text, number)?;
-    texts.push(text)?;
-    Ok(number)
 }

@@ -25,7 +25,7 @@ pub(crate) struct NewNumbers {
 pub(crate) struct Numbering<'a> {
     pub(crate) seen: NewNumbers,
     // the texts in use, by new number
-    ids: TextIndex<'a>,
+    ids: TextIndex<&'a str>,
 }
 
 impl<'a> Numbering<'a> {

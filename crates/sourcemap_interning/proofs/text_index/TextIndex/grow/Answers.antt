@@ -1,24 +1,23 @@
-use Rattle.std.proofs.Common.{◌≡◌, [], ℕ, List, Bor, None, Some, map, take, get_or, slice_get, option_map, sym, ap, ◌∙◌}
-use Rattle.std.proofs.lemmas.List.{map_push, take-map, take_more}
+use Rattle.std.proofs.Common.{◌≡◌, [], ℕ, ◌+◌, ◌++◌, ◌∷◌, List, None, Some, length, map, take, slice_get, option_map, sym, ap, subst, ◌∙◌}
+use Rattle.std.proofs.lemmas.List.{map_push, take-map, take_more, length-map, length-take-le}
 use Rattle.std.proofs.lemmas.Option.{slice_get-map, slice_get-get_or}
-use Rattle.sourcemap_interning.specs.Interner.{id_of, with_text}
-use Rattle.sourcemap_interning.proofs.IndexLemmas.{new-among, with-new}
+use Rattle.sourcemap_interning.specs.Interner.{AreDistinct, id_of}
+use Rattle.sourcemap_interning.specs.Slots.{IsTable}
+use Rattle.sourcemap_interning.proofs.IndexLemmas.{new-among}
 use Rattle.sourcemap_interning.proofs.text_index.TextIndex.grow.Goals as goal
 
-abbrev now_of : Bor (List ℕ) → List ℕ
-now_of t = t.now
-
-pub loop-text-preserved : goal.loop-text-preserved
-loop-text-preserved c =
+pub loop-number-preserved : goal.loop-number-preserved
+loop-number-preserved g c =
+    let bytes = g.T.Text.bytes in
     let items = c.deref-text-items.result.now in
-    let i = c.loop-text.text-index in
-    let none : Bor (List ℕ) = record { ref_ptr = (0, 0); now = [] } in
-    let item : Bor (List ℕ) = get_or items i none in
-    let texts : List (List ℕ) = map now_of c.self.inside.texts.items in
-    let same : map now_of items ≡ texts = ap (map now_of) c.deref-text-items.ensures.value in
-    let at : slice_get texts i ≡ Some item.now =
-    ap (λ us. slice_get us i) (sym same) ∙ slice_get-map now_of items i ∙ ap (option_map now_of) (slice_get-get_or items i none c.loop-text-test.true) in
-    let before : map now_of (take i items) ≡ take i texts = sym (take-map now_of i items) ∙ ap (take i) same in
-    let new : id_of item.now (map now_of (take i items)) ≡ None = ap (id_of item.now) before ∙ new-among texts i item.now c.self.invariant.distinct at in
-    c.in_ok-enter.ensures.texts ∙ ap (λ us. with_text us item.now) c.loop-text.invariant ∙ with-new (map now_of (take i items)) item.now new
-    ∙ sym (ap (map now_of) (take_more items i none c.loop-text-test.true) ∙ map_push now_of (take i items) item)
+    let i = c.loop-number.number in
+    let item = c.text-item.result in
+    let before : List (List ℕ) = map bytes (take i items) in
+    let distinct : AreDistinct (map bytes items) = subst (λ xs. AreDistinct (map bytes xs)) (sym c.deref-text-items.ensures.value) c.self.invariant.distinct in
+    let at : slice_get (map bytes items) i ≡ Some (bytes item) =
+    slice_get-map bytes items i ∙ ap (option_map bytes) (slice_get-get_or items i item c.loop-number-test.true ∙ ap Some (sym c.text-item.is)) in
+    let new : id_of (bytes item) before ≡ None = ap (id_of (bytes item)) (sym (take-map bytes i items)) ∙ new-among (map bytes items) i (bytes item) distinct at in
+    let counted : length before ≡ i = length-map (take i items) bytes ∙ length-take-le i items c.loop-number.auto.number-end in
+    let taken : take (i + 1) items ≡ take i items ++ item ∷ [] = take_more items i item c.loop-number-test.true ∙ ap (λ x. take i items ++ x ∷ []) (sym c.text-item.is) in
+    subst (λ texts. IsTable bytes texts c.enter.new.self) (sym (ap (map bytes) taken ∙ map_push bytes (take i items) item))
+    (c.in_ok-enter.ensures.entered before c.loop-number.invariant counted new)

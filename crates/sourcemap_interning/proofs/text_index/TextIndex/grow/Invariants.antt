@@ -1,5 +1,6 @@
-use Rattle.std.proofs.Common.{◌≡◌, ℕ, List, Bor, map, take}
+use Rattle.std.proofs.Common.{map, take}
+use Rattle.sourcemap_interning.specs.Slots.{IsTable}
 use Rattle.sourcemap_interning.proofs.text_index.TextIndex.grow.Given as goal
 
-abbrev pub invariant-loop-text : goal.invariant-loop-text
-invariant-loop-text l = l.larger ≡ map (λ (t : Bor (List ℕ)). t.now) (take l.text-index l.text-items)
+abbrev pub invariant-loop-number : goal.invariant-loop-number
+invariant-loop-number g l = IsTable g.T.Text.bytes (map g.T.Text.bytes (take l.number l.text-items)) l.larger

@@ -1,6 +1,0 @@
--- prover: explicit search
-use Rattle.std.proofs.Common.{rules}
-use Rattle.sourcemap_interning.proofs.interner.Interner.new.Goals as goal
-
-pub returns : goal.returns
-returns c = search rules

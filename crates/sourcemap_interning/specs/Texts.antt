@@ -1,0 +1,9 @@
+-- Texts as keys of a tree.
+use Rattle.std.specs.Prelude.{ℕ, List, Option}
+use Rattle.std.specs.BTreeMap.{BTreeMap, get_by}
+use Rattle.std.specs.Cmp.Lexicographic.{slice_cmp}
+use Rattle.std.specs.Ordering.{nat_cmp}
+
+-- the number of a text in a tree; `None` if the tree does not have the text
+abbrev pub number_in_tree : {T : Type 0} → (T → List ℕ) → BTreeMap T ℕ → List ℕ → Option ℕ
+number_in_tree bytes tree text = get_by (λ key. slice_cmp nat_cmp text (bytes key)) tree
