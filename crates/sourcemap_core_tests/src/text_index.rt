@@ -32,7 +32,7 @@ fn numbers_texts_by_their_first_use(rt: HostRuntime) {
 
 // `count` texts, numbered from 0. Each text is `start`, then its number, padded with leading zeros
 // to at least eight digits, then `end`.
-fn numbered_texts(alloc: Global, start: &str, end: &str, count: usize) -> Result<Vec<String>> {
+pub fn numbered_texts(alloc: Global, start: &str, end: &str, count: usize) -> Result<Vec<String>> {
     let mut texts = Vec::new(alloc);
     for number in 0..count {
         texts.push(format!(in alloc; "{start}{number:08}{end}")?)?;

@@ -1,4 +1,5 @@
 //! Lists of tokens and interned texts, and searches in them.
+use crate::text_index::numbered_texts;
 use sourcemap_core::errors::Result;
 use sourcemap_core::interner::Interner;
 use sourcemap_core::tokens::{NO_ID, RawToken, sort_tokens, tokens_in_order};
@@ -199,33 +200,36 @@ fn equal_texts_have_one_number(rt: HostRuntime) {
     check!(rt, "all texts", texts_text(alloc), r#"["b", "a", "", "B"]"#);
 }
 
-// Four different texts with the same digest and the same length.
-static COLLIDING: [&str; 4] = [
-    "d2Vd/J8r/!qq!p9iuh1fYfw2a&.#!M};",
-    "d2Vd/J8r/!qq!p9ifPNtsXs0*y~xFn!I",
-    "DcMDnNyL|iF!}1[#uh1fYfw2a&.#!M};",
-    "DcMDnNyL|iF!}1[#fPNtsXs0*y~xFn!I",
-];
-
-fn push_colliding(ids: &mut String, interner: &mut Interner) -> Result<()> {
-    for text in COLLIDING.iter() {
-        let id = interner.add(text)?;
-        write!(ids, "{id} ")?;
+// How many of `texts` get their index as id.
+fn count_interned(interner: &mut Interner, texts: &[String]) -> Result<usize> {
+    let mut count = 0;
+    for (at, text) in texts.iter().enumerate() {
+        if interner.add(text.as_str())? as usize == at {
+            count += 1;
+        }
     }
-    Ok(())
+    Ok(count)
 }
 
-fn colliding_ids(alloc: Global) -> Result<String> {
-    let mut ids = String::new(alloc);
+// The result of `count_interned` on a first and on a second pass, then the number of strings.
+fn interning_text(alloc: Global, start: &str, end: &str, count: usize) -> Result<String> {
+    let texts = numbered_texts(alloc, start, end, count)?;
     let mut interner = Interner::new(alloc);
-    interner.add("first")?;
-    push_colliding(&mut ids, &mut interner)?;
-    push_colliding(&mut ids, &mut interner)?;
-    Ok(ids)
+    let first = count_interned(&mut interner, texts.as_slice())?;
+    let again = count_interned(&mut interner, texts.as_slice())?;
+    Ok(format!(in alloc; "{first} {again} of {}", interner.len())?)
 }
 
+// All texts of the second row have the same hash. bench/colliding.py writes such texts.
 #[test]
-fn colliding_texts_have_ids_of_their_own(rt: HostRuntime) {
-    let got = colliding_ids(rt.alloc());
-    check!(rt, "colliding", got, "1 2 3 4 1 2 3 4 ");
+fn interned_texts_have_ids_of_their_own(rt: HostRuntime) {
+    let got = interning_text(rt.alloc(), "name", "", 3000);
+    check!(rt, "usual texts", got, "3000 3000 of 3000");
+    let got = interning_text(
+        rt.alloc(),
+        "webpack:00000019v}kzYA]7",
+        "/src/app/file.js",
+        300,
+    );
+    check!(rt, "texts that collide", got, "300 300 of 300");
 }

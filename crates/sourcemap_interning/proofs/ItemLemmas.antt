@@ -1,7 +1,12 @@
 -- Items of a list after one is set or appended.
-use Rattle.std.proofs.Common.{◌≡◌, ◌≢◌, refl, ap, ℕ, zero, suc, ◌+◌, ◌<◌, ◌⊎◌, inl, inr, List, [], ◌∷◌, ◌++◌, length, Some, arith, slice_get, slice_set}
+use Rattle.std.proofs.Common.{◌≡◌, ◌≢◌, refl, ap, ℕ, zero, suc, ◌+◌, ◌<◌, ◌⊎◌, inl, inr, List, [], ◌∷◌, ◌++◌, length, Some, arith, get_or, slice_get, slice_set, sym, ◌∙◌}
+use Rattle.std.proofs.lemmas.Option.{slice_get-get_or}
 
 module _ {X : Type 0} where
+  -- the item that indexing returns is the item at the index
+  pub slice_get-indexed : (xs : List X) (i : ℕ) (x : X) → i < length xs → x ≡ get_or xs i x → slice_get xs i ≡ Some x
+  slice_get-indexed xs i x within e = slice_get-get_or xs i x within ∙ ap Some (sym e)
+
   pub slice_get-set_same : (xs : List X) (i : ℕ) (y : X) → i < length xs → slice_get (slice_set xs i y) i ≡ Some y
   slice_get-set_same [] i y h = absurd (omega arith)
   slice_get-set_same (x ∷ xs) zero y h = refl

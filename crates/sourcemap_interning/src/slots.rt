@@ -50,7 +50,8 @@ impl<T: Text> NumberTable<T> {
         })
     }
 
-    // The mask of a larger table, if this table should have room for one more than `count` texts.
+    // The mask of the next larger table, once `count` texts fill half of the slots where a search
+    // can start.
     pub(crate) fn larger_mask(&self, count: usize) -> Option<usize>
         requires { count ≤ 4294967295 }
         ensures { IfSome result (λ mask. mask ≤ 4294967296 * 64) }

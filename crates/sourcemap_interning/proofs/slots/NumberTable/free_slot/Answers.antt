@@ -1,7 +1,6 @@
-use Rattle.std.proofs.Common.{◌≡◌, sym, ap, subst, ◌∙◌, ℕ, ◌+◌, ◌<◌, Some, length, slice_get, arith, inl, inr}
-use Rattle.std.proofs.lemmas.Option.{slice_get-get_or}
+use Rattle.std.proofs.Common.{◌≡◌, ap, subst, ◌∙◌, ℕ, ◌+◌, ◌<◌, Some, length, slice_get, arith, inl, inr}
 use Rattle.sourcemap_interning.specs.Slots.{IsTaken}
-use Rattle.sourcemap_interning.proofs.ItemLemmas.{below_or_last}
+use Rattle.sourcemap_interning.proofs.ItemLemmas.{below_or_last, slice_get-indexed}
 use Rattle.sourcemap_interning.proofs.slots.NumberTable.free_slot.Goals as goal
 
 pub returns-then-index : goal.returns-then-index
@@ -9,7 +8,7 @@ returns-then-index g c =
     let slots = c.args.self.now.slots.items in
     let at = c.start_of-start.result + c.loop-step.step in
     let within : at < length slots = omega (arith, c.requires, c.start_of-start.ensures.within, c.loop-step-test.true) in
-    let read : slice_get slots at ≡ Some c.index.result.now = slice_get-get_or slots at c.index.result.now within ∙ ap Some (sym c.index.ensures) in
+    let read : slice_get slots at ≡ Some c.index.result.now = slice_get-indexed slots at c.index.result.now within c.index.ensures in
     let taken = subst (λ start. (k : ℕ) → k < c.loop-step.step → IsTaken slots (start + k)) c.start_of-start.ensures.start c.loop-step.invariant in
     (c.loop-step.step, c.loop-step-test.true, ap (λ start. start + c.loop-step.step) c.start_of-start.ensures.start, (c.index.result.now, read, c.if-index.true), taken)
 
@@ -18,7 +17,7 @@ loop-step-preserved g c k below =
     let slots = c.args.self.now.slots.items in
     let at = c.start_of-start.result + c.loop-step.step in
     let within : at < length slots = omega (arith, c.requires, c.start_of-start.ensures.within, c.loop-step-test.true) in
-    let read : slice_get slots at ≡ Some c.index.result.now = slice_get-get_or slots at c.index.result.now within ∙ ap Some (sym c.index.ensures) in
+    let read : slice_get slots at ≡ Some c.index.result.now = slice_get-indexed slots at c.index.result.now within c.index.ensures in
     elim (below_or_last k c.loop-step.step below) [
       | inl before ↦ c.loop-step.invariant k before
       | inr here ↦ (c.index.result.now, ap (λ j. slice_get slots (c.start_of-start.result + j)) here ∙ read, c.if-index.false)

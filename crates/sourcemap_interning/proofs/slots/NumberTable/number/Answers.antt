@@ -1,10 +1,9 @@
 use Rattle.std.proofs.Common.{◌≡◌, sym, ap, subst, ◌∙◌, ℕ, ◌+◌, ◌<◌, List, Some, true, length, map, slice_get, arith, inl, inr}
-use Rattle.std.proofs.lemmas.Option.{slice_get-get_or}
 use Rattle.std.proofs.lemmas.Slice.Eq.{bytes_eq-Decides}
 use Rattle.sourcemap_interning.specs.Slots.{IsFree, hash_of, start_of}
 use Rattle.sourcemap_interning.specs.Texts.{number_in_tree}
 use Rattle.sourcemap_interning.proofs.IndexLemmas.{ArePassed, none-free, others-full}
-use Rattle.sourcemap_interning.proofs.ItemLemmas.{below_or_last}
+use Rattle.sourcemap_interning.proofs.ItemLemmas.{below_or_last, slice_get-indexed}
 use Rattle.sourcemap_interning.proofs.slots.NumberTable.number.Goals as goal
 
 pub returns-then-slot : goal.returns-then-slot
@@ -15,7 +14,7 @@ returns-then-slot g c =
     let texts : List (List ℕ) = map g.T.Text.bytes c.args.texts.now in
     let at = c.start_of-start.result + c.loop-step.step in
     let within : at < length slots = omega (arith, c.requires.table.long, c.start_of-start.ensures.within, c.loop-step-test.true) in
-    let read : slice_get slots at ≡ Some c.index-slot.result.now = slice_get-get_or slots at c.index-slot.result.now within ∙ ap Some (sym c.index-slot.ensures) in
+    let read : slice_get slots at ≡ Some c.index-slot.result.now = slice_get-indexed slots at c.index-slot.result.now within c.index-slot.ensures in
     let start : c.start_of-start.result ≡ start_of table.mask (hash_of text) = c.start_of-start.ensures.start ∙ ap (start_of table.mask) c.requires.hash in
     let passed = subst (λ start. ArePassed texts slots start text c.loop-step.step) start c.loop-step.invariant in
     let free : IsFree slots (start_of table.mask (hash_of text) + c.loop-step.step) = (c.index-slot.result.now, ap (λ start. slice_get slots (start + c.loop-step.step)) (sym start) ∙ read, c.if-slot.true) in
@@ -26,7 +25,7 @@ is_of-requires-clause-right g c =
     let slots = c.args.self.now.slots.items in
     let at = c.start_of-start.result + c.loop-step.step in
     let within : at < length slots = omega (arith, c.requires.table.long, c.start_of-start.ensures.within, c.loop-step-test.true) in
-    let read : slice_get slots at ≡ Some c.index-slot.result.now = slice_get-get_or slots at c.index-slot.result.now within ∙ ap Some (sym c.index-slot.ensures) in
+    let read : slice_get slots at ≡ Some c.index-slot.result.now = slice_get-indexed slots at c.index-slot.result.now within c.index-slot.ensures in
     c.requires.table.right at c.index-slot.result.now read c.if-slot.false
 
 pub returns-then-is_of : goal.returns-then-is_of
@@ -34,7 +33,7 @@ returns-then-is_of g c =
     let slots = c.args.self.now.slots.items in
     let at = c.start_of-start.result + c.loop-step.step in
     let within : at < length slots = omega (arith, c.requires.table.long, c.start_of-start.ensures.within, c.loop-step-test.true) in
-    let read : slice_get slots at ≡ Some c.index-slot.result.now = slice_get-get_or slots at c.index-slot.result.now within ∙ ap Some (sym c.index-slot.ensures) in
+    let read : slice_get slots at ≡ Some c.index-slot.result.now = slice_get-indexed slots at c.index-slot.result.now within c.index-slot.ensures in
     let (text, named, _) = c.requires.table.right at c.index-slot.result.now read c.if-slot.false in
     let same : text ≡ c.args.text.now = (bytes_eq-Decides text c.args.text.now).0 (sym (c.is_of.ensures text named) ∙ c.if-is_of.true) in
     sym (c.requires.table.distinct c.args.text.now c.index-slot.result.now.number (named ∙ ap Some same))
@@ -47,7 +46,7 @@ loop-step-preserved g c k below =
     let start = c.start_of-start.result in
     let at = start + c.loop-step.step in
     let within : at < length slots = omega (arith, c.requires.table.long, c.start_of-start.ensures.within, c.loop-step-test.true) in
-    let read : slice_get slots at ≡ Some slot = slice_get-get_or slots at slot within ∙ ap Some (sym c.index-slot.ensures) in
+    let read : slice_get slots at ≡ Some slot = slice_get-indexed slots at slot within c.index-slot.ensures in
     let (text, named, _) = c.requires.table.right at slot read c.if-slot.false in
     let another : slice_get texts slot.number ≡ Some c.args.text.now → ⊥ = λ e.
     let same : text ≡ c.args.text.now = alike text c.args.text.now (sym named ∙ e) in
