@@ -151,7 +151,7 @@ module _ (texts : List (List ℕ)) (mask : ℕ) (slots : List Slot) (others : Li
                 inl (subst (λ u. IsReached after (start_of mask (hash_of u)) n) last.1 here)
           ]
 
-    -- if no slot is free, the index stays valid when the new `text` goes to the overflow tree
+    -- if no slot is free, the index stays valid when the new `text` goes to the tree
     pub index-full : (others' : List ℕ → Option ℕ) → AreTaken slots (start_of mask (hash_of text))
         → ((t : List ℕ) → others' t ≡ cond (bytes_eq text t) (Some (length texts)) (others t)) → IsIndex (texts ++ text ∷ []) mask slots others'
     index-full others' all now = record {
@@ -225,8 +225,8 @@ new-among texts i text distinct at = none_has (take i texts) text never
         let same : n ≡ i = cc in
         absurd (omega (arith, same, before.0))
 
--- let there be fewer than 4294967295 texts, and no free slot for the new `text`. If `text` could be added to the overflow
--- tree, the index is valid with `text`
+-- let there be fewer than 4294967295 texts, and no free slot for the new `text`. If `text` could be added to the tree,
+-- the index is valid with `text`
 pub index-put : (texts : List (List ℕ)) (mask : ℕ) (slots : List Slot) (others : List ℕ → Option ℕ) (is : IsIndex texts mask slots others) (text : List ℕ) → length texts < 4294967295
     → id_of text texts ≡ None → AreTaken slots (start_of mask (hash_of text)) → (others' : List ℕ → Option ℕ) → {A E : Type 0} (result : Result A E)
     → ((t : List ℕ) → others' t ≡ (if is_ok result then cond (bytes_eq text t) (Some (length texts)) (others t) else others t))

@@ -1,4 +1,4 @@
--- Items of a list after one is set or appended.
+-- Items of a list by their indexes, also after one is set or appended.
 use Rattle.std.proofs.Common.{◌≡◌, ◌≢◌, refl, ap, ℕ, zero, suc, ◌+◌, ◌<◌, ◌⊎◌, inl, inr, List, [], ◌∷◌, ◌++◌, length, Some, arith, get_or, slice_get, slice_set, sym, ◌∙◌}
 use Rattle.std.proofs.lemmas.Option.{slice_get-get_or}
 

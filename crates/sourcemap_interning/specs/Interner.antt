@@ -10,7 +10,7 @@ abbrev pub texts_of : Option (List (List ℕ)) → List (List ℕ)
 texts_of None = []
 texts_of (Some texts) = texts
 
--- the id of a string: its index in the list; `None` if the list does not have it
+-- the id of a string: the index at which it first occurs in the list; `None` if the list does not have it
 abbrev pub id_of : List ℕ → List (List ℕ) → Option ℕ
 id_of text texts = position_from (bytes_eq text) 0 texts
 

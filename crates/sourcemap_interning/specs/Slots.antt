@@ -27,6 +27,7 @@ IsFree slots slot_index = (slot : Slot) × (slice_get slots slot_index ≡ Some 
 abbrev pub IsRight : List (List ℕ) → Slot → Type 0
 IsRight texts slot = (text : List ℕ) × (slice_get texts slot.number ≡ Some text) × (slot.hash ≡ hash_of text)
 
+-- each taken slot has the number and the hash of one of the texts
 abbrev pub AreRight : List (List ℕ) → List Slot → Type 0
 AreRight texts slots =
     (slot_index : ℕ) (slot : Slot) → slice_get slots slot_index ≡ Some slot → slot.number ≢ 4294967295 → IsRight texts slot
@@ -51,7 +52,7 @@ pub record IsReached (slots : List Slot) (start number : ℕ) : Type 0 where
   pub before : (k : ℕ) → k < steps → IsTaken slots (start + k)
 
 -- An index of texts. There are at most 4294967295 texts, all distinct, and `mask + 33` slots. Each taken slot has the
--- number and the hash of one of the texts. A search for a text covers 32 slots, from `start_of mask (hash_of text)` on.
+-- number and the hash of one of the texts. A search for a text reads at most 32 slots, from `start_of mask (hash_of text)` on.
 -- For each text of `texts`, one of two cases holds. In the first case one of these 32 slots has the number of the text,
 -- and all earlier slots of the 32 are taken. In the second case all 32 slots are taken, and `others` has the number of
 -- the text. Whenever `others` has a number for a text, `texts` has this text at this number.

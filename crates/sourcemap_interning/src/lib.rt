@@ -1,5 +1,5 @@
-//! Texts get numbers in the order in which they first occur. The time for n texts is n log n at
-//! worst, even if the texts were constructed to have equal hashes.
+//! Texts get numbers in the order in which they first occur. For n texts this takes at most some
+//! n log n comparisons, even if the texts were constructed to have equal hashes.
 #![tactic(auto)]
 
 pub mod interner;

@@ -34,7 +34,8 @@ pub(crate) struct NumberTable<T: Text> {
 }
 
 impl<T: Text> NumberTable<T> {
-    // A table for no text. A search starts at one of the slots from 0 to `mask`, inclusive.
+    // A table for no text. A search starts at one of the slots from 0 to `mask`, inclusive. `mask`
+    // is bounded so that the number of slots cannot wrap.
     pub(crate) fn with_mask(alloc: Global, mask: usize) -> Result<Self, AllocError>
         requires { mask ≤ 4294967296 * 64 }
         ensures { IfOk result (λ table. IsTable T.bytes [] table) }
@@ -50,8 +51,7 @@ impl<T: Text> NumberTable<T> {
         })
     }
 
-    // The mask of the next larger table, once `count` texts fill half of the slots where a search
-    // can start.
+    // The mask of the next larger table. `None` as long as `count` is at most half of the mask.
     pub(crate) fn larger_mask(&self, count: usize) -> Option<usize>
         requires { count ≤ 4294967295 }
         ensures { IfSome result (λ mask. mask ≤ 4294967296 * 64) }
@@ -62,7 +62,7 @@ impl<T: Text> NumberTable<T> {
         Some(self.mask * 4 + 3)
     }
 
-    // The number of `text`, whose hash is `hash`, if it is one of `texts`.
+    // The number of `text`, whose hash is `hash`. `None` if it is not one of `texts`.
     pub(crate) fn number(&self, texts: &[T], text: &str, hash: u32) -> Option<u32>
         requires table { IsTable T.bytes (map T.bytes texts.now) self.now }
         requires hash { hash ≡ hash_of text.now }
@@ -81,7 +81,8 @@ impl<T: Text> NumberTable<T> {
         T::number_in(&self.others, text)
     }
 
-    // The first free slot of those that a search with this hash reads.
+    // The index of the first free slot of those that a search with this hash reads. `None` if all
+    // are taken.
     fn free_slot(&self, hash: u32) -> Option<usize>
         requires { length self.now.slots.items ≡ self.now.mask + 33 }
         ensures { IsFirstFree self.now.slots.items (start_of self.now.mask hash) result }
@@ -123,8 +124,8 @@ impl<T: Text> NumberTable<T> {
     }
 }
 
-// The seed of `FoldHasher` is fixed, so texts with equal hashes are easy to construct. The limit of
-// 32 slots bounds the time that such texts cost.
+// The upper 32 bits of a hash. The seed of `FoldHasher` is fixed, so texts with equal hashes are
+// easy to construct. A search for such a text reads at most 32 slots, and then goes on in a tree.
 pub(crate) fn hash_of(text: &str) -> u32
     ensures { result ≡ hash_of text.now }
 {

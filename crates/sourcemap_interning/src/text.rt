@@ -6,7 +6,7 @@ ghost use Rattle.sourcemap_interning.specs.Texts.{number_in_tree};
 use std::alloc::{AllocError, Global};
 use std::collections::BTreeMap;
 
-/// A text that a `TextIndex` can keep: a `String`, or a borrowed `&str`.
+/// A text that a `TextIndex` can keep. This crate implements it for `String` and `&str`.
 pub trait Text: Ord + Drop {
     // The bytes of the text.
     ghost bytes: { Self → List ℕ };
@@ -15,12 +15,12 @@ pub trait Text: Ord + Drop {
     fn as_text(&self) -> &str
         ensures { result.now ≡ bytes self.now };
 
-    /// The number that `tree` has for `text`.
+    /// The number that `tree` has for `text`, or `None`.
     fn number_in(tree: &BTreeMap<Self, u32>, text: &str) -> Option<u32>
         ensures { result ≡ number_in_tree bytes tree.now text.now };
 
-    /// Enters a copy of this text in `tree`, with its number. An error leaves the entries as they
-    /// were.
+    /// Stores `number` for this text in `tree`, under a copy of the text. All other texts keep their
+    /// numbers. After an error all texts do.
     fn insert_into(
         &self,
         tree: &mut BTreeMap<Self, u32>,

@@ -1,5 +1,5 @@
 //! An index that assigns a number to each text, in the order in which the texts first occur.
-ghost use Rattle.std.specs.Prelude.{◌≡◌, ◌<◌, ◌≤◌, ◌++◌, ◌∷◌, ℕ, List, [], None, Some, length, map, is_some, IfOk, OnOk, OnErr, IsOkUnless};
+ghost use Rattle.std.specs.Prelude.{◌≡◌, ◌<◌, ◌≤◌, ◌++◌, ◌∷◌, ℕ, List, [], None, Some, length, map, is_some, IfOk, OnOk, OnErr, IsOk, IsSome, IsOkUnless};
 ghost use Rattle.sourcemap_interning.specs.Interner.{AreDistinct, id_of, with_text};
 ghost use Rattle.sourcemap_interning.specs.Slots.{hash_of};
 ghost use Rattle.sourcemap_errors.specs.declared.errors.Error.TheVariants.{OutOfMemory};
@@ -15,7 +15,8 @@ const FIRST_MASK: usize = 31;
 
 /// Texts that are numbered in the order in which they first occur. A search starts at the slot that
 /// the hash of the text selects and reads at most 32 slots. If these are all taken by other texts,
-/// the text goes to a tree. So n texts take n log n time at worst, also if their hashes collide.
+/// the text goes to a tree. So n texts take at most some n log n comparisons, also if their hashes
+/// collide.
 #[derive(Drop)]
 pub struct TextIndex<T: Text> {
     // the texts, by number
@@ -81,14 +82,15 @@ impl<T: Text> TextIndex<T> {
     }
 
     /// Returns the number of a text. A new text gets the next number; before it is added, there
-    /// must be fewer than 4294967295 texts. The only error is `OutOfMemory`; it leaves the index
-    /// unchanged.
+    /// must be fewer than 4294967295 texts. The only error is `OutOfMemory`, and only for a new
+    /// text. It leaves the index unchanged.
     pub fn number_of(&mut self, text: T) -> errors::Result<u32>
         requires few { id_of (T.bytes text) self.old ≡ None → length self.old < 4294967295 }
         ensures number { IfOk result (λ number. id_of (T.bytes text) self.new ≡ Some number) }
         ensures texts { OnOk result (self.new ≡ with_text self.old (T.bytes text)) }
         ensures unchanged { OnErr result (self.new ≡ self.old) }
         ensures memory { IsOkUnless result OutOfMemory }
+        ensures existing { IsSome (id_of (T.bytes text) self.old) → IsOk result }
     {
         let hash = hash_of(text.as_text());
         if let Some(number) = self.find(text.as_text(), hash) {
@@ -98,7 +100,7 @@ impl<T: Text> TextIndex<T> {
         Ok(number)
     }
 
-    // The number of a text, whose hash is `hash`.
+    // The number of a text, whose hash is `hash`. `None` if it has no number.
     pub(crate) fn find(&self, text: &str, hash: u32) -> Option<u32>
         requires { hash ≡ hash_of text.now }
         ensures { result ≡ id_of text.now self.now }
@@ -126,8 +128,8 @@ impl<T: Text> TextIndex<T> {
         Ok(number)
     }
 
-    // Makes a larger table once the texts fill half of the slots where a search can start. The
-    // texts and their numbers stay the same, also after an error.
+    // Makes a larger table if there are more texts than half of the mask. The texts and their
+    // numbers stay the same, also after an error.
     fn grow(&mut self) -> Result<(), AllocError>
         ensures { self.new ≡ self.old }
     {
