@@ -3,7 +3,7 @@
 use crate::getters::id_text;
 use crate::lookups::token_text;
 use sourcemap::errors::Result;
-use sourcemap::{DecodedMap, Error, SourceMap, decode, decode_data_url, decode_slice};
+use sourcemap::{DecodedMap, SourceMap, decode, decode_data_url, decode_slice};
 use sourcemap_test_support::check;
 use sourcemap_test_support::results::{again, error_of};
 use std::alloc::Global;
