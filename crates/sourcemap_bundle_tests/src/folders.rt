@@ -152,7 +152,7 @@ fn folderless_texts<F: Files>(rt: &F, alloc: Global) -> Result<String> {
     Ok(format!(in alloc; "{missing}, {file}, {folder}")?)
 }
 
-fn indexed_file<F: Files>(rt: &F, alloc: Global, path: &str) -> Result<String> {
+fn parse_indexed_file<F: Files>(rt: &F, alloc: Global, path: &str) -> Result<String> {
     match RamBundle::parse_indexed_from_path(rt, alloc, path) {
         Ok(_) => Ok(String::from_str(alloc, "a bundle")?),
         Err(error) => error_or_io(alloc, error),
@@ -184,7 +184,7 @@ fn paths(rt: HostRuntime) {
     let missing = "no_such_folder/main.js";
     let got = answers_at(&rt, alloc, missing);
     check!(rt, "a missing file bundle", got, "false not a ram bundle");
-    let got = indexed_file(&rt, alloc, missing);
+    let got = parse_indexed_file(&rt, alloc, missing);
     check!(rt, "a missing file", got, "io");
     let got = folderless_texts(&rt, alloc);
     let want = "false not a ram bundle, false not a ram bundle, false not a ram bundle";

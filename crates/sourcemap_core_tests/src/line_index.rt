@@ -198,7 +198,7 @@ fn table_text(alloc: Global, table: Result<LineIndex>) -> Result<String> {
     Ok(format!(in alloc; "{table:?}")?)
 }
 
-fn tables_compared(alloc: Global) -> Result<String> {
+fn compare_tables(alloc: Global) -> Result<String> {
     let by_rows = table_text(alloc, table_by_rows(alloc))?;
     let by_tokens = table_text(alloc, table_by_tokens(alloc))?;
     Ok(format!(in alloc; "{}", by_rows == by_tokens)?)
@@ -206,5 +206,5 @@ fn tables_compared(alloc: Global) -> Result<String> {
 
 #[test]
 fn tables_are_made_row_by_row(rt: HostRuntime) {
-    check!(rt, "rows", tables_compared(rt.alloc()), "true");
+    check!(rt, "rows", compare_tables(rt.alloc()), "true");
 }

@@ -227,7 +227,7 @@ fn write_rows(alloc: Global, rows: &[Row]) -> Result<String> {
     write_mappings(alloc, tokens.as_slice(), 2)
 }
 
-fn ranges_written(alloc: Global, rows: &[Row]) -> Result<String> {
+fn write_ranges(alloc: Global, rows: &[Row]) -> Result<String> {
     let tokens = tokens(alloc, rows)?;
     if !tokens_in_order(tokens.as_slice()) {
         return Err(Error::IncompatibleSourceMap);
@@ -243,6 +243,6 @@ fn writes_tokens(rt: HostRuntime) {
     for (about, rows, mappings, ranges) in WRITTEN.iter() {
         check!(rt, about, write_rows(rt.alloc(), rows), mappings);
         let ranges = ranges.unwrap_or("none");
-        check!(rt, about, ranges_written(rt.alloc(), rows), ranges);
+        check!(rt, about, write_ranges(rt.alloc(), rows), ranges);
     }
 }

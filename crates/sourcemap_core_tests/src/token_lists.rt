@@ -69,7 +69,7 @@ fn sort_text(alloc: Global) -> Result<String> {
 }
 
 // Sorts the tokens in place with `sort_tokens`. Returns their original columns in the new order.
-fn sorted_in_list(alloc: Global) -> Result<String> {
+fn sort_in_place(alloc: Global) -> Result<String> {
     let mut tokens = tokens(alloc)?;
     sort_tokens(&mut tokens)?;
     columns(alloc, tokens.as_slice())
@@ -78,7 +78,7 @@ fn sorted_in_list(alloc: Global) -> Result<String> {
 #[test]
 fn sorts_tokens_stably(rt: HostRuntime) {
     check!(rt, "sorted", sort_text(rt.alloc()), "1 3 0 2 ");
-    check!(rt, "in place", sorted_in_list(rt.alloc()), "1 3 0 2 ");
+    check!(rt, "in place", sort_in_place(rt.alloc()), "1 3 0 2 ");
 }
 
 fn orders(alloc: Global) -> Result<(bool, bool)> {

@@ -104,7 +104,7 @@ fn bits(alloc: Global, positions: &[usize]) -> Result<Vec<bool>> {
     Ok(bits)
 }
 
-fn bits_written(alloc: Global, positions: &[usize]) -> Result<String> {
+fn write_bits(alloc: Global, positions: &[usize]) -> Result<String> {
     let bits = bits(alloc, positions)?;
     encode_rmi(alloc, bits.as_slice())
 }
@@ -112,7 +112,7 @@ fn bits_written(alloc: Global, positions: &[usize]) -> Result<String> {
 #[test]
 fn writes_bits(rt: HostRuntime) {
     for (positions, want) in BITS.iter() {
-        check!(rt, want, bits_written(rt.alloc(), positions), want);
+        check!(rt, want, write_bits(rt.alloc(), positions), want);
     }
 }
 
@@ -124,21 +124,21 @@ static APPENDED: [(&str, &[usize], &str); 3] = [
     ("AAB;", &[], "AAB;"),
 ];
 
-fn bits_appended(alloc: Global, start: &str, bits: &[bool]) -> Result<String> {
+fn append_bits(alloc: Global, start: &str, bits: &[bool]) -> Result<String> {
     let mut text = String::from_str(alloc, start)?;
     push_bits(&mut text, bits)?;
     Ok(text)
 }
 
-fn append_bits(alloc: Global, start: &str, positions: &[usize]) -> Result<String> {
+fn append_bits_at(alloc: Global, start: &str, positions: &[usize]) -> Result<String> {
     let bits = bits(alloc, positions)?;
-    bits_appended(alloc, start, bits.as_slice())
+    append_bits(alloc, start, bits.as_slice())
 }
 
 #[test]
 fn appends_bits_to_a_text(rt: HostRuntime) {
     for (start, positions, want) in APPENDED.iter() {
-        check!(rt, want, append_bits(rt.alloc(), start, positions), want);
+        check!(rt, want, append_bits_at(rt.alloc(), start, positions), want);
     }
 }
 
@@ -167,7 +167,7 @@ fn positions(alloc: Global, bits: &[bool]) -> Result<String> {
     Ok(out)
 }
 
-fn bits_read(alloc: Global, text: &str) -> Result<String> {
+fn read_bits(alloc: Global, text: &str) -> Result<String> {
     match decode_rmi(alloc, text) {
         Ok(bits) => positions(alloc, bits.as_slice()),
         Err(error) => error_text(alloc, &error),
@@ -177,6 +177,6 @@ fn bits_read(alloc: Global, text: &str) -> Result<String> {
 #[test]
 fn reads_bits(rt: HostRuntime) {
     for (about, text, want) in TEXTS.iter() {
-        check!(rt, about, bits_read(rt.alloc(), text), want);
+        check!(rt, about, read_bits(rt.alloc(), text), want);
     }
 }

@@ -262,7 +262,7 @@ fn contents_are_loaded(rt: HostRuntime) -> io::Result<()> {
 
 // Loads `long.js`. Returns the number of loaded files, the length of the contents in bytes, and
 // whether the contents equal `bytes`.
-fn long_loaded<F: Files>(rt: &F, alloc: Global, folder: &str, bytes: &[u8]) -> Result<String> {
+fn load_long<F: Files>(rt: &F, alloc: Global, folder: &str, bytes: &[u8]) -> Result<String> {
     let mut builder = builder(alloc, folder, &["long.js"], None)?;
     let count = builder.load_local_source_contents(rt, folder, None)?;
     let contents = builder.get_source_contents(0).unwrap_or("");
@@ -275,7 +275,7 @@ fn a_long_file_is_loaded_whole(rt: HostRuntime) -> io::Result<()> {
     let folder = folder(&rt, "a_long_file_is_loaded_whole")?;
     let bytes = vec![in rt.alloc(); b'y'; 10_000_003]?;
     fs::write(&rt, "a_long_file_is_loaded_whole/long.js", bytes.as_slice())?;
-    let answer = long_loaded(&rt, rt.alloc(), folder.as_str(), bytes.as_slice());
+    let answer = load_long(&rt, rt.alloc(), folder.as_str(), bytes.as_slice());
     check!(rt, "a long file", answer, "1 10000003 true");
     fs::remove_dir_all(&rt, "a_long_file_is_loaded_whole")
 }

@@ -115,7 +115,7 @@ fn options<'a>(row: &'a Row, folder: &'a str) -> RewriteOptions<'a> {
     }
 }
 
-fn rewritten_row<'a, F: Files>(
+fn rewrite_row<'a, F: Files>(
     rt: &F,
     alloc: Global,
     folder: &'a str,
@@ -127,7 +127,7 @@ fn rewritten_row<'a, F: Files>(
 
 fn check_row<R: Files + AllocGlobal + Abort>(rt: &R, folder: &str, at: usize) {
     if let Some(row) = ROWS.get(at) {
-        let answer = rewritten_row(rt, rt.alloc(), folder, row);
+        let answer = rewrite_row(rt, rt.alloc(), folder, row);
         check!(rt, row.about, answer, row.want);
     }
 }
@@ -144,7 +144,7 @@ fn a_rewritten_map_has_what_files_hold(rt: HostRuntime) -> io::Result<()> {
 const HERMES: &str =
     r#"{"mappings":"ACAA","sources":["b.js","a.js"],"x_facebook_sources":[null,[{"mappings":"AAA","names":["f"]}]]}"#;
 
-fn hermes_rewritten<F: Files>(
+fn rewrite_hermes<F: Files>(
     rt: &F,
     alloc: Global,
     text: &str,
@@ -160,7 +160,7 @@ fn hermes_rewritten<F: Files>(
 const INDEX: &str =
     r#"{"sections":[{"map":{"mappings":"AAAA","sources":["a.js"]},"offset":{"column":0,"line":0}},{"map":{"mappings":"AAAA","sourceRoot":"sub","sources":["c.js"]},"offset":{"column":0,"line":1}}]}"#;
 
-fn flat_rewritten<F: Files>(
+fn rewrite_flat<F: Files>(
     rt: &F,
     alloc: Global,
     text: &str,
@@ -179,9 +179,9 @@ fn rewritten_maps_of_other_kinds_have_what_files_hold(rt: HostRuntime) -> io::Re
         base_path: Some(folder.as_str()),
         ..RewriteOptions::default()
     };
-    let answer = hermes_rewritten(&rt, rt.alloc(), HERMES, &options);
+    let answer = rewrite_hermes(&rt, rt.alloc(), HERMES, &options);
     check!(rt, "a Hermes map", answer, "a.js [x];f");
-    let answer = flat_rewritten(&rt, rt.alloc(), INDEX, &options);
+    let answer = rewrite_flat(&rt, rt.alloc(), INDEX, &options);
     check!(rt, "an index", answer, "a.js [x];sub/c.js [c];");
     fs::remove_dir_all(&rt, name)
 }

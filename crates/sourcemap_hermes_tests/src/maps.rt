@@ -130,7 +130,7 @@ fn scopes_are_written_unchanged(rt: HostRuntime) {
     }
 }
 
-fn bytes_written(alloc: Global, text: &str) -> Result<String> {
+fn write_bytes(alloc: Global, text: &str) -> Result<String> {
     let mut bytes = Vec::new(alloc);
     map_of(alloc, text)?.to_writer(&mut bytes)?;
     match String::from_utf8(bytes) {
@@ -142,14 +142,14 @@ fn bytes_written(alloc: Global, text: &str) -> Result<String> {
 #[test]
 fn bytes_are_those_of_the_record(rt: HostRuntime) {
     for text in WRITTEN.iter() {
-        check!(rt, text, bytes_written(rt.alloc(), text), text);
+        check!(rt, text, write_bytes(rt.alloc(), text), text);
     }
 }
 
 // Whether the encoded map decodes to an equal map.
 fn is_read_back(alloc: Global, text: &str) -> Result<String> {
     let map = map_of(alloc, text)?;
-    let bytes = bytes_written(alloc, text)?;
+    let bytes = write_bytes(alloc, text)?;
     let back = map_of(alloc, bytes.as_str())?;
     let is_same = *map == *back;
     Ok(format!(in alloc; "{is_same}")?)

@@ -167,7 +167,7 @@ fn write_scopes(alloc: Global, lists: ScopeLists) -> Result<String> {
     Ok(record.into_value(alloc)?.to_string(alloc)?)
 }
 
-fn selected_written(alloc: Global, text: &str, ids: &[u32]) -> Result<String> {
+fn write_selected(alloc: Global, text: &str, ids: &[u32]) -> Result<String> {
     let selected = select_scopes(alloc, text, ids)?;
     write_scopes(alloc, selected.into_entries())
 }
@@ -210,7 +210,7 @@ static SELECTED: [(&str, &str, &[u32], &str); 5] = [
 #[test]
 fn selected_scopes_are_written(rt: HostRuntime) {
     for (about, text, ids, want) in SELECTED.iter() {
-        check!(rt, about, selected_written(rt.alloc(), text, ids), want);
+        check!(rt, about, write_selected(rt.alloc(), text, ids), want);
     }
 }
 
@@ -253,7 +253,7 @@ fn is_as_its_copy(scopes: &SourceScopes) -> Result<bool> {
     Ok(copy == *scopes)
 }
 
-fn copy_written(alloc: Global, scopes: &SourceScopes) -> Result<String> {
+fn write_copy(alloc: Global, scopes: &SourceScopes) -> Result<String> {
     write_scopes(alloc, scopes.copy_entries()?)
 }
 
@@ -268,7 +268,7 @@ fn compare_scopes(alloc: Global, text: &str, other: &str) -> Result<(bool, bool,
 
 fn copy_scopes(alloc: Global, text: &str) -> Result<String> {
     let scopes = scopes(alloc, text)?;
-    copy_written(alloc, &scopes)
+    write_copy(alloc, &scopes)
 }
 
 #[test]

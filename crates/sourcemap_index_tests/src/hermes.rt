@@ -47,12 +47,12 @@ fn name_text(map: &DecodedMap, offset: u32) -> &str {
     }
 }
 
-fn name_copied(alloc: Global, map: &DecodedMap, offset: u32) -> Result<String> {
+fn copy_name(alloc: Global, map: &DecodedMap, offset: u32) -> Result<String> {
     Ok(String::from_str(alloc, name_text(map, offset))?)
 }
 
 fn name_at(alloc: Global, text: &str, offset: u32) -> Result<String> {
-    name_copied(alloc, &*map_of(alloc, text)?, offset)
+    copy_name(alloc, &*map_of(alloc, text)?, offset)
 }
 
 // A map, a bytecode offset, and the name of the function at this offset, or `none`. For an index

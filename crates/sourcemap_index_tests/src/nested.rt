@@ -22,7 +22,7 @@ fn wrap_map(alloc: Global, map: DecodedMap) -> Result<DecodedMap> {
     Ok(DecodedMap::Index(SourceMapIndex::new(alloc, None, sections)))
 }
 
-fn wrapped_often(alloc: Global, depth: usize) -> Result<DecodedMap> {
+fn wrap_often(alloc: Global, depth: usize) -> Result<DecodedMap> {
     let mut map = decode_slice(alloc, INNERMOST.as_bytes())?;
     for _ in 0..depth {
         map = wrap_map(alloc, map)?;
@@ -31,7 +31,7 @@ fn wrapped_often(alloc: Global, depth: usize) -> Result<DecodedMap> {
 }
 
 fn nested_index(alloc: Global, depth: usize) -> Result<Box<DecodedMap>> {
-    box_result(alloc, wrapped_often(alloc, depth))
+    box_result(alloc, wrap_often(alloc, depth))
 }
 
 fn nested_text(alloc: Global, depth: usize) -> Result<String> {
@@ -92,13 +92,13 @@ fn text_beside(alloc: Global, map: &DecodedMap, made: &DecodedMap) -> Result<Str
     Ok(format!(in alloc; "{token} {}", *made == *map)?)
 }
 
-fn value_read(alloc: Global, value: Result<Value>) -> Result<Box<DecodedMap>> {
+fn read_value(alloc: Global, value: Result<Value>) -> Result<Box<DecodedMap>> {
     let value = value?;
     box_result(alloc, DecodedMap::from_value(alloc, &value))
 }
 
 fn read_back_text(alloc: Global, map: &DecodedMap) -> Result<String> {
-    text_beside(alloc, map, &*value_read(alloc, map.to_value())?)
+    text_beside(alloc, map, &*read_value(alloc, map.to_value())?)
 }
 
 fn read_back(alloc: Global, depth: usize) -> Result<String> {
@@ -115,23 +115,23 @@ fn copy_nested(alloc: Global, depth: usize) -> Result<String> {
 }
 
 fn moved_text(alloc: Global, map: &DecodedMap, value: Result<Value>) -> Result<String> {
-    text_beside(alloc, map, &*value_read(alloc, value)?)
+    text_beside(alloc, map, &*read_value(alloc, value)?)
 }
 
 fn move_nested(alloc: Global, depth: usize) -> Result<String> {
-    let value = wrapped_often(alloc, depth)?.into_value();
+    let value = wrap_often(alloc, depth)?.into_value();
     moved_text(alloc, &*nested_index(alloc, depth)?, value)
 }
 
 // How many sections occur in the `Debug` text of a map.
-fn sections_printed(alloc: Global, map: &DecodedMap) -> Result<String> {
+fn count_sections(alloc: Global, map: &DecodedMap) -> Result<String> {
     let text = format!(in alloc; "{map:?}")?;
     let count = text.split("SourceMapSection {").skip(1).count();
     Ok(format!(in alloc; "{count}")?)
 }
 
 fn print_nested(alloc: Global, depth: usize) -> Result<String> {
-    sections_printed(alloc, &*nested_index(alloc, depth)?)
+    count_sections(alloc, &*nested_index(alloc, depth)?)
 }
 
 #[test]

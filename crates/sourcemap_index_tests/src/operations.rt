@@ -123,7 +123,7 @@ fn index_maps_are_flattened(rt: HostRuntime) {
     }
 }
 
-fn flat_rewritten<F: Files>(
+fn rewrite_flat<F: Files>(
     rt: &F,
     alloc: Global,
     text: &str,
@@ -182,7 +182,7 @@ fn flat_maps_are_rewritten(rt: HostRuntime) {
             load_local_source_contents: *load_contents,
             ..RewriteOptions::default()
         };
-        let got = flat_rewritten(&rt, rt.alloc(), text, &options);
+        let got = rewrite_flat(&rt, rt.alloc(), text, &options);
         check!(rt, text, got, want);
     }
 }
@@ -458,13 +458,13 @@ fn copies_text(alloc: Global, index: &SourceMapIndex) -> Result<String> {
     Ok(format!(in alloc; "{index_copied} {section_copied}")?)
 }
 
-fn parts_copied(alloc: Global, text: &str) -> Result<String> {
+fn copy_parts(alloc: Global, text: &str) -> Result<String> {
     copies_text(alloc, &*index_of(alloc, text)?)
 }
 
 #[test]
 fn copies_of_indexes_and_sections_are_equal(rt: HostRuntime) {
     for text in [TWO, LINKED, NEITHER, NESTED, HERMES].iter() {
-        check!(rt, text, parts_copied(rt.alloc(), text), "true true");
+        check!(rt, text, copy_parts(rt.alloc(), text), "true true");
     }
 }

@@ -117,7 +117,7 @@ fn maps_of_any_kind_are_read(rt: HostRuntime) {
 // Decodes the first `end` bytes of a text. Returns the text of the token closest to position 0:0,
 // or the text of the decoding error. Returns `none` if the map has no such token, or if the text
 // has fewer than `end` bytes. Out of memory stays an error.
-fn beginning_read(alloc: Global, text: &str, end: usize) -> Result<String> {
+fn read_beginning(alloc: Global, text: &str, end: usize) -> Result<String> {
     match text.as_bytes().get(..end) {
         None => Ok(String::from_str(alloc, "none")?),
         Some(bytes) => lookup_text(alloc, decode_slice(alloc, bytes)),
@@ -128,7 +128,7 @@ fn beginning_read(alloc: Global, text: &str, end: usize) -> Result<String> {
 fn proper_beginnings_of_a_text_are_no_json(rt: HostRuntime) {
     let want = "bad json: the text is not JSON";
     for end in 0..README.len() {
-        check!(rt, want, beginning_read(rt.alloc(), README, end), want);
+        check!(rt, want, read_beginning(rt.alloc(), README, end), want);
     }
 }
 

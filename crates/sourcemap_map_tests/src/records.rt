@@ -68,7 +68,7 @@ fn sections_in(alloc: Global, text: &str) -> Result<Vec<RawSection>> {
 }
 
 // The comparison of each section with the first.
-fn compared_with_first(alloc: Global, sections: &[RawSection]) -> Result<String> {
+fn compare_with_first(alloc: Global, sections: &[RawSection]) -> Result<String> {
     let mut out = String::new(alloc);
     if let Some(first) = sections.first() {
         for section in sections {
@@ -78,13 +78,13 @@ fn compared_with_first(alloc: Global, sections: &[RawSection]) -> Result<String>
     Ok(out)
 }
 
-fn sections_compared(alloc: Global, text: &str) -> Result<String> {
+fn compare_sections(alloc: Global, text: &str) -> Result<String> {
     let sections = sections_in(alloc, text)?;
-    compared_with_first(alloc, sections.as_slice())
+    compare_with_first(alloc, sections.as_slice())
 }
 
 #[test]
 fn sections_that_differ_in_a_field_are_not_equal(rt: HostRuntime) {
-    let got = sections_compared(rt.alloc(), SECTIONS);
+    let got = compare_sections(rt.alloc(), SECTIONS);
     check!(rt, "sections", got, "==!!!!!");
 }

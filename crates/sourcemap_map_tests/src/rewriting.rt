@@ -1,5 +1,5 @@
 // Rewriting of maps.
-use crate::samples::record_written;
+use crate::samples::record_text;
 use sourcemap::errors::Result;
 use sourcemap::types::{RewriteOptions, SourceMap};
 use sourcemap_test_support::check;
@@ -19,7 +19,7 @@ fn rewrite_with<F: Files>(
 
 fn write_rewritten(alloc: Global, map: Result<SourceMap>) -> Result<String> {
     match map {
-        Ok(map) => record_written(alloc, map.into_raw_sourcemap()),
+        Ok(map) => record_text(alloc, map.into_raw_sourcemap()),
         Err(error) => error_text(alloc, &error),
     }
 }

@@ -108,15 +108,15 @@ pub fn record_of(map: Made) -> Result<RawSourceMap> {
 /// The JSON text of the record that `into_raw_sourcemap` returns for the map. Returns the error of
 /// `map` if there is one. The only other error is out of memory.
 pub fn map_text(alloc: Global, map: Made) -> Result<String> {
-    record_written(alloc, Box::into_inner(map?).into_raw_sourcemap())
+    record_text(alloc, Box::into_inner(map?).into_raw_sourcemap())
 }
 
 /// The JSON text of a record. Consumes the record. Returns the error of `record` if there is one.
 /// The only other error is out of memory.
-pub fn record_written(alloc: Global, record: Result<RawSourceMap>) -> Result<String> {
-    value_written(alloc, record?.into_value(alloc))
+pub fn record_text(alloc: Global, record: Result<RawSourceMap>) -> Result<String> {
+    value_text(alloc, record?.into_value(alloc))
 }
 
-pub fn value_written(alloc: Global, value: Result<Value>) -> Result<String> {
+pub fn value_text(alloc: Global, value: Result<Value>) -> Result<String> {
     Ok(value?.to_string(alloc)?)
 }

@@ -19,13 +19,13 @@ fn compared_text(alloc: Global, map: &SourceMap) -> Result<String> {
     Ok(format!(in alloc; "{:?}", compare_tokens(map))?)
 }
 
-fn mixed_compared(alloc: Global) -> Result<String> {
+fn compare_mixed(alloc: Global) -> Result<String> {
     compared_text(alloc, &*mixed_map(alloc)?)
 }
 
 #[test]
 fn tokens_are_ordered_by_their_answers(rt: HostRuntime) {
-    let answer = mixed_compared(rt.alloc());
+    let answer = compare_mixed(rt.alloc());
     check!(rt, "order", answer, "Some((true, false, true))");
 }
 

@@ -1,6 +1,6 @@
 // Tests of the encoding of maps: as records, as JSON values, and as bytes. The writers take one
 // byte in each write, and some fail after a number of bytes.
-use crate::samples::{Made, map_text, record_of, record_written, value_written};
+use crate::samples::{Made, map_text, record_of, record_text, value_text};
 use serde_json::Value;
 use sourcemap::decoder::decode_regular;
 use sourcemap::encoder::{Encodable, encode, encode_to};
@@ -92,7 +92,7 @@ pub fn decode_boxed(alloc: Global, text: &str) -> Result<Box<DecodedMap>> {
 // the map.
 
 fn by_record(alloc: Global, text: &str) -> Result<String> {
-    record_written(alloc, record_of(regular(alloc, text)))
+    record_text(alloc, record_of(regular(alloc, text)))
 }
 
 fn by_moved_record(alloc: Global, text: &str) -> Result<String> {
@@ -105,16 +105,16 @@ fn by_moved_record(alloc: Global, text: &str) -> Result<String> {
 
 fn by_value(alloc: Global, text: &str) -> Result<String> {
     let map = decode_boxed(alloc, text)?;
-    again(|| value_written(alloc, map.to_value()))
+    again(|| value_text(alloc, map.to_value()))
 }
 
 fn by_moved_value(alloc: Global, text: &str) -> Result<String> {
     let value = Value::from_str(alloc, text)?;
-    again(|| moved_written(alloc, DecodedMap::from_value(alloc, &value)))
+    again(|| write_moved(alloc, DecodedMap::from_value(alloc, &value)))
 }
 
-fn moved_written(alloc: Global, map: Result<DecodedMap>) -> Result<String> {
-    value_written(alloc, map?.into_value())
+fn write_moved(alloc: Global, map: Result<DecodedMap>) -> Result<String> {
+    value_text(alloc, map?.into_value())
 }
 
 fn check_each_way(rt: &impl Abort, alloc: Global, about: &str, text: &str, want: &str) {
@@ -267,11 +267,11 @@ fn encoded_text<M: Encodable>(alloc: Global, map: &M, capacity: usize) -> Result
     encode_again(alloc, map, &mut writer)
 }
 
-fn regular_encoded(alloc: Global, text: &str, capacity: usize) -> Result<String> {
+fn encode_regular(alloc: Global, text: &str, capacity: usize) -> Result<String> {
     encoded_text(alloc, &*regular(alloc, text)?, capacity)
 }
 
-fn any_encoded(alloc: Global, text: &str, capacity: usize) -> Result<String> {
+fn encode_any(alloc: Global, text: &str, capacity: usize) -> Result<String> {
     encoded_text(alloc, &*decode_boxed(alloc, text)?, capacity)
 }
 
@@ -279,8 +279,8 @@ fn any_encoded(alloc: Global, text: &str, capacity: usize) -> Result<String> {
 fn nothing_is_written_without_memory(rt: HostRuntime) {
     let alloc = rt.alloc();
     for (about, text, want) in WRITTEN.iter() {
-        check!(rt, about, regular_encoded(alloc, text, want.len()), want);
-        check!(rt, about, any_encoded(alloc, text, want.len()), want);
+        check!(rt, about, encode_regular(alloc, text, want.len()), want);
+        check!(rt, about, encode_any(alloc, text, want.len()), want);
     }
 }
 

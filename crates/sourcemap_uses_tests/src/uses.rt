@@ -255,7 +255,7 @@ fn a_data_url_holds_its_map(rt: HostRuntime) -> std::result::Result<(), Fail> {
     Ok(())
 }
 
-// A generated text, and what `map_found` returns for this text. The path of the text is
+// A generated text, and what `find_map_text` returns for this text. The path of the text is
 // `/out/a.js`. For an embedded map, the result is `in the text`. For a map in a file, the result is
 // the path of this file. If no map is found, the result is `nowhere`. For an error, the result is
 // the text of the error.
@@ -280,7 +280,7 @@ fn found_text(alloc: Global, found: &FoundMap) -> Result<String> {
     }
 }
 
-fn map_found(alloc: Global, text: &str) -> Result<String> {
+fn find_map_text(alloc: Global, text: &str) -> Result<String> {
     match box_result(alloc, find_map(alloc, text.as_bytes(), "/out/a.js")) {
         Ok(found) => found_text(alloc, &*found),
         Err(error) => Ok(format!(in alloc; "{error}")?),
@@ -290,7 +290,7 @@ fn map_found(alloc: Global, text: &str) -> Result<String> {
 #[test]
 fn a_text_names_its_map(rt: HostRuntime) -> std::result::Result<(), Fail> {
     for (text, want) in FOUND.iter() {
-        assert_eq!(rt; map_found(rt.alloc(), text)?.as_str(), *want);
+        assert_eq!(rt; find_map_text(rt.alloc(), text)?.as_str(), *want);
     }
     Ok(())
 }
