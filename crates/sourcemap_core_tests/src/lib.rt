@@ -8,13 +8,13 @@ mod common_prefixes;
 #[cfg(test)]
 mod composition;
 #[cfg(test)]
+mod interning;
+#[cfg(test)]
 mod line_index;
 #[cfg(test)]
 mod mappings;
 #[cfg(test)]
 mod paths;
-#[cfg(test)]
-mod text_index;
 #[cfg(test)]
 mod token_lists;
 #[cfg(test)]

@@ -1,7 +1,5 @@
-//! Lists of tokens and interned texts, and searches in them.
-use crate::text_index::numbered_texts;
+//! Lists of tokens, and searches in them.
 use sourcemap_core::errors::Result;
-use sourcemap_core::interner::Interner;
 use sourcemap_core::tokens::{NO_ID, RawToken, sort_tokens, tokens_in_order};
 use sourcemap_core::utils::greatest_lower_bound;
 use sourcemap_line_index::token_list::TokenList;
@@ -147,89 +145,4 @@ fn finds_first_at_and_last_before(rt: HostRuntime) {
     for (count, key, want) in BOUNDS.iter() {
         check!(rt, want, bound(rt.alloc(), *count, *key), want);
     }
-}
-
-static TEXTS: [&str; 7] = ["b", "a", "b", "", "a", "B", ""];
-
-fn push_ids(out: &mut String, interner: &mut Interner) -> Result<()> {
-    for text in TEXTS.iter() {
-        let id = interner.add(text)?;
-        write!(out, "{id} ")?;
-    }
-    Ok(())
-}
-
-fn ids(alloc: Global) -> Result<String> {
-    let mut out = String::new(alloc);
-    let mut interner = Interner::new(alloc);
-    push_ids(&mut out, &mut interner)?;
-    Ok(out)
-}
-
-fn fill_interner(alloc: Global) -> Result<Interner> {
-    let mut interner = Interner::new(alloc);
-    for text in TEXTS.iter() {
-        interner.add(text)?;
-    }
-    Ok(interner)
-}
-
-fn interned_texts(alloc: Global) -> Result<String> {
-    let interner = fill_interner(alloc)?;
-    let texts = (
-        interner.get(0),
-        interner.get(2),
-        interner.get(4),
-        interner.get(NO_ID),
-    );
-    Ok(format!(in alloc; "{} {texts:?}", interner.len())?)
-}
-
-fn texts_text(alloc: Global) -> Result<String> {
-    let texts = fill_interner(alloc)?.into_texts();
-    Ok(format!(in alloc; "{texts:?}")?)
-}
-
-#[test]
-fn equal_texts_have_one_number(rt: HostRuntime) {
-    let alloc = rt.alloc();
-    assert!(rt; Interner::new(alloc).is_empty());
-    check!(rt, "ids", ids(alloc), "0 1 0 2 1 3 2 ");
-    let got = interned_texts(alloc);
-    check!(rt, "texts", got, r#"4 (Some("b"), Some(""), None, None)"#);
-    check!(rt, "all texts", texts_text(alloc), r#"["b", "a", "", "B"]"#);
-}
-
-// How many of `texts` get their index as id.
-fn count_interned(interner: &mut Interner, texts: &[String]) -> Result<usize> {
-    let mut count = 0;
-    for (at, text) in texts.iter().enumerate() {
-        if interner.add(text.as_str())? as usize == at {
-            count += 1;
-        }
-    }
-    Ok(count)
-}
-
-// The result of `count_interned` on a first and on a second pass, then the number of strings.
-fn interning_text(alloc: Global, start: &str, end: &str, count: usize) -> Result<String> {
-    let texts = numbered_texts(alloc, start, end, count)?;
-    let mut interner = Interner::new(alloc);
-    let first = count_interned(&mut interner, texts.as_slice())?;
-    let again = count_interned(&mut interner, texts.as_slice())?;
-    Ok(format!(in alloc; "{first} {again} of {}", interner.len())?)
-}
-
-// All texts of the second row have the same hash. bench/colliding.py writes such texts.
-#[test]
-fn interned_texts_have_ids_of_their_own(rt: HostRuntime) {
-    let got = interning_text(rt.alloc(), "name", "", 3000);
-    check!(rt, "usual texts", got, "3000 3000 of 3000");
-    let got = interning_text(
-        rt.alloc(),
-        "webpack:00000019v}kzYA]7",
-        "/src/app/file.js",
-        300,
-    );
-    check!(rt, "texts that collide", got, "300 300 of 300");
 }

@@ -1,5 +1,7 @@
-//! Numbering of texts, also of texts whose hashes collide.
+//! Interned texts and numbered texts, also texts whose hashes collide.
 use sourcemap_core::errors::Result;
+use sourcemap_core::interner::Interner;
+use sourcemap_core::tokens::NO_ID;
 use sourcemap_interning::text_index::TextIndex;
 use sourcemap_test_support::check;
 use std::alloc::Global;
@@ -7,7 +9,7 @@ use std::alloc::Global;
 // The largest number of texts of an index.
 const MOST: usize = 4294967295;
 
-static TEXTS: [&str; 7] = ["b", "a", "b", "", "ab", "a", ""];
+static NUMBERED: [&str; 7] = ["b", "a", "b", "", "ab", "a", ""];
 
 // The number that a new index assigns to each text, then the count of texts in the index. Once the
 // index has `MOST` texts, all further texts are skipped.
@@ -26,13 +28,13 @@ fn numbers(alloc: Global, texts: &[&str]) -> Result<String> {
 
 #[test]
 fn numbers_texts_by_their_first_use(rt: HostRuntime) {
-    let got = numbers(rt.alloc(), &TEXTS);
+    let got = numbers(rt.alloc(), &NUMBERED);
     check!(rt, "equal texts", got, "0 1 0 2 3 1 2 of 4");
 }
 
 // `count` texts, numbered from 0. Each text is `start`, then its number, padded with leading zeros
 // to at least eight digits, then `end`.
-pub fn numbered_texts(alloc: Global, start: &str, end: &str, count: usize) -> Result<Vec<String>> {
+fn numbered_texts(alloc: Global, start: &str, end: &str, count: usize) -> Result<Vec<String>> {
     let mut texts = Vec::new(alloc);
     for number in 0..count {
         texts.push(format!(in alloc; "{start}{number:08}{end}")?)?;
@@ -87,4 +89,89 @@ fn numbers_texts_that_collide(rt: HostRuntime) {
         300,
     );
     check!(rt, "texts that collide", answer, "300 300 true false");
+}
+
+static INTERNED: [&str; 7] = ["b", "a", "b", "", "a", "B", ""];
+
+fn push_ids(out: &mut String, interner: &mut Interner) -> Result<()> {
+    for text in INTERNED.iter() {
+        let id = interner.add(text)?;
+        write!(out, "{id} ")?;
+    }
+    Ok(())
+}
+
+fn ids(alloc: Global) -> Result<String> {
+    let mut out = String::new(alloc);
+    let mut interner = Interner::new(alloc);
+    push_ids(&mut out, &mut interner)?;
+    Ok(out)
+}
+
+fn fill_interner(alloc: Global) -> Result<Interner> {
+    let mut interner = Interner::new(alloc);
+    for text in INTERNED.iter() {
+        interner.add(text)?;
+    }
+    Ok(interner)
+}
+
+fn interned_texts(alloc: Global) -> Result<String> {
+    let interner = fill_interner(alloc)?;
+    let texts = (
+        interner.get(0),
+        interner.get(2),
+        interner.get(4),
+        interner.get(NO_ID),
+    );
+    Ok(format!(in alloc; "{} {texts:?}", interner.len())?)
+}
+
+fn texts_text(alloc: Global) -> Result<String> {
+    let texts = fill_interner(alloc)?.into_texts();
+    Ok(format!(in alloc; "{texts:?}")?)
+}
+
+#[test]
+fn equal_texts_have_one_number(rt: HostRuntime) {
+    let alloc = rt.alloc();
+    assert!(rt; Interner::new(alloc).is_empty());
+    check!(rt, "ids", ids(alloc), "0 1 0 2 1 3 2 ");
+    let got = interned_texts(alloc);
+    check!(rt, "texts", got, r#"4 (Some("b"), Some(""), None, None)"#);
+    check!(rt, "all texts", texts_text(alloc), r#"["b", "a", "", "B"]"#);
+}
+
+// How many of `texts` get their index as id.
+fn count_interned(interner: &mut Interner, texts: &[String]) -> Result<usize> {
+    let mut count = 0;
+    for (at, text) in texts.iter().enumerate() {
+        if interner.add(text.as_str())? as usize == at {
+            count += 1;
+        }
+    }
+    Ok(count)
+}
+
+// The result of `count_interned` on a first and on a second pass, then the number of strings.
+fn interning_text(alloc: Global, start: &str, end: &str, count: usize) -> Result<String> {
+    let texts = numbered_texts(alloc, start, end, count)?;
+    let mut interner = Interner::new(alloc);
+    let first = count_interned(&mut interner, texts.as_slice())?;
+    let again = count_interned(&mut interner, texts.as_slice())?;
+    Ok(format!(in alloc; "{first} {again} of {}", interner.len())?)
+}
+
+// All texts of the second row have the same hash. bench/colliding.py writes such texts.
+#[test]
+fn interned_texts_have_ids_of_their_own(rt: HostRuntime) {
+    let got = interning_text(rt.alloc(), "name", "", 3000);
+    check!(rt, "usual texts", got, "3000 3000 of 3000");
+    let got = interning_text(
+        rt.alloc(),
+        "webpack:00000019v}kzYA]7",
+        "/src/app/file.js",
+        300,
+    );
+    check!(rt, "texts that collide", got, "300 300 of 300");
 }
