@@ -1,9 +1,8 @@
 // Runs of `compose FILE`.
-use crate::fake_files::FakeFiles;
+use crate::fake_files::{FakeFiles, files_with};
 use crate::memory::unless_out;
 use crate::runs::words_of;
 use sourcemap_cli::program::{reply_to, run};
-use std::cell::Cell;
 use std::io;
 use std::io::ErrorKind;
 use std::test::Fail;
@@ -55,18 +54,6 @@ fn row_of(line: &str) -> Result<Row<'_>, Fail> {
     })
 }
 
-// A file system with this text at `a.map`.
-fn files_with(text: &str) -> FakeFiles<'_> {
-    FakeFiles {
-        path: "a.map",
-        bytes: text.as_bytes(),
-        left: None,
-        kind: ErrorKind::BrokenPipe,
-        fails_on_open: false,
-        is_opened: Cell::new(false),
-    }
-}
-
 // Whether `text` is `want` and a newline.
 fn is_line(text: &[u8], want: &str) -> bool {
     text.strip_suffix(b"\n") == Some(want.as_bytes())
@@ -98,7 +85,7 @@ fn is_run(
 
 // Whether a run with the file of a row ends as the row says.
 fn is_met(rt: &HostRuntime, words: &[String], row: &Row<'_>) -> Result<bool, Fail> {
-    let files = files_with(row.file);
+    let files = files_with("a.map", row.file);
     let is_so = is_run(rt, &files, words, row.input, row.status, row.text)?;
     Ok(is_so && files.is_opened.get() == row.is_opened)
 }
@@ -123,7 +110,7 @@ const ADJUSTMENT: &str = r#"{"sources":["t.js"],"mappings":"EAAA"}"#;
 // after `left` bytes. Returns whether the run prints `broken pipe` and a newline and ends with
 // status 1.
 fn is_refused(rt: &HostRuntime, words: &[String], left: usize) -> Result<bool, Fail> {
-    let mut files = files_with(ADJUSTMENT);
+    let mut files = files_with("a.map", ADJUSTMENT);
     files.left = Some(left);
     is_run(rt, &files, words, MAP, 1, "broken pipe")
 }
@@ -143,7 +130,7 @@ fn a_file_that_fails_is_refused(rt: HostRuntime) -> Result<(), Fail> {
 #[test]
 fn a_file_that_is_missing_is_refused(rt: HostRuntime) -> Result<(), Fail> {
     let words = words_of(rt.alloc(), "compose b.map")?;
-    let files = files_with(ADJUSTMENT);
+    let files = files_with("a.map", ADJUSTMENT);
     assert!(rt; is_run(&rt, &files, words.as_slice(), MAP, 1, "entity not found")?);
     let faulty = is_run(
         &rt,
@@ -170,7 +157,7 @@ fn read_errors_of_files_are_reported(rt: HostRuntime) -> Result<(), Fail> {
 #[test]
 fn no_other_command_opens_a_file(rt: HostRuntime) -> Result<(), Fail> {
     let words = words_of(rt.alloc(), "lookup 0 5")?;
-    let files = files_with(ADJUSTMENT);
+    let files = files_with("a.map", ADJUSTMENT);
     assert!(rt; is_run(&rt, &files, words.as_slice(), MAP, 0, "o.js:0:5")?);
     assert!(rt; !files.is_opened.get());
     Ok(())

@@ -22,6 +22,19 @@ pub struct FakeFiles<'a> {
     pub is_opened: Cell<bool>,
 }
 
+// A file system whose one file, at `path`, contains `text`. No call on the file fails. The kind of
+// errors is `BrokenPipe`, if a caller sets `left` or `fails_on_open` afterwards.
+pub fn files_with<'a>(path: &'a str, text: &'a str) -> FakeFiles<'a> {
+    FakeFiles {
+        path,
+        bytes: text.as_bytes(),
+        left: None,
+        kind: ErrorKind::BrokenPipe,
+        fails_on_open: false,
+        is_opened: Cell::new(false),
+    }
+}
+
 impl<'a> Files for FakeFiles<'a> {
     type File = FakeFile<'a>;
 

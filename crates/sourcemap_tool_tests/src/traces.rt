@@ -1,12 +1,11 @@
 // `trace_text`, and runs of `trace FILE`.
-use crate::fake_files::FakeFiles;
+use crate::fake_files::{FakeFiles, files_with};
 use crate::memory::unless_out;
 use crate::runs::{MAP, TWO, words_of};
 use sourcemap::{DecodedMap, Error, decode_slice};
 use sourcemap_cli::program::{reply_to, run};
 use sourcemap_trace::trace_text;
 use std::alloc::Global;
-use std::cell::Cell;
 use std::io;
 use std::io::ErrorKind;
 use std::test::Fail;
@@ -143,18 +142,6 @@ fn long_lines_and_many_are_answered(rt: HostRuntime) -> Result<(), Fail> {
     Ok(())
 }
 
-// A file system with these positions at `a.txt`.
-fn files_with(text: &str) -> FakeFiles<'_> {
-    FakeFiles {
-        path: "a.txt",
-        bytes: text.as_bytes(),
-        left: None,
-        kind: ErrorKind::BrokenPipe,
-        fails_on_open: false,
-        is_opened: Cell::new(false),
-    }
-}
-
 // Whether a run with these files prints this text and ends with this status.
 fn is_run(
     rt: &HostRuntime,
@@ -188,7 +175,7 @@ fn replies_with(
 fn runs_answer_positions(rt: HostRuntime) -> Result<(), Fail> {
     let words = words_of(rt.alloc(), "trace a.txt")?;
     for (map, positions, want) in TRACES.iter() {
-        let files = files_with(positions);
+        let files = files_with("a.txt", positions);
         assert!(rt;
             replies_with(&rt, words.as_slice(), map, positions, want)?,
             "{map} {positions}"
@@ -205,7 +192,7 @@ fn runs_answer_positions(rt: HostRuntime) -> Result<(), Fail> {
 // Whether a run prints `broken pipe` and a newline, and ends with status 1. Reading the file of
 // positions, `a.txt`, fails after `left` bytes.
 fn is_refused(rt: &HostRuntime, words: &[String], left: usize) -> Result<bool, Fail> {
-    let mut files = files_with("0:5\nx");
+    let mut files = files_with("a.txt", "0:5\nx");
     files.left = Some(left);
     is_run(rt, &files, words, MAP, 1, "broken pipe\n")
 }
@@ -220,7 +207,7 @@ fn files_of_positions_may_fail(rt: HostRuntime) -> Result<(), Fail> {
         );
     }
     let other = words_of(rt.alloc(), "trace b.txt")?;
-    let files = files_with("0:5");
+    let files = files_with("a.txt", "0:5");
     assert!(rt; is_run(&rt, &files, other.as_slice(), MAP, 1, "entity not found\n")?);
     Ok(())
 }
@@ -228,7 +215,7 @@ fn files_of_positions_may_fail(rt: HostRuntime) -> Result<(), Fail> {
 #[test]
 fn maps_are_decoded_before_positions_are_read(rt: HostRuntime) -> Result<(), Fail> {
     let words = words_of(rt.alloc(), "trace a.txt")?;
-    let files = files_with("0:5");
+    let files = files_with("a.txt", "0:5");
     let is_so = is_run(
         &rt,
         &files,
