@@ -6,9 +6,13 @@
 #[cfg(test)]
 mod changes;
 #[cfg(test)]
+mod copies;
+#[cfg(test)]
 mod debug_ids;
 #[cfg(test)]
 mod decoding;
+#[cfg(test)]
+mod flattening;
 #[cfg(test)]
 mod getters;
 #[cfg(test)]
@@ -20,10 +24,14 @@ mod maps;
 #[cfg(test)]
 mod nested;
 #[cfg(test)]
-mod operations;
-#[cfg(test)]
 mod readers;
+#[cfg(test)]
+mod samples;
+#[cfg(test)]
+mod shifting;
 #[cfg(test)]
 mod splitting;
 #[cfg(test)]
 mod writers;
+#[cfg(test)]
+mod writing;
