@@ -110,24 +110,24 @@ static ssize_t fails_with(int error) {
 }
 
 /* How many of `size` bytes a read or a write may move. If it must fail, -1, and `errno` is set. */
-static ssize_t allowed(enum call call, size_t size) {
+static ssize_t limit_call(enum call call, size_t size) {
     if (!is_failing(call)) return is_short && call == failing && size > 1 ? 1 : (ssize_t)size;
     if (how == INTERRUPTED || how == EACH_INTERRUPTED) return fails_with(EINTR);
     return how == ENDS ? 0 : fails_with(call == READ ? EIO : ENOSPC);
 }
 
 ssize_t read(int file, void *to, size_t size) {
-    ssize_t most = size == 0 ? 0 : allowed(READ, size);
+    ssize_t most = size == 0 ? 0 : limit_call(READ, size);
     return most <= 0 && size > 0 ? most : syscall(SYS_read, file, to, most);
 }
 
 ssize_t pread(int file, void *to, size_t size, off_t offset) {
-    ssize_t most = size == 0 ? 0 : allowed(READ, size);
+    ssize_t most = size == 0 ? 0 : limit_call(READ, size);
     return most <= 0 && size > 0 ? most : syscall(SYS_pread64, file, to, most, offset);
 }
 
 ssize_t write(int file, const void *from, size_t size) {
-    ssize_t most = size == 0 ? 0 : allowed(WRITE, size);
+    ssize_t most = size == 0 ? 0 : limit_call(WRITE, size);
     return most <= 0 && size > 0 ? most : syscall(SYS_write, file, from, most);
 }
 

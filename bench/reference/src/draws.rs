@@ -8,7 +8,7 @@ pub struct Draws {
 }
 
 impl Draws {
-    pub fn seeded(count: u64) -> Draws {
+    pub fn with_seed(count: u64) -> Draws {
         Draws { count }
     }
 

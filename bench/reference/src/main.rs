@@ -312,7 +312,7 @@ fn answer(form: Form, words: &[&str], output: &mut Output) -> Option<Result<()>>
         }
         ["positions", count, seed, ref wild @ ..] if wild.is_empty() || wild == ["wild"] => {
             let (count, seed) = (count.parse().ok()?, seed.parse().ok()?);
-            let draws = Draws::seeded(seed);
+            let draws = Draws::with_seed(seed);
             map().and_then(flat).and_then(|map| {
                 Ok(write_positions(
                     &map,
@@ -352,7 +352,7 @@ fn answer(form: Form, words: &[&str], output: &mut Output) -> Option<Result<()>>
             Ok(writeln!(output, "{}", map.get_token(0) == map.get_token(1))?)
         }),
         ["bench", operation, rounds] => {
-            let (operation, rounds) = (Operation::named(operation)?, rounds.parse().ok()?);
+            let (operation, rounds) = (Operation::from_word(operation)?, rounds.parse().ok()?);
             let sum = bytes()
                 .map_err(Error::from)
                 .and_then(|bytes| operation.repeat(&bytes, rounds));

@@ -62,7 +62,7 @@ fn short(length: usize) -> u32 {
 }
 
 fn drawn_positions(map: &SourceMap) -> Vec<(u32, u32)> {
-    let mut draws = Draws::seeded(1);
+    let mut draws = Draws::with_seed(1);
     (0..POSITIONS).map(|_| draws.beside_token(map)).collect()
 }
 
@@ -86,7 +86,7 @@ fn text_of(bytes: &[u8]) -> Result<&str> {
 }
 
 impl Operation {
-    pub fn named(word: &str) -> Option<Operation> {
+    pub fn from_word(word: &str) -> Option<Operation> {
         Some(match word {
             "decode" => Operation::Decode,
             "decode-reader" => Operation::DecodeReader,

@@ -13,7 +13,7 @@ use sourcemap_tokens::tokens::RawToken;
 #[derive(Clone, Copy)]
 pub(crate) struct Bound {
     line: u64,
-    col: u64,
+    column: u64,
 }
 
 /// Returns the end position of the module's text `view`, which begins at column 0 of `line`. A text
@@ -30,7 +30,7 @@ pub(crate) fn end_of(line: u32, view: &SourceView) -> Bound
     };
     Bound {
         line: u64::from(line).saturating_add(last),
-        col: units_in(text),
+        column: units_in(text),
     }
 }
 
@@ -43,7 +43,7 @@ pub(crate) fn tokens_in(tokens: &[RawToken], line: u32, end: Bound) -> &[RawToke
 {
     let start = Bound {
         line: u64::from(line),
-        col: 0,
+        column: 0,
     };
     let (_, later) = tokens.split_at(first_at(tokens, start));
     let (own, _) = later.split_at(first_at(later, end));
@@ -67,5 +67,5 @@ fn stands_before(token: &RawToken, bound: Bound) -> bool
         → result ≡ is_lt (position_cmp (destination token.now) b) }
 {
     let line = u64::from(token.dst_line);
-    line < bound.line || (line == bound.line && u64::from(token.dst_col) < bound.col)
+    line < bound.line || (line == bound.line && u64::from(token.dst_col) < bound.column)
 }

@@ -17,10 +17,10 @@ use sourcemap_json_write::writing::value_to_string;
 use std::alloc::Global;
 use std::rt::Files;
 
-fn lookup_line(alloc: Global, map: &DecodedMap, line: u32, column: u32) -> Result<String>
-    ensures { IsAnswer string_bytes (Returns (Lookup line column) (map_tree map.now) None) result }
+fn lookup_line(alloc: Global, map: &DecodedMap, line: u32, col: u32) -> Result<String>
+    ensures { IsAnswer string_bytes (Returns (Lookup line col) (map_tree map.now) None) result }
 {
-    match map.lookup_token(line, column) {
+    match map.lookup_token(line, col) {
         Some(token) => Ok(format!(in alloc; "{token}\n")?),
         None => Ok(String::from_str(alloc, "none\n")?),
     }

@@ -213,7 +213,7 @@ module _ (before : List Piece) (piece : Piece) where
   ignored-stay = flat_map-same (HasNumbers before) (ignored_in (before ++ piece ∷ [])) (ignored_in before)
       (λ old numbered. map-each (λ t. (token_in (before ++ piece ∷ []) old t).src_id) (λ t. (token_in before old t).src_id) (λ t. source-stays old numbered t.src_id) (filter (λ t. list_any (nat_eq t.src_id) old.1.ignored) old.1.tokens)) before (all-numbered-to before)
 
-  module _ (to : Move) (at : piece.0 ≡ (to.line, to.col))
+  module _ (to : Move) (at : piece.0 ≡ (to.line, to.column))
       (sources : to.sources.now ≡ numbers_among (all_source_entries before ++ source_entries piece.1) (source_entries piece.1))
       (names : to.names.now ≡ numbers_among (all_name_entries before ++ name_entries piece.1) (name_entries piece.1)) where
     source-new : (id : ℕ) → number_in (sources_in (before ++ piece ∷ [])) (source_of piece.1 id) ≡ new_number to.sources.now id
@@ -319,7 +319,7 @@ module _ (before : List Piece) (m : MapValue) (part : Part) (is : IsPartOf m par
     (sources : enters (all_source_entries before) (entry_values part.sources.now) to.sources.now new_sources)
     (names : enters (all_name_entries before) (entry_values part.names.now) to.names.now new_names) where
   piece : Piece
-  piece = ((to.line, to.col), m)
+  piece = ((to.line, to.column), m)
 
   entered_sources : enters (all_source_entries before) (source_entries m) to.sources.now new_sources
   entered_sources = subst (λ es. enters (all_source_entries before) es to.sources.now new_sources) is.sources sources
@@ -328,27 +328,27 @@ module _ (before : List Piece) (m : MapValue) (part : Part) (is : IsPartOf m par
   entered_names = subst (λ es. enters (all_name_entries before) es to.names.now new_names) is.names names
 
   pub part-refused : (reason : List ℕ) (e : Error) → reason ≡ codes "a position passes 4294967295"
-      → RefusesBy (list_any (is_past_end to) part.tokens.now) reason e → RefusesPiece before ((to.line, to.col), m) e
+      → RefusesBy (list_any (is_past_end to) part.tokens.now) reason e → RefusesPiece before ((to.line, to.column), m) e
   part-refused reason e same refused =
-      refused-tokens before ((to.line, to.col), m) entered_sources.table.few entered_names.table.few (is_past_end to) reason e same (λ t. refl)
+      refused-tokens before ((to.line, to.column), m) entered_sources.table.few entered_names.table.few (is_past_end to) reason e same (λ t. refl)
       (subst (λ ts. RefusesBy (list_any (is_past_end to) ts) reason e) is.tokens refused)
 
   pub part-gathered : (old new : Gathering) → Gathers before old → new.sources ≡ new_sources → new.names ≡ new_names
       → AreMoved to part.tokens.now old.tokens.items new.tokens.items
       → new.ignored.keys ≡ fold (insert_key nat_cmp) old.ignored.keys (ignored_numbers part.ignored.now.keys to.sources.now part.tokens.now)
-      → GathersMore before ((to.line, to.col), m) new
+      → GathersMore before ((to.line, to.column), m) new
   part-gathered old new so_far same_s same_n moved_part put =
       let moved : AreMoved to m.tokens old.tokens.items new.tokens.items = subst (λ ts. AreMoved to ts old.tokens.items new.tokens.items) is.tokens moved_part in
       let listed : new.ignored.keys ≡ fold (insert_key nat_cmp) old.ignored.keys (ignored_numbers m.ignored to.sources.now m.tokens) =
       put ∙ (λ i. fold (insert_key nat_cmp) old.ignored.keys (ignored_numbers (is.ignored i) to.sources.now (is.tokens i))) in
       record {
         gathered = record {
-          sources = subst (λ t. IsTable (all_source_entries (before ++ ((to.line, to.col), m) ∷ [])) t) (sym same_s)
-              (subst (λ es. IsTable es new_sources) (sym (all_sources before ((to.line, to.col), m))) entered_sources.table);
-          names = subst (λ t. IsTable (all_name_entries (before ++ ((to.line, to.col), m) ∷ [])) t) (sym same_n)
-              (subst (λ es. IsTable es new_names) (sym (all_names before ((to.line, to.col), m))) entered_names.table);
-          tokens = tokens-more before ((to.line, to.col), m) to refl entered_sources.each entered_names.each old.tokens.items new.tokens.items so_far.tokens moved;
-          ignored = ignored-more before ((to.line, to.col), m) to refl entered_sources.each entered_names.each old.ignored.keys new.ignored.keys so_far.ignored listed;
+          sources = subst (λ t. IsTable (all_source_entries (before ++ ((to.line, to.column), m) ∷ [])) t) (sym same_s)
+              (subst (λ es. IsTable es new_sources) (sym (all_sources before ((to.line, to.column), m))) entered_sources.table);
+          names = subst (λ t. IsTable (all_name_entries (before ++ ((to.line, to.column), m) ∷ [])) t) (sym same_n)
+              (subst (λ es. IsTable es new_names) (sym (all_names before ((to.line, to.column), m))) entered_names.table);
+          tokens = tokens-more before ((to.line, to.column), m) to refl entered_sources.each entered_names.each old.tokens.items new.tokens.items so_far.tokens moved;
+          ignored = ignored-more before ((to.line, to.column), m) to refl entered_sources.each entered_names.each old.ignored.keys new.ignored.keys so_far.ignored listed;
         };
-        due = fits before ((to.line, to.col), m) entered_sources.table.few entered_names.table.few (is_past_end to) (λ t. refl) moved.within;
+        due = fits before ((to.line, to.column), m) entered_sources.table.few entered_names.table.few (is_past_end to) (λ t. refl) moved.within;
       }

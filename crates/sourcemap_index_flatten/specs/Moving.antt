@@ -11,7 +11,7 @@ abbrev pub new_number : List ℕ → ℕ → ℕ
 new_number numbers id = unwrap_or (slice_get numbers id) no_id
 
 abbrev pub position_by : Move → RawToken → ℕ × ℕ
-position_by to t = absolute_position (to.line, to.col) (destination t)
+position_by to t = absolute_position (to.line, to.column) (destination t)
 
 abbrev pub is_past_end : Move → RawToken → Bool
 is_past_end to t = passes_the_end (position_by to t)

@@ -118,7 +118,7 @@ impl<'a> Gathering<'a> {
         let names = self.names.enter_all(alloc, part.names)?;
         let to = Move {
             line,
-            col,
+            column: col,
             sources: sources.as_slice(),
             names: names.as_slice(),
         };

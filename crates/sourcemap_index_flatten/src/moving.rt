@@ -22,7 +22,7 @@ use std::mem;
 #[derive(Clone, Copy)]
 pub(crate) struct Move<'a> {
     pub(crate) line: u32,
-    pub(crate) col: u32,
+    pub(crate) column: u32,
     pub(crate) sources: &'a [u32],
     pub(crate) names: &'a [u32],
 }
@@ -56,7 +56,7 @@ fn move_token(alloc: Global, token: RawToken, to: Move<'_>) -> Result<RawToken>
     ensures refused { IfErr result (RefusesBy (is_past_end to.entry token)
         (codes "a position passes 4294967295")) }
 {
-    match absolute_position(to.line, to.col, token) {
+    match absolute_position(to.line, to.column, token) {
         None => Err(past_the_end(alloc)),
         Some((line, col)) => Ok(RawToken {
             dst_line: line,

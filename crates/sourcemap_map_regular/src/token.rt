@@ -199,10 +199,10 @@ const POSITION_LENGTH: usize = 22;
 // Formats `:line:column` at the end of the buffer and returns this text. So `put` writes the
 // position to the formatter with one write. Four writes, one for each colon and each number, would
 // be slower.
-fn position_text(line: u32, column: u32, buffer: &mut [u8; POSITION_LENGTH]) -> &str
-    ensures { result.now ≡ codes ":" ++ decimal line ++ codes ":" ++ decimal column }
+fn position_text(line: u32, col: u32, buffer: &mut [u8; POSITION_LENGTH]) -> &str
+    ensures { result.now ≡ codes ":" ++ decimal line ++ codes ":" ++ decimal col }
 {
-    let start = write_digits(u64::from(column), buffer, POSITION_LENGTH) - 1;
+    let start = write_digits(u64::from(col), buffer, POSITION_LENGTH) - 1;
     buffer[start] = b':';
     let start = write_digits(u64::from(line), buffer, start) - 1;
     buffer[start] = b':';

@@ -43,12 +43,12 @@ fn text_at(alloc: Global, map: &DecodedMap, line: u32, col: u32) -> Result<Optio
 
 /// Returns the result of `lookup_text` for the position of a stack frame. The line and the column
 /// of the frame count from 1. Those in the result count from 0.
-pub fn frame_text(alloc: Global, bytes: &[u8], line: u32, column: u32) -> Result<Option<String>>
+pub fn frame_text(alloc: Global, bytes: &[u8], line: u32, col: u32) -> Result<Option<String>>
     requires line { 0 < line }
-    requires column { 0 < column }
+    requires column { 0 < col }
     ensures position { IfOk result
-        (λ text. IsLookupText bytes.now (line - 1, column - 1) (option_map string_bytes text)) }
+        (λ text. IsLookupText bytes.now (line - 1, col - 1) (option_map string_bytes text)) }
     ensures error { IfErr result (λ e. UnlessMemory e (BytesDecode bytes.now (Err e))) }
 {
-    lookup_text(alloc, bytes, line - 1, column - 1)
+    lookup_text(alloc, bytes, line - 1, col - 1)
 }

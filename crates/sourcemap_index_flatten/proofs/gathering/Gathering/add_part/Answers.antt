@@ -26,7 +26,7 @@ returns-in_err-names-clause-refused c = λ before m g is.
 pub returns-in_err-move_all-clause-refused : goal.returns-in_err-move_all-clause-refused
 returns-in_err-move_all-clause-refused c = λ before m g is.
     let p = err_from_is_err_and c.from_residual-in_err-move_all.result c.from_residual-in_err-move_all.ensures.1 in
-    let to : Move = record { line = c.args.line; col = c.args.col; sources = c.as_slice.result; names = c.as_slice-2.result } in
+    let to : Move = record { line = c.args.line; column = c.args.col; sources = c.as_slice.result; names = c.as_slice-2.result } in
     rw (p.1, p.2)
     (part-refused before m c.args.part is to c.enter_all.new.self c.enter_all-2.new.self
     (subst (λ ids. AreEntered (all_source_entries before ++ entry_values c.args.part.sources.now) (entry_values c.args.part.sources.now) ids c.enter_all.new.self) (sym c.as_slice.ensures.value)
@@ -37,7 +37,7 @@ returns-in_err-move_all-clause-refused c = λ before m g is.
 
 pub returns-clause-ok : goal.returns-clause-ok
 returns-clause-ok c = λ before m g is.
-    let to : Move = record { line = c.args.line; col = c.args.col; sources = c.as_slice.result; names = c.as_slice-2.result } in
+    let to : Move = record { line = c.args.line; column = c.args.col; sources = c.as_slice.result; names = c.as_slice-2.result } in
     part-gathered before m c.args.part is to c.enter_all.new.self c.enter_all-2.new.self
     (subst (λ ids. AreEntered (all_source_entries before ++ entry_values c.args.part.sources.now) (entry_values c.args.part.sources.now) ids c.enter_all.new.self) (sym c.as_slice.ensures.value)
     (c.in_ok-sources.ensures.ok (all_source_entries before) g.sources))
