@@ -1,5 +1,6 @@
-// Texts of index maps that several modules decode.
-// Two sections, the second of which starts in the middle of a line.
+//! Texts of index maps that several modules decode.
+
+/// Two sections, the second of which starts in the middle of a line.
 pub const TWO: &str =
     r#"{"sections":[{"offset":{"line":0,"column":0},"map":{"sources":["a.js"],"mappings":"AAAA"}},{"offset":{"line":10,"column":4},"map":{"sources":["b.js"],"mappings":"AAAA"}}]}"#;
 
@@ -13,6 +14,6 @@ pub const NESTED: &str =
 pub const BUNDLE: &str =
     r#"{"sections":[],"x_facebook_offsets":[5,null],"x_metro_module_paths":["a.js"]}"#;
 
-// The second section has a Hermes map, and starts in the middle of a line.
+/// The second section has a Hermes map, and starts in the middle of a line.
 pub const HERMES: &str =
     r#"{"sections":[{"offset":{"line":0,"column":0},"map":{"sources":["a.js"],"mappings":"AAAA"}},{"offset":{"line":1,"column":2},"map":{"sources":["b.js"],"mappings":"AAAA;AAAA","x_facebook_sources":[[{"names":["f"],"mappings":"AAA"}],null]}}]}"#;
