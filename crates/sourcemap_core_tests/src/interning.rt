@@ -142,15 +142,15 @@ fn equal_texts_have_one_number(rt: HostRuntime) {
     check!(rt, "all texts", texts_text(alloc), r#"["b", "a", "", "B"]"#);
 }
 
-// How many of `texts` get their index as id.
+// Adds `texts` to `interner`, in order. Stops at `texts[at]` if its id is not `at`. Returns `at`
+// after a stop, otherwise the length of `texts`.
 fn count_interned(interner: &mut Interner, texts: &[String]) -> Result<usize> {
-    let mut count = 0;
     for (at, text) in texts.iter().enumerate() {
-        if interner.add(text.as_str())? as usize == at {
-            count += 1;
+        if interner.add(text.as_str())? as usize != at {
+            return Ok(at);
         }
     }
-    Ok(count)
+    Ok(texts.len())
 }
 
 // The result of `count_interned` on a first and on a second pass, then the number of strings.
