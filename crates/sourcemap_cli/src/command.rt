@@ -63,15 +63,15 @@ fn parse_verb_and_argument(alloc: Global, verb: &str, argument: &str) -> Result<
     }
 }
 
-fn parse_lookup(verb: &str, line: &str, column: &str) -> Option<Command>
+fn parse_lookup(verb: &str, line: &str, col: &str) -> Option<Command>
     ensures { MatchOption result
-        ((command : _) → ¬ AskFor (verb.now ∷ line.now ∷ column.now ∷ []) command)
-        (AskFor (verb.now ∷ line.now ∷ column.now ∷ [])) }
+        ((command : _) → ¬ AskFor (verb.now ∷ line.now ∷ col.now ∷ []) command)
+        (AskFor (verb.now ∷ line.now ∷ col.now ∷ [])) }
 {
     if verb != "lookup" {
         return None;
     }
-    Some(Command::Lookup(parse_number(line)?, parse_number(column)?))
+    Some(Command::Lookup(parse_number(line)?, parse_number(col)?))
 }
 
 /// Parses the arguments of a run. Returns `None` if they are no command. LINE, COL and ROWS are
@@ -86,7 +86,7 @@ pub fn parse_words(alloc: Global, words: &[String]) -> Result<Option<Command>>
     match words {
         [verb] => Ok(parse_verb(verb.as_str())),
         [verb, argument] => parse_verb_and_argument(alloc, verb.as_str(), argument.as_str()),
-        [verb, line, column] => Ok(parse_lookup(verb.as_str(), line.as_str(), column.as_str())),
+        [verb, line, col] => Ok(parse_lookup(verb.as_str(), line.as_str(), col.as_str())),
         _ => Ok(None),
     }
 }

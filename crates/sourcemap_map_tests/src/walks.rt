@@ -9,7 +9,7 @@ use std::alloc::Global;
 #[derive(Clone, Copy)]
 struct ChainToken {
     line: u32,
-    col: u32,
+    column: u32,
     name: Option<&'static str>,
 }
 
@@ -31,7 +31,7 @@ impl<'a> WalkedToken for Chain<'a> {
 
     ghost seen = { λ token. token.here };
 
-    ghost position_value = { λ token. (token.line, token.col) };
+    ghost position_value = { λ token. (token.line, token.column) };
 
     ghost name_of = { λ token. option_copied token.name };
 
@@ -40,7 +40,7 @@ impl<'a> WalkedToken for Chain<'a> {
     ghost before = { λ token. token.earlier.now };
 
     fn generated_position(&self) -> (u32, u32) {
-        (self.here.line, self.here.col)
+        (self.here.line, self.here.column)
     }
 
     fn name(&self) -> Option<&'static str> {
@@ -137,7 +137,7 @@ fn walk_text(alloc: Global, text: &str, positions: &[(u32, u32)]) -> Result<Stri
     for (line, col) in positions {
         chain_tokens.push(ChainToken {
             line: *line,
-            col: *col,
+            column: *col,
             name: None,
         })?;
     }
@@ -226,14 +226,14 @@ fn name_by_walk(alloc: Global, name: &str, walk: Walk) -> Result<String> {
     for number in 0..count {
         chain_tokens.push(ChainToken {
             line: 1,
-            col: count - number,
+            column: count - number,
             name: None,
         })?;
     }
     for (col, name) in columns {
         chain_tokens.push(ChainToken {
             line: 0,
-            col: *col,
+            column: *col,
             name: Some(*name),
         })?;
     }
@@ -285,12 +285,12 @@ fn compare_walks(alloc: Global, text: &str, name: &str) -> Result<String> {
     let chain_tokens = [
         ChainToken {
             line: 0,
-            col: 9,
+            column: 9,
             name: Some("foo"),
         },
         ChainToken {
             line: 0,
-            col: 0,
+            column: 0,
             name: None,
         },
     ];

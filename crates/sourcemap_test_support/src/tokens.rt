@@ -1,4 +1,4 @@
-//! Tokens from rows, the short form of a token in a table.
+//! Makes tokens from rows. A row is a short form of a token, for tables of tests.
 use sourcemap_errors::errors::Result;
 use sourcemap_tokens::tokens::RawToken;
 use std::alloc::Global;
@@ -20,7 +20,7 @@ pub fn token(row: Row) -> RawToken {
     }
 }
 
-/// The tokens of the rows, in order. The only error is out of memory.
+/// The tokens of the rows, in order. The only error is `OutOfMemory`.
 pub fn tokens(alloc: Global, rows: &[Row]) -> Result<Vec<RawToken>> {
     let mut tokens = Vec::new(alloc);
     for row in rows {
