@@ -1,5 +1,5 @@
 //! A hash table with open addressing. It finds the number of a text by the hash of the text. The
-//! texts are in a list beside the table. Those that found no free slot are also keys of its tree.
+//! texts themselves are in a list beside the table.
 ghost use Rattle.std.specs.Prelude.{◌≡◌, ◌<◌, ◌≤◌, ◌+◌, ◌*◌, ◌++◌, ◌∷◌, ℕ, List, [], None, Some, length, map, slice_get, IfOk, IfSome, OnOk, OnErr};
 ghost use Rattle.std.specs.Str.{bytes_eq};
 ghost use Rattle.sourcemap_interning.specs.Interner.{id_of};
@@ -34,7 +34,7 @@ pub(crate) struct NumberTable<T: Text> {
 }
 
 impl<T: Text> NumberTable<T> {
-    // An empty table. A search starts at one of the slots from 0 to `mask`, inclusive. `mask`
+    // A table for no text. A search starts at one of the slots from 0 to `mask`, inclusive. `mask`
     // is bounded so that the number of slots cannot wrap.
     pub(crate) fn with_mask(alloc: Global, mask: usize) -> Result<Self, AllocError>
         requires { mask ≤ 4294967296 * 64 }
@@ -81,8 +81,8 @@ impl<T: Text> NumberTable<T> {
         T::number_in(&self.others, text)
     }
 
-    // The index of the first free slot of those that a search with this hash may read. `None` if
-    // all 32 are taken.
+    // The index of the first free slot of those that a search with this hash reads. `None` if all
+    // are taken.
     fn free_slot(&self, hash: u32) -> Option<usize>
         requires { length self.now.slots.items ≡ self.now.mask + 33 }
         ensures { IsFirstFree self.now.slots.items (start_of self.now.mask hash) result }
@@ -96,8 +96,8 @@ impl<T: Text> NumberTable<T> {
         None
     }
 
-    // Enters the next number for a new text, whose hash is `hash`. After an error it is still a
-    // table of the same texts.
+    // Enters the next number for a new text, whose hash is `hash`. After an error the table is
+    // still one of the same texts.
     pub(crate) fn enter(
         &mut self,
         text: &T,
