@@ -156,7 +156,7 @@ def _(size):
     return colliding_input('index', size)
 
 
-@kind('colliding lines', 10_000, of_calls('builder', 'intern'), 14)
+@kind('colliding lines', 10_000, of_calls('builder', 'intern'), 8)
 def _(size):
     return colliding_input('lines', size)
 
