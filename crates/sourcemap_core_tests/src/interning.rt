@@ -162,7 +162,7 @@ fn interning_text(alloc: Global, start: &str, end: &str, count: usize) -> Result
     Ok(format!(in alloc; "{first} {again} of {}", interner.len())?)
 }
 
-// All texts of the second row have the same hash. bench/colliding.py writes such texts.
+// All texts of the second check have the same hash. bench/colliding.py writes such texts.
 #[test]
 fn interned_texts_have_ids_of_their_own(rt: HostRuntime) {
     let got = interning_text(rt.alloc(), "name", "", 3000);

@@ -24,7 +24,7 @@ one_slot slots slot_index a b e f = cc
 taken_or_free : (slots : List Slot) (slot_index : ℕ) → IsTaken slots slot_index → IsFree slots slot_index → ⊥
 taken_or_free slots slot_index taken free = taken.2 (ap (λ (s : Slot). s.number) (one_slot slots slot_index taken.0 free.0 taken.1 free.1) ∙ free.2)
 
--- all slots from `start` to before `start + count` are taken, none of them by `text`
+-- the `count` slots from `start` on are taken, none of them by `text`
 abbrev pub ArePassed : List (List ℕ) → List Slot → ℕ → List ℕ → ℕ → Type 0
 ArePassed texts slots start text count =
     (k : ℕ) → k < count → (slot : Slot) × (slice_get slots (start + k) ≡ Some slot) × (slot.number ≢ 4294967295)
@@ -225,8 +225,8 @@ new-among texts i text distinct at = none_has (take i texts) text never
         let same : n ≡ i = cc in
         absurd (omega (arith, same, before.0))
 
--- let there be fewer than 4294967295 texts, and no free slot for the new `text`. If `text` could be added to the tree,
--- the index is valid with `text`
+-- let the index be valid, with fewer than 4294967295 texts, and let there be no free slot for the new `text`. If adding
+-- `text` to the tree returned `Ok`, the index with `text` is valid
 pub index-put : (texts : List (List ℕ)) (mask : ℕ) (slots : List Slot) (others : List ℕ → Option ℕ) (is : IsIndex texts mask slots others) (text : List ℕ) → length texts < 4294967295
     → id_of text texts ≡ None → AreTaken slots (start_of mask (hash_of text)) → (others' : List ℕ → Option ℕ) → {A E : Type 0} (result : Result A E)
     → ((t : List ℕ) → others' t ≡ (if is_ok result then cond (bytes_eq text t) (Some (length texts)) (others t) else others t))

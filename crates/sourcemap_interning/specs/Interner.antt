@@ -5,7 +5,7 @@ use Rattle.std.specs.Str.{bytes_eq}
 use Rattle.sourcemap_errors.specs.declared.errors.Error.{Error}
 use Rattle.sourcemap_errors.specs.declared.errors.Error.TheVariants.{IncompatibleSourceMap}
 
--- the strings of an index that may not be made yet
+-- the strings of an index; none if there is no index yet
 abbrev pub texts_of : Option (List (List ℕ)) → List (List ℕ)
 texts_of None = []
 texts_of (Some texts) = texts

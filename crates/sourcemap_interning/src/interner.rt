@@ -116,7 +116,7 @@ impl Interner {
     }
 }
 
-// `Interner::add` for an index that is there already.
+// `Interner::add`, once there is an index.
 fn add_to(index: &mut TextIndex<String>, text: &str, alloc: Global) -> Result<u32>
     ensures id { Gives (λ id. id) result (id_for index.old text.now) }
     ensures texts { OnOk result (index.new ≡ with_text index.old text.now) }

@@ -1,5 +1,5 @@
 //! A hash table with open addressing. It finds the number of a text by the hash of the text. The
-//! texts themselves are in a list beside the table.
+//! texts are in a list beside the table. Those that found no free slot are also keys of its tree.
 ghost use Rattle.std.specs.Prelude.{◌≡◌, ◌<◌, ◌≤◌, ◌+◌, ◌*◌, ◌++◌, ◌∷◌, ℕ, List, [], None, Some, length, map, slice_get, IfOk, IfSome, OnOk, OnErr};
 ghost use Rattle.std.specs.Str.{bytes_eq};
 ghost use Rattle.sourcemap_interning.specs.Interner.{id_of};
@@ -34,7 +34,7 @@ pub(crate) struct NumberTable<T: Text> {
 }
 
 impl<T: Text> NumberTable<T> {
-    // A table for no text. A search starts at one of the slots from 0 to `mask`, inclusive. `mask`
+    // An empty table. A search starts at one of the slots from 0 to `mask`, inclusive. `mask`
     // is bounded so that the number of slots cannot wrap.
     pub(crate) fn with_mask(alloc: Global, mask: usize) -> Result<Self, AllocError>
         requires { mask ≤ 4294967296 * 64 }
@@ -51,15 +51,18 @@ impl<T: Text> NumberTable<T> {
         })
     }
 
-    // The mask of the next larger table. `None` as long as `count` is at most half of the mask.
+    // The mask of a larger table, if the texts of this table take more slots than half of its mask;
+    // else `None`. `count` is the number of texts. The larger mask is at least `8 * count - 1`, so
+    // each growth multiplies the number of texts by at least four.
     pub(crate) fn larger_mask(&self, count: usize) -> Option<usize>
         requires { count ≤ 4294967295 }
         ensures { IfSome result (λ mask. mask ≤ 4294967296 * 64) }
     {
-        if count <= self.mask / 2 {
+        let taken = count.saturating_sub(self.others.len());
+        if taken <= self.mask / 2 {
             return None;
         }
-        Some(self.mask * 4 + 3)
+        Some((count * 8).next_power_of_two() - 1)
     }
 
     // The number of `text`, whose hash is `hash`. `None` if it is not one of `texts`.
@@ -81,8 +84,8 @@ impl<T: Text> NumberTable<T> {
         T::number_in(&self.others, text)
     }
 
-    // The index of the first free slot of those that a search with this hash reads. `None` if all
-    // are taken.
+    // The index of the first free slot of those that a search with this hash may read. `None` if
+    // all 32 are taken.
     fn free_slot(&self, hash: u32) -> Option<usize>
         requires { length self.now.slots.items ≡ self.now.mask + 33 }
         ensures { IsFirstFree self.now.slots.items (start_of self.now.mask hash) result }
@@ -96,8 +99,8 @@ impl<T: Text> NumberTable<T> {
         None
     }
 
-    // Enters the next number for a new text, whose hash is `hash`. After an error the table is
-    // still one of the same texts.
+    // Enters the next number for a new text, whose hash is `hash`. After an error it is still a
+    // table of the same texts.
     pub(crate) fn enter(
         &mut self,
         text: &T,

@@ -19,8 +19,8 @@ pub trait Text: Ord + Drop {
     fn number_in(tree: &BTreeMap<Self, u32>, text: &str) -> Option<u32>
         ensures { result ≡ number_in_tree bytes tree.now text.now };
 
-    /// Stores `number` for this text in `tree`, under a copy of the text. All other texts keep their
-    /// numbers. After an error all texts do.
+    /// Stores `number` for this text in `tree`. The key is a copy of a `String`, or the `&str`
+    /// itself. All other texts keep their numbers. After an error all texts do.
     fn insert_into(
         &self,
         tree: &mut BTreeMap<Self, u32>,

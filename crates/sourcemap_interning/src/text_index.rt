@@ -10,7 +10,7 @@ use sourcemap_errors::errors;
 use std::alloc::{AllocError, Global};
 use std::marker::Model;
 
-// The mask of a new table.
+// The mask of the table of a new index.
 const FIRST_MASK: usize = 31;
 
 /// Texts that are numbered in the order in which they first occur. A search starts at the slot that
@@ -83,7 +83,7 @@ impl<T: Text> TextIndex<T> {
 
     /// Returns the number of a text. A new text gets the next number; before it is added, there
     /// must be fewer than 4294967295 texts. The only error is `OutOfMemory`, and only for a new
-    /// text. It leaves the index unchanged.
+    /// text. An error leaves the index unchanged.
     pub fn number_of(&mut self, text: T) -> errors::Result<u32>
         requires few { id_of (T.bytes text) self.old ≡ None → length self.old < 4294967295 }
         ensures number { IfOk result (λ number. id_of (T.bytes text) self.new ≡ Some number) }
@@ -128,8 +128,8 @@ impl<T: Text> TextIndex<T> {
         Ok(number)
     }
 
-    // Makes a larger table if there are more texts than half of the mask. The texts and their
-    // numbers stay the same, also after an error.
+    // Makes a larger table if too many slots are taken. The texts and their numbers stay the same,
+    // also after an error.
     fn grow(&mut self) -> Result<(), AllocError>
         ensures { self.new ≡ self.old }
     {
