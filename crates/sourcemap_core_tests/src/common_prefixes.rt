@@ -2,6 +2,7 @@
 use sourcemap_core::errors::Result;
 use sourcemap_core::utils::find_common_prefix;
 use sourcemap_test_support::check;
+use sourcemap_test_support::results::text_or_none;
 use std::alloc::Global;
 
 // Label, paths, and their common prefix.
@@ -52,10 +53,7 @@ static PREFIXES: [(&str, &[&str], &str); 11] = [
 ];
 
 fn common(alloc: Global, texts: &[&str]) -> Result<String> {
-    match find_common_prefix(alloc, texts.iter().copied())? {
-        None => Ok(String::from_str(alloc, "none")?),
-        Some(text) => Ok(text),
-    }
+    text_or_none(alloc, find_common_prefix(alloc, texts.iter().copied())?)
 }
 
 #[test]

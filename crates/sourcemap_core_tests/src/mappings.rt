@@ -5,7 +5,7 @@ use sourcemap_core::mappings::{
 };
 use sourcemap_core::tokens::{NO_ID, RawToken};
 use sourcemap_test_support::check;
-use sourcemap_test_support::results::error_text;
+use sourcemap_test_support::results::{error_text, text_or_none};
 use sourcemap_test_support::tokens::{Row, tokens};
 use std::alloc::Global;
 
@@ -232,10 +232,7 @@ fn write_ranges(alloc: Global, rows: &[Row]) -> Result<String> {
     if !tokens_in_order(tokens.as_slice()) {
         return Err(Error::IncompatibleSourceMap);
     }
-    match write_range_mappings(alloc, tokens.as_slice())? {
-        None => Ok(String::from_str(alloc, "none")?),
-        Some(text) => Ok(text),
-    }
+    text_or_none(alloc, write_range_mappings(alloc, tokens.as_slice())?)
 }
 
 #[test]

@@ -3,6 +3,7 @@ use sourcemap_core::errors::{Error, Result};
 use sourcemap_core::places::{path_url, url_path};
 use sourcemap_core::utils::make_relative_path;
 use sourcemap_test_support::check;
+use sourcemap_test_support::results::text_or_none;
 use std::alloc::Global;
 use url::{ParseError, Url};
 
@@ -65,22 +66,12 @@ static RELATIVE: [(&str, &str, &str); 14] = [
 ];
 
 fn url_of(alloc: Global, path: &str, folder: bool) -> Result<String> {
-    match path_url(alloc, path, folder)? {
-        None => Ok(String::from_str(alloc, "none")?),
-        Some(url) => Ok(String::from_str(alloc, url.as_str())?),
-    }
-}
-
-fn url_path_text(alloc: Global, url: &Url) -> Result<String> {
-    match url_path(alloc, url)? {
-        None => Ok(String::from_str(alloc, "none")?),
-        Some(path) => Ok(path),
-    }
+    text_or_none(alloc, path_url(alloc, path, folder)?)
 }
 
 fn path_of(alloc: Global, text: &str) -> Result<String> {
     match Url::parse(alloc, text) {
-        Ok(url) => url_path_text(alloc, &url),
+        Ok(url) => text_or_none(alloc, url_path(alloc, &url)?),
         Err(ParseError::OutOfMemory) => Err(Error::OutOfMemory),
         Err(_) => Ok(String::from_str(alloc, "no URL")?),
     }

@@ -6,17 +6,14 @@ use sourcemap::errors::Result;
 use sourcemap::jsontypes::DebugId;
 use sourcemap::types::DecodedMap;
 use sourcemap_test_support::check;
-use sourcemap_test_support::results::{box_result, error_of};
+use sourcemap_test_support::results::{box_result, error_of, text_or_none};
 use std::alloc::Global;
 
 const ID: &str = "0123456789abcdef0123456789abcdef";
 
 /// The debug id of a map.
 pub fn id_text(alloc: Global, map: &DecodedMap) -> Result<String> {
-    match map.debug_id() {
-        None => Ok(String::from_str(alloc, "none")?),
-        Some(id) => Ok(format!(in alloc; "{id}")?),
-    }
+    text_or_none(alloc, map.debug_id())
 }
 
 // The debug id of a map, and the text that the map is written as.

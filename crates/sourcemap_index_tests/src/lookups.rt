@@ -1,9 +1,9 @@
 // Lookups in index maps.
 use crate::maps::{index_of, map_of};
 use sourcemap::errors::Result;
-use sourcemap::types::{SourceMapIndex, Token};
+use sourcemap::types::SourceMapIndex;
 use sourcemap_test_support::check;
-use sourcemap_test_support::results::box_result;
+use sourcemap_test_support::results::{box_result, text_or_none};
 use std::alloc::Global;
 
 // Two sections, the second of which starts in the middle of a line.
@@ -78,22 +78,14 @@ static POSITIONS: [(&str, u32, u32, &str); 28] = [
     (HERMES, 2, 7, "b.js:0:7"),
 ];
 
-/// The text of a token, or `none` if there is no token.
-pub fn token_text(alloc: Global, token: Option<Token<'_>>) -> Result<String> {
-    match token {
-        None => Ok(String::from_str(alloc, "none")?),
-        Some(token) => Ok(format!(in alloc; "{token}")?),
-    }
-}
-
 fn lookup_text(alloc: Global, text: &str, line: u32, col: u32) -> Result<String> {
     let map = map_of(alloc, text)?;
-    token_text(alloc, map.lookup_token(line, col))
+    text_or_none(alloc, map.lookup_token(line, col))
 }
 
 fn index_lookup_text(alloc: Global, text: &str, line: u32, col: u32) -> Result<String> {
     let index = index_of(alloc, text)?;
-    token_text(alloc, index.lookup_token(line, col))
+    text_or_none(alloc, index.lookup_token(line, col))
 }
 
 #[test]
@@ -125,7 +117,7 @@ pub fn flat_token_text(
     col: u32,
 ) -> Result<String> {
     let map = box_result(alloc, index.flatten())?;
-    token_text(alloc, map.lookup_token(line, col))
+    text_or_none(alloc, map.lookup_token(line, col))
 }
 
 fn flat_lookup_text(alloc: Global, text: &str, line: u32, col: u32) -> Result<String> {

@@ -1,12 +1,12 @@
 // Nested index maps. Some are constructed in memory, others are decoded from text or JSON values.
-use crate::lookups::{flat_token_text, token_text};
+use crate::lookups::flat_token_text;
 use crate::maps::map_of;
 use serde_json::Value;
 use sourcemap::decoder::decode_slice;
 use sourcemap::errors::Result;
 use sourcemap::types::{DecodedMap, SourceMapIndex, SourceMapSection};
 use sourcemap_test_support::check;
-use sourcemap_test_support::results::{again, box_result, error_of};
+use sourcemap_test_support::results::{again, box_result, error_of, text_or_none};
 use std::alloc::Global;
 
 const INNERMOST: &str = r#"{"sources":["a.js"],"mappings":"AAAA"}"#;
@@ -43,7 +43,7 @@ fn nested_text(alloc: Global, depth: usize) -> Result<String> {
 /// The text of the token at 0:0 in a map, or the error.
 pub fn first_token_text(alloc: Global, map: Result<Box<DecodedMap>>) -> Result<String> {
     match map {
-        Ok(map) => token_text(alloc, map.lookup_token(0, 0)),
+        Ok(map) => text_or_none(alloc, map.lookup_token(0, 0)),
         error => error_of(alloc, error),
     }
 }
@@ -88,7 +88,7 @@ fn flatten_nested(alloc: Global, depth: usize) -> Result<String> {
 
 // The text of the token at 0:0 of `made`, and whether `made` equals `map`.
 fn text_beside(alloc: Global, map: &DecodedMap, made: &DecodedMap) -> Result<String> {
-    let token = token_text(alloc, made.lookup_token(0, 0))?;
+    let token = text_or_none(alloc, made.lookup_token(0, 0))?;
     Ok(format!(in alloc; "{token} {}", *made == *map)?)
 }
 

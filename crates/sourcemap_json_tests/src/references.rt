@@ -10,7 +10,7 @@ use sourcemap_json::detector::{
 use sourcemap_source_views::sourceview::SourceView;
 use sourcemap_test_support::check;
 use sourcemap_test_support::readers::{HaltingReader, NarrowReader};
-use sourcemap_test_support::results::error_text;
+use sourcemap_test_support::results::{error_text, text_or_none};
 use std::alloc::Global;
 use std::io::ErrorKind;
 use std::str;
@@ -292,16 +292,9 @@ static RESOLVED: [(&str, &str, &str); 7] = [
     ("data:application/json,{}", "http://x.com/m/a.js", "none"),
 ];
 
-fn or_none(alloc: Global, text: Option<String>) -> Result<String> {
-    match text {
-        Some(text) => Ok(text),
-        None => Ok(String::from_str(alloc, "none")?),
-    }
-}
-
 fn resolve(alloc: Global, url: &str, base: &str) -> Result<String> {
     let reference = SourceMapRef::Ref(String::from_str(alloc, url)?);
-    or_none(alloc, reference.resolve(base)?)
+    text_or_none(alloc, reference.resolve(base)?)
 }
 
 #[test]
@@ -324,7 +317,7 @@ static PATHS: [(&str, &str, &str); 6] = [
 
 fn resolve_path_of(alloc: Global, url: &str, base: &str) -> Result<String> {
     let reference = SourceMapRef::LegacyRef(String::from_str(alloc, url)?);
-    or_none(alloc, reference.resolve_path(base)?)
+    text_or_none(alloc, reference.resolve_path(base)?)
 }
 
 #[test]

@@ -1,10 +1,10 @@
 // Adjusting of mappings.
-use crate::lookups::{lookup_text, token_text};
+use crate::lookups::lookup_text;
 use crate::samples::{Made, NONE, make_map, map_text};
 use sourcemap::errors::{Error, Result};
 use sourcemap::types::{RawToken, SourceMap, Token};
 use sourcemap_test_support::check;
-use sourcemap_test_support::results::box_result;
+use sourcemap_test_support::results::{box_result, text_or_none};
 use sourcemap_test_support::tokens::Row;
 use std::alloc::Global;
 
@@ -421,7 +421,7 @@ fn meaning_text(alloc: Global, token: Option<Token<'_>>) -> Result<String> {
         Some(token) if token.is_range() => "+",
         _ => "",
     };
-    let text = token_text(alloc, token)?;
+    let text = text_or_none(alloc, token)?;
     Ok(format!(in alloc; "{text}{mark}")?)
 }
 

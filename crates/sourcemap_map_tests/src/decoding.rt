@@ -1,11 +1,9 @@
 // Decoding of maps from bytes and data URLs, and the errors of decoding. Also copies and debug ids
 // of decoded maps, and the writing of data URLs.
-use crate::getters::id_text;
-use crate::lookups::token_text;
 use sourcemap::errors::Result;
 use sourcemap::{DecodedMap, SourceMap, decode, decode_data_url, decode_slice};
 use sourcemap_test_support::check;
-use sourcemap_test_support::results::{again, error_of};
+use sourcemap_test_support::results::{again, error_of, text_or_none};
 use std::alloc::Global;
 
 // The example map in the documentation of the Rust crate `sourcemap`.
@@ -98,7 +96,7 @@ static ANY_KIND: [(&str, &str, &str); 5] = [
 
 fn lookup_text(alloc: Global, answer: Result<DecodedMap>) -> Result<String> {
     match answer {
-        Ok(map) => token_text(alloc, map.lookup_token(0, 0)),
+        Ok(map) => text_or_none(alloc, map.lookup_token(0, 0)),
         error => error_of(alloc, error),
     }
 }
@@ -170,7 +168,7 @@ static DEBUG_IDS: [(&str, &str, &str); 3] = [
 
 fn debug_id(alloc: Global, text: &str) -> Result<String> {
     let map = decode_slice(alloc, text.as_bytes())?;
-    id_text(alloc, map.debug_id())
+    text_or_none(alloc, map.debug_id())
 }
 
 #[test]

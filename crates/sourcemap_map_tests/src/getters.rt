@@ -1,9 +1,8 @@
 // Getters of maps and of tokens.
 use sourcemap::errors::Result;
-use sourcemap::jsontypes::DebugId;
 use sourcemap::types::{SourceMap, Token};
 use sourcemap_test_support::check;
-use sourcemap_test_support::results::box_result;
+use sourcemap_test_support::results::{box_result, text_or_none};
 use std::alloc::Global;
 
 const FULL: &str =
@@ -48,14 +47,6 @@ fn counts_text(alloc: Global, map: &SourceMap) -> Result<String> {
     Ok(format!(in alloc; "{counts:?} {items:?} {contents} {}", map.has_names())?)
 }
 
-/// A debug id, or `none`.
-pub fn id_text(alloc: Global, id: Option<DebugId>) -> Result<String> {
-    match id {
-        None => Ok(String::from_str(alloc, "none")?),
-        Some(id) => Ok(format!(in alloc; "{id}")?),
-    }
-}
-
 fn token_text(alloc: Global, token: Option<Token<'_>>) -> Result<String> {
     let Some(token) = token else {
         return Ok(String::from_str(alloc, "none")?);
@@ -83,7 +74,7 @@ fn describe(alloc: Global, map: &SourceMap, getter: Getter) -> Result<String> {
     match getter {
         Getter::Texts => parts_text(alloc, map),
         Getter::Counts => counts_text(alloc, map),
-        Getter::DebugId => id_text(alloc, map.get_debug_id()),
+        Getter::DebugId => text_or_none(alloc, map.get_debug_id()),
         Getter::Token(index) => token_text(alloc, map.get_token(index)),
         Getter::Raw => raw_text(alloc, map.lookup_token(0, 0)),
     }

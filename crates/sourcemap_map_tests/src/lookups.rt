@@ -3,9 +3,8 @@
 use crate::samples::{Made, bare, map_text, range_map, readme, record_of};
 use sourcemap::decoder::decode_regular;
 use sourcemap::errors::Result;
-use sourcemap::types::Token;
 use sourcemap_test_support::check;
-use sourcemap_test_support::results::box_result;
+use sourcemap_test_support::results::{box_result, text_or_none};
 use std::alloc::Global;
 
 // A position, and the text of the token closest to it.
@@ -29,18 +28,10 @@ static RANGED: [Lookup; 3] = [
     (3, 9, "coolstuff.js:0:5"),
 ];
 
-/// What a token prints, or `none`.
-pub fn token_text(alloc: Global, token: Option<Token<'_>>) -> Result<String> {
-    match token {
-        None => Ok(String::from_str(alloc, "none")?),
-        Some(token) => Ok(format!(in alloc; "{token}")?),
-    }
-}
-
 /// What the token closest to a position prints, or `none`.
 pub fn lookup_text(alloc: Global, map: Made, line: u32, col: u32) -> Result<String> {
     let map = map?;
-    token_text(alloc, map.lookup_token(line, col))
+    text_or_none(alloc, map.lookup_token(line, col))
 }
 
 fn read_back(alloc: Global, map: Made) -> Made {

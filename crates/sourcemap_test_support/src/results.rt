@@ -3,6 +3,7 @@
 //! `box_result` can return any error.
 use sourcemap_errors::errors::{Error, Result};
 use std::alloc::Global;
+use std::fmt::Display;
 
 /// Calls `call`, and calls `call` once more if the first call returns `OutOfMemory`.
 pub fn again<F: Fn() -> Result<String>>(call: F) -> Result<String>
@@ -33,6 +34,14 @@ pub fn error_of<T: Drop>(alloc: Global, got: Result<T>) -> Result<String> {
 /// Moves a value to a box. prover: one drop
 pub fn box_result<T: Drop>(alloc: Global, made: Result<T>) -> Result<Box<T>> {
     Ok(Box::new(alloc, made?)?)
+}
+
+/// What a value prints, or `none`.
+pub fn text_or_none<T: Display + Drop>(alloc: Global, value: Option<T>) -> Result<String> {
+    match value {
+        None => Ok(String::from_str(alloc, "none")?),
+        Some(value) => Ok(format!(in alloc; "{value}")?),
+    }
 }
 
 /// An optional text: in brackets, or `none`.
