@@ -51,18 +51,19 @@ impl<T: Text> NumberTable<T> {
         })
     }
 
-    // The mask of a larger table, if the texts of this table take more slots than half of its mask;
-    // else `None`. `count` is the number of texts. The larger mask is at least `8 * count - 1`, so
-    // each growth multiplies the number of texts by at least four.
+    // The mask of the next larger table for `count` texts. `None` as long as the number of taken
+    // slots is at most half of the mask. Also `None` if the tree has more than an eighth as many
+    // texts: their hashes collide, and a larger table would need a second tree for them.
     pub(crate) fn larger_mask(&self, count: usize) -> Option<usize>
         requires { count ≤ 4294967295 }
         ensures { IfSome result (λ mask. mask ≤ 4294967296 * 64) }
     {
-        let taken = count.saturating_sub(self.others.len());
-        if taken <= self.mask / 2 {
+        let others = self.others.len();
+        let taken = count.saturating_sub(others);
+        if taken <= self.mask / 2 || others > taken / 8 {
             return None;
         }
-        Some((count * 8).next_power_of_two() - 1)
+        Some(self.mask * 4 + 3)
     }
 
     // The number of `text`, whose hash is `hash`. `None` if it is not one of `texts`.
