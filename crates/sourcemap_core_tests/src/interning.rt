@@ -9,6 +9,12 @@ use std::alloc::Global;
 // The largest number of texts of an index.
 const MOST: usize = 4294967295;
 
+// Texts that begin and end so, with eight bytes between, all have the same hash.
+// bench/colliding.py writes such texts.
+const COLLIDING_START: &str = "webpack:00000019v}kzYA]7";
+
+const COLLIDING_END: &str = "/src/app/file.js";
+
 static NUMBERED: [&str; 7] = ["b", "a", "b", "", "ab", "a", ""];
 
 // The number that a new index assigns to each text, then the count of texts in the index. Once the
@@ -79,15 +85,9 @@ fn numbers_many_texts(rt: HostRuntime) {
     check!(rt, "usual texts", answer, "3000 3000 true false");
 }
 
-// All texts of this test have the same hash. bench/colliding.py writes such texts.
 #[test]
 fn numbers_texts_that_collide(rt: HostRuntime) {
-    let answer = numbering_text(
-        rt.alloc(),
-        "webpack:00000019v}kzYA]7",
-        "/src/app/file.js",
-        300,
-    );
+    let answer = numbering_text(rt.alloc(), COLLIDING_START, COLLIDING_END, 300);
     check!(rt, "texts that collide", answer, "300 300 true false");
 }
 
@@ -153,25 +153,33 @@ fn count_interned(interner: &mut Interner, texts: &[String]) -> Result<usize> {
     Ok(texts.len())
 }
 
+// 300 texts that all have the same hash, followed by 3000 usual texts.
+fn mixed_texts(alloc: Global) -> Result<Vec<String>> {
+    let mut texts = numbered_texts(alloc, COLLIDING_START, COLLIDING_END, 300)?;
+    for text in numbered_texts(alloc, "name", "", 3000)? {
+        texts.push(text)?;
+    }
+    Ok(texts)
+}
+
 // The result of `count_interned` on a first and on a second pass, then the number of strings.
-fn interning_text(alloc: Global, start: &str, end: &str, count: usize) -> Result<String> {
-    let texts = numbered_texts(alloc, start, end, count)?;
+fn interning_text(alloc: Global, texts: Result<Vec<String>>) -> Result<String> {
+    let texts = texts?;
     let mut interner = Interner::new(alloc);
     let first = count_interned(&mut interner, texts.as_slice())?;
     let again = count_interned(&mut interner, texts.as_slice())?;
     Ok(format!(in alloc; "{first} {again} of {}", interner.len())?)
 }
 
-// All texts of the second check have the same hash. bench/colliding.py writes such texts.
 #[test]
 fn interned_texts_have_ids_of_their_own(rt: HostRuntime) {
-    let got = interning_text(rt.alloc(), "name", "", 3000);
+    let alloc = rt.alloc();
+    let texts = numbered_texts(alloc, "name", "", 3000);
+    let got = interning_text(alloc, texts);
     check!(rt, "usual texts", got, "3000 3000 of 3000");
-    let got = interning_text(
-        rt.alloc(),
-        "webpack:00000019v}kzYA]7",
-        "/src/app/file.js",
-        300,
-    );
+    let texts = numbered_texts(alloc, COLLIDING_START, COLLIDING_END, 300);
+    let got = interning_text(alloc, texts);
     check!(rt, "texts that collide", got, "300 300 of 300");
+    let got = interning_text(alloc, mixed_texts(alloc));
+    check!(rt, "both kinds", got, "3300 3300 of 3300");
 }
