@@ -135,8 +135,9 @@ def small(mappings='AAAA'):
     return {'map': {'version': 3, 'sources': ['a.js'], 'names': [], 'mappings': mappings}}
 
 
-def colliding_input(what, count):
-    return subprocess.run([SCRIPTS / 'colliding.py', what, str(count)], stdout=subprocess.PIPE, check=True).stdout
+def colliding_input(what, count, *options):
+    command = [SCRIPTS / 'colliding.py', what, str(count), *options]
+    return subprocess.run(command, stdout=subprocess.PIPE, check=True).stdout
 
 
 # texts that all have the same hash, because the seed of the hash function is fixed
@@ -159,6 +160,12 @@ def _(size):
 @kind('colliding lines', 10_000, of_calls('builder', 'intern'), 8)
 def _(size):
     return colliding_input('lines', size)
+
+
+# the colliding lines in the tree keep the table small, so most usual lines go to the tree too
+@kind('usual lines after colliding lines', 10_000, of_calls('builder', 'intern'), 8)
+def _(size):
+    return colliding_input('lines', size) + colliding_input('lines', size // 10, '--usual')
 
 
 # mappings
