@@ -97,9 +97,7 @@ def peak(command, path):
 
 
 def instructions(command, path):
-    """The instructions of a run, in millions. None if valgrind is missing."""
-    if not shutil.which('valgrind'):
-        return None
+    """The instructions of a run, in millions."""
     with open(path, 'rb') as source, tempfile.NamedTemporaryFile() as log:
         result = subprocess.run(['valgrind', '--tool=callgrind', f'--callgrind-out-file={log.name}', *command],
                               stdin=source, stdout=subprocess.DEVNULL, stderr=subprocess.PIPE, text=True)
@@ -373,6 +371,8 @@ def main():
     words.add_argument('--growth', type=int, nargs='+', default=[75000, 250000])
     words.add_argument('--instructions', action='store_true')
     given = words.parse_args()
+    if given.instructions and not shutil.which('valgrind'):
+        words.error('--instructions needs valgrind')
     build_missing([BENCH_VIEWS] * given.views + [BENCH_BUNDLES] * given.bundles)
     if not given.no_maps:
         build_missing()
