@@ -157,13 +157,13 @@ def _(size):
     return colliding_input('index', size)
 
 
-@kind('colliding lines', 10_000, of_calls('builder', 'intern'), 12)
+@kind('colliding lines', 10_000, of_calls('builder', 'intern'), 8)
 def _(size):
     return colliding_input('lines', size)
 
 
 # the colliding lines in the tree keep the table small, so most usual lines go to the tree too
-@kind('usual lines after colliding lines', 10_000, of_calls('builder', 'intern'), 12)
+@kind('usual lines after colliding lines', 10_000, of_calls('builder', 'intern'), 8)
 def _(size):
     return colliding_input('lines', size) + colliding_input('lines', size // 10, '--usual')
 
