@@ -1,3 +1,4 @@
 pub mod ItemLemmas
 mod IndexLemmas
 pub mod InternerLemmas
+mod OverflowLemmas

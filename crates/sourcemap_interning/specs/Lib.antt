@@ -1,3 +1,4 @@
 pub mod Interner
+pub mod Overflow
 pub mod Slots
 pub mod Texts

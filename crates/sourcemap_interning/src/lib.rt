@@ -3,6 +3,7 @@
 #![tactic(auto)]
 
 pub mod interner;
+mod overflow;
 mod slots;
 pub mod text;
 pub mod text_index;

@@ -1,13 +1,12 @@
 //! A hash table with open addressing. It finds the number of a text by the hash of the text. The
-//! texts are in a list beside the table. Those that found no free slot are also keys of its tree.
+//! texts are in a list beside the table.
 ghost use Rattle.std.specs.Prelude.{◌≡◌, ◌<◌, ◌≤◌, ◌+◌, ◌*◌, ◌++◌, ◌∷◌, ℕ, List, [], None, Some, length, map, slice_get, IfOk, IfSome, OnOk, OnErr};
-ghost use Rattle.std.specs.Str.{bytes_eq};
 ghost use Rattle.sourcemap_interning.specs.Interner.{id_of};
-ghost use Rattle.sourcemap_interning.specs.Slots.{IsFirstFree, IsRight, IsTable, hash_of, start_of};
+ghost use Rattle.sourcemap_interning.specs.Slots.{IsProbed, IsTable, hash_of, start_of};
 
-use crate::text::Text;
+use crate::overflow::Overflow;
+use crate::text::{Text, is_text};
 use std::alloc::{AllocError, Global};
-use std::collections::BTreeMap;
 use std::hash::{FoldHasher, Hasher};
 
 // The number of slots that a search reads at most.
@@ -22,15 +21,27 @@ pub(crate) struct Slot {
     number: u32,
 }
 
+// How a search for a hash ends.
+#[derive(Clone, Copy)]
+enum Probe {
+    // at a free slot, which has this index
+    Free(usize),
+    // at a slot that has the hash, and this number
+    Taken(u32),
+    // after 32 slots, which all have other hashes
+    Full,
+}
+
 // A search for a text starts at the slot that the hash of the text selects. It reads at most 32
-// slots. If these are all taken by other texts, it goes on in a tree.
+// slots, and ends at the first slot that is free or has this hash. If this is the slot of another
+// text, or if there is no such slot, the search goes on in `others`.
 #[derive(Drop)]
 pub(crate) struct NumberTable<T: Text> {
     slots: Vec<Slot>,
     // a search starts at the slot `hash & mask`
     mask: usize,
-    // the numbers of the texts that found no free slot
-    others: BTreeMap<T, u32>,
+    // the numbers of the texts that have no slot
+    others: Overflow<T>,
 }
 
 impl<T: Text> NumberTable<T> {
@@ -47,20 +58,24 @@ impl<T: Text> NumberTable<T> {
         Ok(NumberTable {
             slots: vec![in alloc; none; mask + 1 + WINDOW]?,
             mask,
-            others: BTreeMap::new(alloc),
+            others: Overflow::new(alloc),
         })
     }
 
     // The mask of the next larger table for `count` texts. `None` as long as the number of taken
-    // slots is at most half of the mask. Also `None` if the tree has more than an eighth as many
-    // texts: their hashes collide, and a larger table would need a second tree for them.
+    // slots is at most half of the mask. Also `None` if more than an eighth as many texts have no
+    // slot: their hashes collide, so a larger table would hardly have slots for them.
     pub(crate) fn larger_mask(&self, count: usize) -> Option<usize>
         requires { count ≤ 4294967295 }
         ensures { IfSome result (λ mask. mask ≤ 4294967296 * 64) }
     {
+        let most = self.mask / 2;
+        if count <= most {
+            return None;
+        }
         let others = self.others.len();
         let taken = count.saturating_sub(others);
-        if taken <= self.mask / 2 || others > taken / 8 {
+        if taken <= most || others > taken / 8 {
             return None;
         }
         Some(self.mask * 4 + 3)
@@ -72,32 +87,29 @@ impl<T: Text> NumberTable<T> {
         requires hash { hash ≡ hash_of text.now }
         ensures { result ≡ id_of text.now (map T.bytes texts.now) }
     {
+        match self.probe(hash) {
+            Probe::Free(_) => None,
+            Probe::Taken(number) if is_text(texts, number, text) => Some(number),
+            _ => self.others.number(texts, text),
+        }
+    }
+
+    #[inline(always)]
+    fn probe(&self, hash: u32) -> Probe
+        requires { length self.now.slots.items ≡ self.now.mask + 33 }
+        ensures { IsProbed self.now.slots.items hash (start_of self.now.mask hash) result }
+    {
         let start = start_of(hash, self.mask);
         for step in 0..WINDOW {
             let slot = self.slots[start + step];
             if slot.number == NO_NUMBER {
-                return None;
+                return Probe::Free(start + step);
             }
-            if is_of(slot, texts, text, hash) {
-                return Some(slot.number);
-            }
-        }
-        T::number_in(&self.others, text)
-    }
-
-    // The index of the first free slot of those that a search with this hash may read. `None` if
-    // all 32 are taken.
-    fn free_slot(&self, hash: u32) -> Option<usize>
-        requires { length self.now.slots.items ≡ self.now.mask + 33 }
-        ensures { IsFirstFree self.now.slots.items (start_of self.now.mask hash) result }
-    {
-        let start = start_of(hash, self.mask);
-        for step in 0..WINDOW {
-            if self.slots[start + step].number == NO_NUMBER {
-                return Some(start + step);
+            if slot.hash == hash {
+                return Probe::Taken(slot.number);
             }
         }
-        None
+        Probe::Full
     }
 
     // Enters the next number for a new text, whose hash is `hash`. After an error it is still a
@@ -118,18 +130,18 @@ impl<T: Text> NumberTable<T> {
         ensures kept { (texts : List (List ℕ)) → IsTable T.bytes texts self.old
             → OnErr result (IsTable T.bytes texts self.new) }
     {
-        match self.free_slot(hash) {
-            Some(at) => {
+        match self.probe(hash) {
+            Probe::Free(at) => {
                 self.slots[at] = Slot { hash, number };
                 Ok(())
             }
-            None => text.insert_into(&mut self.others, number, alloc),
+            _ => self.others.enter(text, number, alloc),
         }
     }
 }
 
 // The upper 32 bits of a hash. The seed of `FoldHasher` is fixed, so texts with equal hashes are
-// easy to construct. A search for such a text reads at most 32 slots, and then goes on in a tree.
+// easy to construct. All but the first of them go to `others`.
 pub(crate) fn hash_of(text: &str) -> u32
     ensures { result ≡ hash_of text.now }
 {
@@ -143,14 +155,4 @@ fn start_of(hash: u32, mask: usize) -> usize
     ensures within { result ≤ mask }
 {
     hash as usize & mask
-}
-
-fn is_of<T: Text>(slot: Slot, texts: &[T], text: &str, hash: u32) -> bool
-    requires right { IsRight (map T.bytes texts.now) slot }
-    requires hash { hash ≡ hash_of text.now }
-    ensures { (other : List ℕ)
-        → slice_get (map T.bytes texts.now) slot.number ≡ Some other
-        → result ≡ bytes_eq other text.now }
-{
-    slot.hash == hash && texts[slot.number as usize].as_text() == text
 }

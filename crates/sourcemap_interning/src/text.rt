@@ -1,7 +1,7 @@
 //! The texts that an index keeps: strings of its own, or slices that it borrows.
-ghost use Rattle.std.specs.Prelude.{◌≡◌, ℕ, List, Some, cond, if◌then◌else◌, is_ok};
+ghost use Rattle.std.specs.Prelude.{◌≡◌, ℕ, List, Some, cond, if◌then◌else◌, is_ok, map, slice_get};
 ghost use Rattle.std.specs.Str.{bytes_eq};
-ghost use Rattle.sourcemap_interning.specs.Texts.{number_in_tree};
+ghost use Rattle.sourcemap_interning.specs.Texts.{is_text, number_in_tree};
 
 use std::alloc::{AllocError, Global};
 use std::collections::BTreeMap;
@@ -78,5 +78,15 @@ impl Text for String {
         let key = String::from_str(alloc, self.as_str())?;
         tree.insert(key, number)?;
         Ok(())
+    }
+}
+
+// Whether `texts` has `text` at this number.
+pub(crate) fn is_text<T: Text>(texts: &[T], number: u32, text: &str) -> bool
+    ensures { result ≡ is_text text.now (slice_get (map T.bytes texts.now) number) }
+{
+    match texts.get(number as usize) {
+        Some(other) => other.as_text() == text,
+        None => false,
     }
 }

@@ -14,9 +14,9 @@ use std::marker::Model;
 const FIRST_MASK: usize = 31;
 
 /// Texts that are numbered in the order in which they first occur. A search starts at the slot that
-/// the hash of the text selects and reads at most 32 slots. If these are all taken by other texts,
-/// the text goes to a tree. So n texts take at most some n log n comparisons, also if their hashes
-/// collide.
+/// the hash of the text selects and reads at most 32 slots. If it finds neither the text nor a free
+/// slot, or another text with the same hash, the text goes to a tree. So n texts take at most some
+/// n log n comparisons, also if their hashes collide.
 #[derive(Drop)]
 pub struct TextIndex<T: Text> {
     // the texts, by number
@@ -128,8 +128,8 @@ impl<T: Text> TextIndex<T> {
         Ok(number)
     }
 
-    // Makes a larger table if too many slots are taken. The texts and their numbers stay the same,
-    // also after an error.
+    // Makes the larger table that `larger_mask` asks for, if any. The texts and their numbers stay
+    // the same, also after an error.
     fn grow(&mut self) -> Result<(), AllocError>
         ensures { self.new ≡ self.old }
     {

@@ -1,32 +1,48 @@
-use Rattle.std.proofs.Common.{◌≡◌, sym, subst, ℕ, ◌+◌, ◌<◌, ◌++◌, ◌∷◌, List, [], Some, cond, if◌then◌else◌, is_ok, length, slice_set, arith}
+use Rattle.std.proofs.Common.{◌≡◌, sym, subst, ℕ, ◌<◌, ◌++◌, ◌∷◌, List, [], Some, cond, length, slice_set, arith, OnOk, nat_cmp}
+use Rattle.std.specs.BTreeMap.{get}
 use Rattle.std.specs.Str.{bytes_eq}
-use Rattle.sourcemap_interning.specs.Slots.{AreTaken, IsFirstFree, IsFree, IsIndex, hash_of, start_of}
+use Rattle.sourcemap_interning.specs.Overflow.{number_among}
+use Rattle.sourcemap_interning.specs.Slots.{IsBlocked, IsIndex, IsProbed, hash_of, start_of}
 use Rattle.sourcemap_interning.specs.Texts.{number_in_tree}
-use Rattle.sourcemap_interning.proofs.IndexLemmas.{index-free, index-put}
+use Rattle.sourcemap_interning.specs.declared.slots.Probe.TheVariants.{Free}
+use Rattle.sourcemap_interning.proofs.IndexLemmas.{blocked-not_free, index-free, index-kept, index-put}
+use Rattle.sourcemap_interning.proofs.OverflowLemmas.{number_by-append, number_by-last}
 use Rattle.sourcemap_interning.proofs.slots.NumberTable.enter.Goals as goal
 
-pub returns-in-Some-clause-entered : goal.returns-in-Some-clause-entered
-returns-in-Some-clause-entered g c texts table counted new =
+pub returns-in-Free-clause-entered : goal.returns-in-Free-clause-entered
+returns-in-Free-clause-entered g c texts table counted new =
     let self = c.args.self.now in
+    let bytes = g.T.Text.bytes in
     let slots = self.slots.items in
-    let others = number_in_tree g.T.Text.bytes self.others in
-    let text = g.T.Text.bytes c.args.text.now in
-    let found : IsFirstFree slots (start_of self.mask (hash_of text)) (Some c.in-Some.at) =
-    subst (λ hash. IsFirstFree slots (start_of self.mask hash) (Some c.in-Some.at)) c.requires.hash c.in-Some.ensures in
-    let free : IsFree slots (start_of self.mask (hash_of text) + found.0) = subst (IsFree slots) found.2 found.3 in
+    let text = bytes c.args.text.now in
+    let others_after = number_among bytes (texts ++ text ∷ []) self.others in
+    let firsts = get nat_cmp self.others.firsts in
+    let rest = number_in_tree bytes self.others.rest in
+    let free : IsProbed slots (hash_of text) (start_of self.mask (hash_of text)) (Free c.in-Free.at) =
+    subst (λ hash. IsProbed slots hash (start_of self.mask hash) (Free c.in-Free.at)) c.requires.hash c.in-Free.ensures in
     let below_max : length texts < 4294967295 = omega (arith, counted, c.requires.few) in
-    subst (λ slots. IsIndex (texts ++ text ∷ []) self.mask slots others)
-    (λ j. slice_set slots (sym found.2 j) (record { hash = sym c.requires.hash j; number = counted j }))
-    (index-free texts self.mask slots others table text below_max new found.0 found.1 free found.4)
+    subst (λ slots. IsIndex (texts ++ text ∷ []) self.mask slots others_after)
+    (λ j. slice_set slots (sym free.3 j) (record { hash = sym c.requires.hash j; number = counted j }))
+    (index-free texts self.mask slots (number_among bytes texts self.others) table text below_max new others_after
+    (number_by-append firsts rest texts text)
+    (number_by-last firsts rest texts text table.distinct new (λ n e. table.others_right n text e))
+    c.in-Free.at free)
 
-pub returns-in-None-clause-entered : goal.returns-in-None-clause-entered
-returns-in-None-clause-entered g c texts table counted new =
+pub returns-in_default : goal.returns-in_default
+returns-in_default g c =
     let self = c.args.self.now in
+    let bytes = g.T.Text.bytes in
     let slots = self.slots.items in
-    let others = number_in_tree g.T.Text.bytes self.others in
-    let after = number_in_tree g.T.Text.bytes c.insert_into.new.tree in
-    let text = g.T.Text.bytes c.args.text.now in
-    let all : AreTaken slots (start_of self.mask (hash_of text)) = subst (λ hash. AreTaken slots (start_of self.mask hash)) c.requires.hash c.in-None.ensures in
-    let below_max : length texts < 4294967295 = omega (arith, counted, c.requires.few) in
-    index-put texts self.mask slots others table text below_max new all after c.insert_into.result
-    (subst (λ n. (t : List ℕ) → after t ≡ (if is_ok c.insert_into.result then cond (bytes_eq text t) (Some n) (others t) else others t)) (sym counted) c.insert_into.ensures)
+    let text = bytes c.args.text.now in
+    record {
+      entered = λ texts table counted new.
+          let others = number_among bytes texts self.others in
+          let after = number_among bytes (texts ++ text ∷ []) c.enter.new.self in
+          let blocked : IsBlocked slots (hash_of text) (start_of self.mask (hash_of text)) =
+          subst (λ hash. IsBlocked slots hash (start_of self.mask hash)) c.requires.hash
+          (blocked-not_free slots c.args.hash (start_of self.mask c.args.hash) c.probe.result c.probe.ensures c.in_default.not-Free) in
+          let below_max : length texts < 4294967295 = omega (arith, counted, c.requires.few) in
+          index-put texts self.mask slots others table text below_max new blocked after c.enter.result
+          (subst (λ n. (t : List ℕ) → OnOk c.enter.result (after t ≡ cond (bytes_eq text t) (Some n) (others t))) (sym counted) (c.enter.ensures.entered texts counted table.distinct new));
+      kept = λ texts table. index-kept texts self.mask slots (number_among bytes texts self.others) (number_among bytes texts c.enter.new.self) table c.enter.result (c.enter.ensures.kept texts);
+    }

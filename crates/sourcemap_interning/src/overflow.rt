@@ -1,0 +1,81 @@
+//! The numbers of the texts that have no slot in a `NumberTable`.
+ghost use Rattle.std.specs.Prelude.{◌≡◌, ◌++◌, ◌∷◌, ℕ, List, [], None, Some, cond, length, map, OnOk, OnErr};
+ghost use Rattle.std.specs.Str.{bytes_eq};
+ghost use Rattle.sourcemap_interning.specs.Interner.{AreDistinct, id_of};
+ghost use Rattle.sourcemap_interning.specs.Overflow.{number_among, sip_hash_of};
+
+use crate::text::{Text, is_text};
+use std::alloc::{AllocError, Global};
+use std::collections::BTreeMap;
+use std::hash::{DefaultHasher, Hasher};
+
+// A table overflows if many texts have equal hashes by `FoldHasher`. Such texts are easy to
+// construct. No way is known to construct many texts that also have equal SipHashes. So a tree
+// finds a text by its SipHash, and needs no copy of the text. A second tree, with texts as keys,
+// keeps the bound even if there are such texts.
+#[derive(Drop)]
+pub(crate) struct Overflow<T: Text> {
+    // for each SipHash, the number of the first text that has it
+    firsts: BTreeMap<u64, u32>,
+    // the numbers of the texts whose SipHash an earlier text has, too
+    rest: BTreeMap<T, u32>,
+}
+
+impl<T: Text> Overflow<T> {
+    // Without texts. This call does not allocate.
+    pub(crate) fn new(alloc: Global) -> Self
+        ensures { (texts : List (List ℕ)) (text : List ℕ)
+            → number_among T.bytes texts result text ≡ None }
+    {
+        Overflow {
+            firsts: BTreeMap::new(alloc),
+            rest: BTreeMap::new(alloc),
+        }
+    }
+
+    // The number of texts that were entered.
+    pub(crate) fn len(&self) -> usize {
+        self.firsts.len().saturating_add(self.rest.len())
+    }
+
+    // The number of `text`, or `None`. `texts` has each text that was entered, at its number.
+    #[inline(never)]
+    pub(crate) fn number(&self, texts: &[T], text: &str) -> Option<u32>
+        ensures { result ≡ number_among T.bytes (map T.bytes texts.now) self.now text.now }
+    {
+        match self.firsts.get(&sip_hash_of(text)) {
+            Some(first) if is_text(texts, *first, text) => Some(*first),
+            _ => T::number_in(&self.rest, text),
+        }
+    }
+
+    // Enters the next number for a new text. After an error all texts have the numbers that they
+    // had.
+    #[inline(never)]
+    pub(crate) fn enter(&mut self, text: &T, number: u32, alloc: Global) -> Result<(), AllocError>
+        ensures entered { (texts : List (List ℕ)) → length texts ≡ number → AreDistinct texts
+            → id_of (T.bytes text.now) texts ≡ None
+            → (other : List ℕ)
+            → OnOk result (number_among T.bytes (texts ++ T.bytes text.now ∷ []) self.new other
+            ≡ cond (bytes_eq (T.bytes text.now) other) (Some number)
+            (number_among T.bytes texts self.old other)) }
+        ensures kept { (texts : List (List ℕ)) (other : List ℕ)
+            → OnErr result (number_among T.bytes texts self.new other
+            ≡ number_among T.bytes texts self.old other) }
+    {
+        let hash = sip_hash_of(text.as_text());
+        if self.firsts.contains_key(&hash) {
+            return text.insert_into(&mut self.rest, number, alloc);
+        }
+        self.firsts.insert(hash, number)?;
+        Ok(())
+    }
+}
+
+fn sip_hash_of(text: &str) -> u64
+    ensures { result ≡ sip_hash_of text.now }
+{
+    let mut hasher = DefaultHasher::new();
+    hasher.write(text.as_bytes());
+    hasher.finish()
+}
