@@ -5,6 +5,7 @@ use sourcemap_core::tokens::NO_ID;
 use sourcemap_interning::text_index::TextIndex;
 use sourcemap_test_support::check;
 use std::alloc::Global;
+use std::hash::{DefaultHasher, FoldHasher, Hasher};
 
 // The largest number of texts of an index.
 const MOST: usize = 4294967295;
@@ -91,20 +92,51 @@ fn numbers_texts_that_collide(rt: HostRuntime) {
     check!(rt, "texts that collide", answer, "300 300 true false");
 }
 
+// Texts with one hash. The texts 1 and 2 also have one SipHash. A search over some seven billion
+// texts found them.
+static COLLIDING_TWICE: [&str; 7] = [
+    "webpack:00000019v}kzYA]700000000/src/app/file.js",
+    "webpack:00000019v}kzYA]7RWuwoQzt/src/app/file.js",
+    "webpack:00000019v}kzYA]7z9ZTwh_m/src/app/file.js",
+    "webpack:00000019v}kzYA]7RWuwoQzt/src/app/file.js",
+    "webpack:00000019v}kzYA]7z9ZTwh_m/src/app/file.js",
+    "webpack:00000019v}kzYA]700000000/src/app/file.js",
+    "webpack:00000019v}kzYA]700000001/src/app/file.js",
+];
+
+fn hash_by<H: Hasher + Drop>(mut hasher: H, text: &str) -> u64 {
+    hasher.write(text.as_bytes());
+    hasher.finish()
+}
+
+// Whether two texts have one hash, and whether they have one SipHash.
+fn collisions(one: &str, other: &str) -> (bool, bool) {
+    let fold = hash_by(FoldHasher::default(), one) == hash_by(FoldHasher::default(), other);
+    let sip = hash_by(DefaultHasher::new(), one) == hash_by(DefaultHasher::new(), other);
+    (fold, sip)
+}
+
+#[test]
+fn numbers_texts_that_collide_twice(rt: HostRuntime) {
+    let alloc = rt.alloc();
+    let [first, second, third, ..] = COLLIDING_TWICE;
+    let collisions = (collisions(first, second), collisions(second, third));
+    assert_eq!(rt; collisions, ((true, false), (true, true)));
+    let got = numbers(alloc, &COLLIDING_TWICE);
+    check!(rt, "numbers", got, "0 1 2 1 2 0 3 of 4");
+    check!(rt, "ids", ids(alloc, &COLLIDING_TWICE), "0 1 2 1 2 0 3 ");
+}
+
 static INTERNED: [&str; 7] = ["b", "a", "b", "", "a", "B", ""];
 
-fn push_ids(out: &mut String, interner: &mut Interner) -> Result<()> {
-    for text in INTERNED.iter() {
+// The id of each text in a new interner.
+fn ids(alloc: Global, texts: &[&str]) -> Result<String> {
+    let mut out = String::new(alloc);
+    let mut interner = Interner::new(alloc);
+    for text in texts {
         let id = interner.add(text)?;
         write!(out, "{id} ")?;
     }
-    Ok(())
-}
-
-fn ids(alloc: Global) -> Result<String> {
-    let mut out = String::new(alloc);
-    let mut interner = Interner::new(alloc);
-    push_ids(&mut out, &mut interner)?;
     Ok(out)
 }
 
@@ -136,7 +168,7 @@ fn texts_text(alloc: Global) -> Result<String> {
 fn equal_texts_have_one_number(rt: HostRuntime) {
     let alloc = rt.alloc();
     assert!(rt; Interner::new(alloc).is_empty());
-    check!(rt, "ids", ids(alloc), "0 1 0 2 1 3 2 ");
+    check!(rt, "ids", ids(alloc, &INTERNED), "0 1 0 2 1 3 2 ");
     let got = interned_texts(alloc);
     check!(rt, "texts", got, r#"4 (Some("b"), Some(""), None, None)"#);
     check!(rt, "all texts", texts_text(alloc), r#"["b", "a", "", "B"]"#);

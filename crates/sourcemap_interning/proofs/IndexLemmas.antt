@@ -1,12 +1,12 @@
 -- The result of a search, and the table after one more text.
-use Rattle.std.proofs.Common.{◌≡◌, ◌≢◌, refl, sym, ap, subst, ◌∙◌, ℕ, zero, suc, ◌+◌, ◌<◌, List, [], ◌∷◌, ◌++◌, length, false, cond, Some, None, Option, Result, Ok, Err, OnOk, OnErr, arith, inl, inr, ◌⊎◌, slice_get, slice_set, take, is_some}
+use Rattle.std.proofs.Common.{◌≡◌, ◌≢◌, refl, sym, ap, subst, ◌∙◌, ℕ, zero, suc, ◌+◌, ◌<◌, List, [], ◌∷◌, ◌++◌, length, false, cond, Some, None, Option, Result, Ok, Err, OnOk, OnErr, arith, inl, inr, ◌⊎◌, slice_get, slice_set, take}
 use Rattle.std.specs.Str.{bytes_eq}
 use Rattle.std.proofs.lemmas.Bool.{cases_Bool, cases_eq}
 use Rattle.std.proofs.lemmas.List.{length_push, length-set}
 use Rattle.std.proofs.lemmas.Option.{slice_get_within}
 use Rattle.std.proofs.lemmas.Slice.Eq.{bytes_eq-Decides}
-use Rattle.sourcemap_interning.specs.Interner.{AreDistinct, id_of, with_text}
-use Rattle.sourcemap_interning.specs.Slots.{ArePassed, IsBlocked, IsIndex, IsPassed, IsProbed, hash_of, start_of}
+use Rattle.sourcemap_interning.specs.Interner.{AreDistinct, id_of}
+use Rattle.sourcemap_interning.specs.Slots.{ArePassed, AreRight, IsBlocked, IsIndex, IsPassed, IsProbed, IsRight, hash_of, start_of}
 use Rattle.sourcemap_interning.specs.declared.slots.Probe.{Probe}
 use Rattle.sourcemap_interning.specs.declared.slots.Probe.TheVariants.{Free, Full, Taken}
 use Rattle.sourcemap_interning.specs.declared.slots.Slot.{Slot}
@@ -79,12 +79,6 @@ module _ (slots : List Slot) (hash start : ℕ) where
   free_or_blocked : (i : ℕ) → IsProbed slots hash start (Free i) → IsBlocked slots hash start → ⊥
   free_or_blocked i free blocked = elim blocked [ inl full ↦ free_or_full i free full | inr taken ↦ free_or_taken i taken.0 free taken.1 ]
 
-  -- a search that ends at no free slot
-  pub blocked-not_free : (p : Probe) → IsProbed slots hash start p → ((i : ℕ) → p ≡ Free i → ⊥) → IsBlocked slots hash start
-  blocked-not_free (Free i) probed not_free = absurd (not_free i refl)
-  blocked-not_free (Taken n) probed not_free = inr (n, probed)
-  blocked-not_free Full probed not_free = inl probed
-
   -- a search that ends at no slot
   pub none_taken : (p : Probe) → IsProbed slots hash start p → ((i : ℕ) → p ≡ Free i → ⊥) → ((n : ℕ) → p ≡ Taken n → ⊥) → (n : ℕ) → IsProbed slots hash start (Taken n) → ⊥
   none_taken (Free i) probed not_free not_taken n taken = not_free i refl
@@ -120,6 +114,9 @@ module _ (texts : List (List ℕ)) (mask : ℕ) (slots : List Slot) (others : Li
           cc
       | inr apart ↦ apart
     ]
+
+    right_more : (slot : Slot) → IsRight texts slot → IsRight (texts ++ text ∷ []) slot
+    right_more slot right = (right.0, slice_get-pushed texts text right.0 slot.number right.1, right.2)
 
     -- `others'` has the numbers of `others`, and for the new text at most the next number
     module _ (others' : List ℕ → Option ℕ) (kept : (t : List ℕ) → bytes_eq text t ≡ false → others' t ≡ others t)
@@ -178,10 +175,20 @@ module _ (texts : List (List ℕ)) (mask : ℕ) (slots : List Slot) (others : Li
           few = let more = length_push texts text in omega (arith, more, below_max);
           distinct = AreDistinct-append texts text is.distinct new;
           long = length-set slots (start_of mask (hash_of text) + free.0) new_slot ∙ is.long;
+          right = right';
           found = found';
           others_right = others_right';
         }
           where
+            right' : AreRight (texts ++ text ∷ []) after
+            right' p slot at taken = elim (cases_eq p (start_of mask (hash_of text) + free.0)) [
+              | inl same ↦
+                  let here : slice_get after p ≡ Some new_slot = subst (λ q. slice_get after q ≡ Some new_slot) (sym same)
+                  (slice_get-set_same slots (start_of mask (hash_of text) + free.0) new_slot (slice_get_within slots (start_of mask (hash_of text) + free.0) free.4 free.5)) in
+                  subst (IsRight (texts ++ text ∷ [])) (one_slot after p new_slot slot here at) (text, slice_get-last texts text, refl)
+              | inr apart ↦ right_more slot (is.right p slot (sym (slice_get-set_other slots (start_of mask (hash_of text) + free.0) p new_slot apart) ∙ at) taken)
+            ]
+
             found' : (n : ℕ) (t : List ℕ) → slice_get (texts ++ text ∷ []) n ≡ Some t
                 → IsProbed after (hash_of t) (start_of mask (hash_of t)) (Taken n) ⊎ (IsBlocked after (hash_of t) (start_of mask (hash_of t)) × (others' t ≡ Some n))
             found' n t named = elim (slice_get-append texts text n t named) [
@@ -210,6 +217,7 @@ module _ (texts : List (List ℕ)) (mask : ℕ) (slots : List Slot) (others : Li
         few = let more = length_push texts text in omega (arith, more, below_max);
         distinct = AreDistinct-append texts text is.distinct new;
         long = is.long;
+        right = λ p slot at taken. right_more slot (is.right p slot at taken);
         found = found';
         others_right = others_right';
       }
@@ -224,12 +232,6 @@ module _ (texts : List (List ℕ)) (mask : ℕ) (slots : List Slot) (others : Li
             | inr last ↦
                 inr (subst (λ u. IsBlocked slots (hash_of u) (start_of mask (hash_of u))) last.1 blocked, subst (λ u. others' u ≡ Some n) last.1 (here ∙ ap Some (sym last.0)))
           ]
-
-pub with-new : (texts : List (List ℕ)) (text : List ℕ) → id_of text texts ≡ None → with_text texts text ≡ texts ++ text ∷ []
-with-new texts text e = ap (λ o. cond (is_some o) texts (texts ++ text ∷ [])) e
-
-pub with-present : (texts : List (List ℕ)) (text : List ℕ) (n : ℕ) → id_of text texts ≡ Some n → with_text texts text ≡ texts
-with-present texts text n e = ap (λ o. cond (is_some o) texts (texts ++ text ∷ [])) e
 
 -- a text of a list of distinct texts does not occur before its index
 pub new-among : (texts : List (List ℕ)) (i : ℕ) (text : List ℕ) → AreDistinct texts → slice_get texts i ≡ Some text → id_of text (take i texts) ≡ None

@@ -21,6 +21,6 @@ matching_number texts text (Some number) = cond (is_text text (slice_get texts n
 abbrev pub number_by : (ℕ → Option ℕ) → (List ℕ → Option ℕ) → List (List ℕ) → List ℕ → Option ℕ
 number_by firsts rest texts text = option_or (matching_number texts text (firsts (sip_hash_of text))) (rest text)
 
--- the number that an overflow of these texts has for a text
+-- the number that an overflow has for a text; `texts` are the texts of the index
 abbrev pub number_among : {T : Type 0} → (T → List ℕ) → List (List ℕ) → Overflow T → List ℕ → Option ℕ
 number_among bytes texts overflow text = number_by (get nat_cmp overflow.firsts) (number_in_tree bytes overflow.rest) texts text

@@ -1,5 +1,7 @@
 //! The numbers of the texts that have no slot in a `NumberTable`.
 ghost use Rattle.std.specs.Prelude.{◌≡◌, ◌++◌, ◌∷◌, ℕ, List, [], None, Some, cond, length, map, OnOk, OnErr};
+ghost use Rattle.std.specs.BTreeMap.{get};
+ghost use Rattle.std.specs.Ordering.{nat_cmp};
 ghost use Rattle.std.specs.Str.{bytes_eq};
 ghost use Rattle.sourcemap_interning.specs.Interner.{AreDistinct, id_of};
 ghost use Rattle.sourcemap_interning.specs.Overflow.{number_among, sip_hash_of};
@@ -9,20 +11,20 @@ use std::alloc::{AllocError, Global};
 use std::collections::BTreeMap;
 use std::hash::{DefaultHasher, Hasher};
 
-// A table overflows if many texts have equal hashes by `FoldHasher`. Such texts are easy to
-// construct. No way is known to construct many texts that also have equal SipHashes. So a tree
-// finds a text by its SipHash, and needs no copy of the text. A second tree, with texts as keys,
-// keeps the bound even if there are such texts.
+// A text has no slot if an earlier text has the same hash, or if its 32 slots have other hashes.
+// Texts with equal hashes by `FoldHasher` are easy to construct. No way is known to construct many
+// texts that all have one SipHash. So a tree finds a text by its SipHash, and has no copy of the
+// text. A second tree, of texts, keeps the bound even if such texts are found.
 #[derive(Drop)]
 pub(crate) struct Overflow<T: Text> {
     // for each SipHash, the number of the first text that has it
     firsts: BTreeMap<u64, u32>,
-    // the numbers of the texts whose SipHash an earlier text has, too
+    // the numbers of all other texts: an earlier text has the same SipHash
     rest: BTreeMap<T, u32>,
 }
 
 impl<T: Text> Overflow<T> {
-    // Without texts. This call does not allocate.
+    // An overflow without texts. This call does not allocate.
     pub(crate) fn new(alloc: Global) -> Self
         ensures { (texts : List (List ℕ)) (text : List ℕ)
             → number_among T.bytes texts result text ≡ None }
@@ -33,18 +35,13 @@ impl<T: Text> Overflow<T> {
         }
     }
 
-    // The number of texts that were entered.
-    pub(crate) fn len(&self) -> usize {
-        self.firsts.len().saturating_add(self.rest.len())
-    }
-
     // The number of `text`, or `None`. `texts` has each text that was entered, at its number.
     #[inline(never)]
     pub(crate) fn number(&self, texts: &[T], text: &str) -> Option<u32>
         ensures { result ≡ number_among T.bytes (map T.bytes texts.now) self.now text.now }
     {
-        match self.firsts.get(&sip_hash_of(text)) {
-            Some(first) if is_text(texts, *first, text) => Some(*first),
+        match self.firsts.get(&sip_hash_of(text)).copied() {
+            Some(first) if is_text(texts, first, text) => Some(first),
             _ => T::number_in(&self.rest, text),
         }
     }
@@ -62,6 +59,8 @@ impl<T: Text> Overflow<T> {
         ensures kept { (texts : List (List ℕ)) (other : List ℕ)
             → OnErr result (number_among T.bytes texts self.new other
             ≡ number_among T.bytes texts self.old other) }
+        ensures first { get nat_cmp self.old.firsts (sip_hash_of (T.bytes text.now)) ≡ None
+            → self.new.rest ≡ self.old.rest }
     {
         let hash = sip_hash_of(text.as_text());
         if self.firsts.contains_key(&hash) {

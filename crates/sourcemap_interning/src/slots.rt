@@ -1,6 +1,6 @@
 //! A hash table with open addressing. It finds the number of a text by the hash of the text. The
 //! texts are in a list beside the table.
-ghost use Rattle.std.specs.Prelude.{◌≡◌, ◌<◌, ◌≤◌, ◌+◌, ◌*◌, ◌++◌, ◌∷◌, ℕ, List, [], None, Some, length, map, slice_get, IfOk, IfSome, OnOk, OnErr};
+ghost use Rattle.std.specs.Prelude.{◌≡◌, ◌<◌, ◌≤◌, ◌+◌, ◌*◌, ◌++◌, ◌∷◌, ℕ, List, [], None, length, map, IfOk, IfSome, OnOk, OnErr};
 ghost use Rattle.sourcemap_interning.specs.Interner.{id_of};
 ghost use Rattle.sourcemap_interning.specs.Slots.{IsProbed, IsTable, hash_of, start_of};
 
@@ -40,6 +40,8 @@ pub(crate) struct NumberTable<T: Text> {
     slots: Vec<Slot>,
     // a search starts at the slot `hash & mask`
     mask: usize,
+    // the number of texts whose search ended at the slot of another text, with the same hash
+    collisions: usize,
     // the numbers of the texts that have no slot
     others: Overflow<T>,
 }
@@ -56,29 +58,29 @@ impl<T: Text> NumberTable<T> {
             number: NO_NUMBER,
         };
         Ok(NumberTable {
-            slots: vec![in alloc; none; mask + 1 + WINDOW]?,
+            slots: vec![in alloc; none; mask + WINDOW]?,
             mask,
+            collisions: 0,
             others: Overflow::new(alloc),
         })
     }
 
-    // The mask of the next larger table for `count` texts. `None` as long as the number of taken
-    // slots is at most half of the mask. Also `None` if more than an eighth as many texts have no
-    // slot: their hashes collide, so a larger table would hardly have slots for them.
+    // The mask of a larger table for `count` texts. `None` as long as the number of their hashes is
+    // at most half of the mask. Texts with one hash count once, since no table has slots for more of
+    // them. But a larger table has to enter all texts again. So its mask is at least a quarter of
+    // `count`, and the table grows at most three times until the number of texts has doubled.
     pub(crate) fn larger_mask(&self, count: usize) -> Option<usize>
         requires { count ≤ 4294967295 }
-        ensures { IfSome result (λ mask. mask ≤ 4294967296 * 64) }
+        ensures larger { IfSome result (λ mask. self.now.mask * 4 < mask) }
+        ensures bound { IfSome result (λ mask. mask ≤ 4294967296 * 64) }
     {
-        let most = self.mask / 2;
-        if count <= most {
+        let hashes = count.saturating_sub(self.collisions);
+        if hashes <= self.mask / 2 {
             return None;
         }
-        let others = self.others.len();
-        let taken = count.saturating_sub(others);
-        if taken <= most || others > taken / 8 {
-            return None;
-        }
-        Some(self.mask * 4 + 3)
+        let next = self.mask * 4 + 3;
+        let least = (count / 4 + 1).next_power_of_two() - 1;
+        Some(if next < least { least } else { next })
     }
 
     // The number of `text`, whose hash is `hash`. `None` if it is not one of `texts`.
@@ -96,7 +98,7 @@ impl<T: Text> NumberTable<T> {
 
     #[inline(always)]
     fn probe(&self, hash: u32) -> Probe
-        requires { length self.now.slots.items ≡ self.now.mask + 33 }
+        requires { length self.now.slots.items ≡ self.now.mask + 32 }
         ensures { IsProbed self.now.slots.items hash (start_of self.now.mask hash) result }
     {
         let start = start_of(hash, self.mask);
@@ -112,8 +114,8 @@ impl<T: Text> NumberTable<T> {
         Probe::Full
     }
 
-    // Enters the next number for a new text, whose hash is `hash`. After an error it is still a
-    // table of the same texts.
+    // Enters the next number for a new text, whose hash is `hash`. After an error the table has
+    // the same texts as before.
     pub(crate) fn enter(
         &mut self,
         text: &T,
@@ -121,7 +123,7 @@ impl<T: Text> NumberTable<T> {
         number: u32,
         alloc: Global,
     ) -> Result<(), AllocError>
-        requires long { length self.old.slots.items ≡ self.old.mask + 33 }
+        requires long { length self.old.slots.items ≡ self.old.mask + 32 }
         requires hash { hash ≡ hash_of (T.bytes text.now) }
         requires few { number < 4294967295 }
         ensures entered { (texts : List (List ℕ)) → IsTable T.bytes texts self.old
@@ -135,13 +137,18 @@ impl<T: Text> NumberTable<T> {
                 self.slots[at] = Slot { hash, number };
                 Ok(())
             }
-            _ => self.others.enter(text, number, alloc),
+            Probe::Taken(_) => {
+                self.others.enter(text, number, alloc)?;
+                self.collisions = self.collisions.saturating_add(1);
+                Ok(())
+            }
+            Probe::Full => self.others.enter(text, number, alloc),
         }
     }
 }
 
 // The upper 32 bits of a hash. The seed of `FoldHasher` is fixed, so texts with equal hashes are
-// easy to construct. All but the first of them go to `others`.
+// easy to construct. At most one of them gets a slot.
 pub(crate) fn hash_of(text: &str) -> u32
     ensures { result ≡ hash_of text.now }
 {

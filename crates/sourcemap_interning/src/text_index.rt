@@ -1,5 +1,5 @@
 //! An index that assigns a number to each text, in the order in which the texts first occur.
-ghost use Rattle.std.specs.Prelude.{◌≡◌, ◌<◌, ◌≤◌, ◌++◌, ◌∷◌, ℕ, List, [], None, Some, length, map, is_some, IfOk, OnOk, OnErr, IsOk, IsSome, IsOkUnless};
+ghost use Rattle.std.specs.Prelude.{◌≡◌, ◌<◌, ◌≤◌, ◌++◌, ◌∷◌, [], None, Some, length, map, is_some, IfOk, OnOk, OnErr, IsOk, IsSome, IsOkUnless};
 ghost use Rattle.sourcemap_interning.specs.Interner.{AreDistinct, id_of, with_text};
 ghost use Rattle.sourcemap_interning.specs.Slots.{hash_of};
 ghost use Rattle.sourcemap_errors.specs.declared.errors.Error.TheVariants.{OutOfMemory};
@@ -14,9 +14,10 @@ use std::marker::Model;
 const FIRST_MASK: usize = 31;
 
 /// Texts that are numbered in the order in which they first occur. A search starts at the slot that
-/// the hash of the text selects and reads at most 32 slots. If it finds neither the text nor a free
-/// slot, or another text with the same hash, the text goes to a tree. So n texts take at most some
-/// n log n comparisons, also if their hashes collide.
+/// the hash of the text selects. It reads at most 32 slots, and ends at the first slot that is free
+/// or has this hash. A text without a slot is found by its SipHash. If an earlier text has the same
+/// SipHash, it is found in a tree of texts. So n texts take at most some n log n comparisons, even
+/// if their hashes collide.
 #[derive(Drop)]
 pub struct TextIndex<T: Text> {
     // the texts, by number
@@ -108,7 +109,8 @@ impl<T: Text> TextIndex<T> {
         self.table.number(self.texts.as_slice(), text, hash)
     }
 
-    // Adds a new text, whose hash is `hash`, under the next number, and returns this number.
+    // Adds a new text, whose hash is `hash`, under the next number, and returns this number. An
+    // error leaves the index unchanged.
     pub(crate) fn append(&mut self, text: T, hash: u32) -> Result<u32, AllocError>
         requires hash { hash ≡ hash_of (T.bytes text) }
         requires new { id_of (T.bytes text) self.old ≡ None }
