@@ -162,7 +162,7 @@ def _(size):
     return colliding_input('lines', size)
 
 
-# the colliding lines in the tree keep the table small, so most usual lines go to the tree too
+# the table grows while the tree has many colliding lines, and enters them again
 @kind('usual lines after colliding lines', 10_000, of_calls('builder', 'intern'), 8)
 def _(size):
     return colliding_input('lines', size) + colliding_input('lines', size // 10, '--usual')
