@@ -24,9 +24,8 @@ MAP             files of maps, which may be index maps. Without MAP, the maps th
                 this number of tokens, and each other one has twice as many as the one before. 0 gives no table
 --instructions  also counts instructions, with valgrind, which is slow
 
-If a program of this repository is missing, it is built first. With --no-maps, only the programs for views and bundles
-are built. SOURCEMAP_TOOL, SOURCEMAP_BENCH and, for views and bundles, SOURCEMAP_BENCH_VIEWS and
-SOURCEMAP_BENCH_BUNDLES in the environment name other programs.
+If a program of this repository is missing, it is built first. With --no-maps, only `sourcemap_bench` is built.
+SOURCEMAP_TOOL and SOURCEMAP_BENCH in the environment name other programs.
 
 The time of an operation comes from two processes: one repeats the operation often, and the other does it once. The
 difference of their times is divided by the difference of their numbers of repetitions. So the figure does not contain
@@ -41,7 +40,8 @@ there as soon as it is measured, except in tables of growth. A cell has the rati
 and in parentheses the figure here. A row of growth has the figure on the smallest map, and then the ratios to it.
 """
 import argparse, json, os, pathlib, shutil, subprocess, sys, tempfile
-from comparing import BENCH, BENCH_BUNDLES, BENCH_VIEWS, CRATES, TOOL, build_missing, reference_program, text_beside
+sys.path.insert(0, str(pathlib.Path(__file__).resolve().parent.parent / 'compare'))
+from comparing import BENCH, CRATES, TOOL, build_missing, reference_program, text_beside
 from composing import Token, mappings_of
 from index_maps import LAST, is_index, record_of
 from walks import TOKENS
@@ -53,8 +53,8 @@ TITLES = {'decode': 'decode a slice', 'decode-reader': 'decode a reader', 'looku
           'tokens': 'all tokens', 'encode': 'encode', 'rewrite': 'copy and rewrite', 'flatten': 'flatten',
           'compose': 'copy and compose', 'lines': 'a view and all its lines', 'names': 'walks over all tokens', 'split': 'flatten and split'}
 OF_VIEWS = ['lines', 'names']
-# the programs for the operations that BENCH does not have
-PROGRAMS = {**dict.fromkeys(OF_VIEWS, BENCH_VIEWS), 'split': BENCH_BUNDLES}
+# the words before the operations on other subjects than maps
+SUBJECTS = {**dict.fromkeys(OF_VIEWS, ['views']), 'split': ['bundles']}
 BUNDLES = {'2,500 modules': ['2500', '250000'], '5,000 modules': ['5000', '500000'], '10,000 modules': ['10000', '1000000'],
            '5,000 modules in one section': ['5000', '500000', '--sections', '1'],
            '5,000 modules with contents': ['5000', '500000', '--contents', '2000']}
@@ -120,7 +120,7 @@ class Pair:
     """Both programs, and whether a checksum differed."""
 
     def __init__(self, reference):
-        self.commands = {'here': lambda op, n: [PROGRAMS.get(op, BENCH), op, str(n)],
+        self.commands = {'here': lambda op, n: [BENCH, *SUBJECTS.get(op, []), op, str(n)],
                          'reference': lambda op, n: [reference, 'bench', op, str(n)]}
         self.reference = reference
         self.is_different = False
@@ -373,9 +373,7 @@ def main():
     given = words.parse_args()
     if given.instructions and not shutil.which('valgrind'):
         words.error('--instructions needs valgrind')
-    build_missing([BENCH_VIEWS] * given.views + [BENCH_BUNDLES] * given.bundles)
-    if not given.no_maps:
-        build_missing()
+    build_missing([BENCH] if given.no_maps else [TOOL, BENCH])
     programs = Pair(reference_program(given.reference))
     with tempfile.TemporaryDirectory() as folder:
         paths = [] if given.no_maps else given.maps or gathered_maps(folder)

@@ -1,7 +1,7 @@
 #!/usr/bin/env python3
 """Checks whether each must-fail edit can be applied.
 
-    bench/check-edits.py
+    checks/edits.py
 
 `rt ci` tries an edit only if the text of each `old:` line occurs exactly once in the file that the `file:` line before
 it names. It prints a note for any other edit, and does not fail. So a reworded line could switch an edit off. Then this
