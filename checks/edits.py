@@ -3,17 +3,20 @@
 
     checks/edits.py
 
-`rt ci` tries an edit only if the text of each `old:` line occurs exactly once in the file that the `file:` line before
-it names. It prints a note for any other edit, and does not fail. So a reworded line could switch an edit off. Then this
-script fails. It also fails if there are no edits. Its last line is `N passed, M failed`, of edits."""
+The edits are crates/CRATE/must-fail/*.edit, which `rt ci` tries, and checks/edits/CRATE/*.edit, which `checks/try-edits`
+tries. Each says what to change in crates/CRATE. An edit is tried only if the text of each `old:` line occurs exactly
+once in the file that the `file:` line before it names. `rt ci` prints a note for any other edit, and does not fail. So
+a reworded line could switch an edit off. Then this script fails. It also fails if a crate has two edits of one name, or
+if there are no edits. Its last line is `N passed, M failed`, of edits."""
 import pathlib, sys
 
-CRATES = pathlib.Path(__file__).resolve().parent.parent / 'crates'
+TOP = pathlib.Path(__file__).resolve().parent.parent
+CRATES = TOP / 'crates'
 
 
-def reasons_against(edit):
-    """The reasons why an edit cannot be applied."""
-    crate, path, old, pairs = edit.parent.parent, None, None, 0
+def reasons_against(crate, edit):
+    """The reasons why an edit of a crate cannot be applied."""
+    path, old, pairs = None, None, 0
     for line in edit.read_text().splitlines():
         if line.startswith('file: '):
             path = crate / line.removeprefix('file: ').strip()
@@ -34,13 +37,17 @@ def reasons_against(edit):
 
 
 def main():
-    edits = sorted(CRATES.glob('*/must-fail/*.edit'))
-    failed = 0
-    for edit in edits:
-        reasons = list(reasons_against(edit))
+    edits = [(edit.parent.parent, edit) for edit in sorted(CRATES.glob('*/must-fail/*.edit'))]
+    edits += [(CRATES / edit.parent.name, edit) for edit in sorted((TOP / 'checks/edits').glob('*/*.edit'))]
+    names, failed = set(), 0
+    for crate, edit in edits:
+        reasons = list(reasons_against(crate, edit))
+        if (crate, edit.name) in names:
+            reasons.append('there is another edit of this name')
+        names.add((crate, edit.name))
         failed += bool(reasons)
         for reason in reasons:
-            print(f'{edit.parent.parent.name}/{edit.name}: {reason}')
+            print(f'{edit.relative_to(TOP)}: {reason}')
     print(f'{len(edits) - failed} passed, {failed} failed')
     return 1 if failed or not edits else 0
 
