@@ -1,7 +1,7 @@
 #!/usr/bin/env python3
 """Tests how the program ends if an argument is not UTF-8, if the reader of its output closes the pipe, if an
 output or an input fails, and if there is no memory to read its arguments. Also tests the wrapper `sourcemap`: through
-a symbolic link, from another folder, and if no program is built.
+a symbolic link, from another folder, if no program is built, and if a source changed after the build.
 
     checks/program.py
 
@@ -19,6 +19,16 @@ WRAPPER_USAGE = b'usage: sourcemap WORDS < MAP'
 ANSWER = b'coolstuff.js:0:4 name=x\n'
 LOOKUP = [b'lookup', b'0', b'5']
 MISSING = b'No such file or directory (os error 2)\n'
+STUB = '''#!/bin/sh
+if [ "$1" = run ]; then
+    mkdir -p out
+    printf '#!/bin/sh\\necho built\\n' > out/sourcemap_tool
+    chmod +x out/sourcemap_tool
+else
+    echo unproved
+    echo run=ended >&2
+fi
+'''
 COMPOSED = b'{"mappings":"","names":["x","alert"],"sources":["coolstuff.js"],"version":3}\n'
 
 
@@ -60,18 +70,39 @@ def through_link(words):
         return run_on_map(['bash', '-c', 'exec ../link "$@" < ../here.map', 'bash', *words], cwd=f'{folder}/inner')
 
 
-def run_unbuilt(words):
-    """Runs the wrapper on the map in a copy of the files that git tracks, in which no program is built. Returns the
-    status, the first line of standard output, and standard error."""
+def copy_tracked(folder):
+    """Copies the files that git tracks. No program is built there."""
     listed = subprocess.run(['git', 'ls-files', '-z'], cwd=HOME, check=True, stdout=subprocess.PIPE).stdout
+    # a checkout may lack files that git tracks
+    for name in filter(lambda name: (HOME / name).is_file(), os.fsdecode(listed).split('\0')):
+        copy = pathlib.Path(folder, name)
+        copy.parent.mkdir(parents=True, exist_ok=True)
+        shutil.copy(HOME / name, copy)
+
+
+def run_unbuilt(words):
+    """Runs the wrapper on the map in a copy in which no program is built. Returns the status, the first line of standard
+    output, and standard error."""
     with tempfile.TemporaryDirectory() as folder:
-        # a checkout may lack files that git tracks
-        for name in filter(lambda name: (HOME / name).is_file(), os.fsdecode(listed).split('\0')):
-            copy = pathlib.Path(folder, name)
-            copy.parent.mkdir(parents=True, exist_ok=True)
-            shutil.copy(HOME / name, copy)
+        copy_tracked(folder)
         status, printed, errors = run_on_map([f'{folder}/sourcemap', *words])
     return status, printed.split(b'\n')[0], errors
+
+
+def answered_after(change):
+    """What the wrapper prints in a copy after a change, which gets the path of a source. There a stub stands for rt: its
+    program prints `built`, and its unproved program prints `unproved`."""
+    with tempfile.TemporaryDirectory() as folder:
+        copy_tracked(folder)
+        stub = pathlib.Path(folder, 'stub/rt')
+        stub.parent.mkdir()
+        stub.write_text(STUB)
+        stub.chmod(0o755)
+        path = {**os.environ, 'PATH': f'{stub.parent}:{os.environ["PATH"]}'}
+        for words in (['--build'], ['tokens']):
+            run_on_map([f'{folder}/sourcemap', *words], env=path)
+        change(pathlib.Path(folder, 'crates/sourcemap_vlq/src/lib.rt'))
+        return run_on_map([f'{folder}/sourcemap', 'tokens'], env=path)[1]
 
 
 def run_unproved(words):
@@ -120,6 +151,13 @@ TRIALS = [
     ('no words where nothing is built', lambda: run_unbuilt([]), (2, WRAPPER_USAGE, b'')),
     ('an answer where nothing is built', lambda: run_unproved(LOOKUP), (0, ANSWER.strip(), 1, True)),
     ('other words where nothing is built', lambda: run_unproved([b'lookup', b'0']), (2, USAGE.strip(), 1, True)),
+    ('no source changed', lambda: answered_after(lambda source: None), b'built\n'),
+    ('a source was edited', lambda: answered_after(lambda source: source.write_text('')), b'unproved\n'),
+    ('a source was removed', lambda: answered_after(lambda source: source.unlink()), b'unproved\n'),
+    ('an old source was added', lambda: answered_after(lambda source: shutil.copy2(source, source.with_name('a.rt'))),
+     b'unproved\n'),
+    ('a test was edited', lambda: answered_after(lambda source: (source.parents[2] / 'sourcemap_map_tests/src/lib.rt').write_text('')),
+     b'built\n'),
     ('out of memory before the run begins', short_of_memory, (1, b'', b'out of memory\n')),
 ]
 
