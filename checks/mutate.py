@@ -13,7 +13,7 @@ error to standard error, and only its status is compared. The rules leave some c
 the status is 0 or 1. One reason is an output with too many lines for `rules.py`. Such a run may also print
 `out of memory` and end with status 1, because a run has 256 MB of memory.
 
-With --reference, each case of a command also runs on PROGRAM, a built program over the crate (`bench/reference/`). The script
+With --reference, each case of a command also runs on PROGRAM, a built program over the crate (`reference/`). The script
 compares no case of `trace`, which the reference does not have, and no run whose status is not 0 or 1. Each difference
 must have a reason among those of `docs/DIFFERENCES.md`. Without a reason it is printed as UNEXPLAINED, and the case
 fails.
