@@ -1,6 +1,7 @@
 -- The URLs of absolute paths of files, and the paths of `file` URLs.
 use Rattle.std.specs.Prelude.{◌≡◌, ℕ, ◌+◌, ◌⊎◌, ◌==◌, Bool, not, ◌&&◌, ◌||◌, if◌then◌else◌, List, [], ◌++◌, length, slice_index, filter, flat_map, codes, bytes_eq, Option, Some, None, Result, Ok, Err}
 use Rattle.std.specs.Bool.{MatchBool}
+use Rattle.std.specs.Char.{is_ascii_alphanumeric}
 use Rattle.std.specs.Str.{is_utf8}
 use Rattle.std.specs.Result.{result_ok}
 use Rattle.std.specs.List.{slice_split}
@@ -32,6 +33,10 @@ components path = filter is_component (slice_split is_slash path)
 -- the end of a URL: `/` for a folder and for a path without components, otherwise empty
 abbrev pub end_text : Bool → List (List ℕ) → List ℕ
 end_text folder parts = if folder || (length parts == 0) then codes "/" else []
+
+-- a byte that stands unescaped in a component: a letter, a digit, `-`, `.`, `_` or `~`
+abbrev pub is_unreserved : ℕ → Bool
+is_unreserved byte = is_ascii_alphanumeric byte || (byte == 45) || (byte == 46) || (byte == 95) || (byte == 126)
 
 -- for each component: `/`, then the component, escaped
 abbrev pub escaped : List (List ℕ) → List ℕ
