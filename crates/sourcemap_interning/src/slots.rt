@@ -1,6 +1,7 @@
 //! A hash table with open addressing. It finds the number of a text by the hash of the text. The
 //! texts are in a list beside the table.
-ghost use Rattle.std.specs.Prelude.{◌≡◌, ◌<◌, ◌≤◌, ◌+◌, ◌*◌, ◌++◌, ◌∷◌, ℕ, List, [], None, length, map, IfOk, IfSome, OnOk, OnErr};
+ghost use Rattle.std.specs.Prelude.{◌≡◌, ◌<◌, ◌≤◌, ◌+◌, ◌*◌, ◌++◌, ◌∷◌, ℕ, List, [], None, length, map, IfOk, IfSome};
+ghost use Rattle.std.specs.Prelude.{OnOk, OnErr};
 ghost use Rattle.sourcemap_interning.specs.Interner.{id_of};
 ghost use Rattle.sourcemap_interning.specs.Slots.{IsProbed, IsTable, hash_of, start_of};
 

@@ -1,5 +1,6 @@
 //! An index that assigns a number to each text, in the order in which the texts first occur.
-ghost use Rattle.std.specs.Prelude.{◌≡◌, ◌<◌, ◌≤◌, ◌++◌, ◌∷◌, [], None, Some, length, map, is_some, IfOk, OnOk, OnErr, IsOk, IsSome, IsOkUnless};
+ghost use Rattle.std.specs.Prelude.{◌≡◌, ◌<◌, ◌≤◌, ◌++◌, ◌∷◌, [], None, Some, length, map, is_some, IfOk, OnOk, OnErr};
+ghost use Rattle.std.specs.Prelude.{IsOk, IsSome, IsOkUnless};
 ghost use Rattle.sourcemap_interning.specs.Interner.{AreDistinct, id_of, with_text};
 ghost use Rattle.sourcemap_interning.specs.Slots.{hash_of};
 ghost use Rattle.sourcemap_errors.specs.declared.errors.Error.TheVariants.{OutOfMemory};

@@ -1,5 +1,6 @@
 -- How a token that is appended changes the tokens of each line, and the list without repeats.
-use Rattle.std.proofs.Common.{◌≡◌, ◌≢◌, ℕ, ◌+◌, ◌<◌, ◌≤◌, ◌==◌, nat_lt, Bool, true, false, cond, List, [], ◌∷◌, ◌++◌, filter, Option, Some, None, refl, sym, ap, subst, ◌∙◌, ⊎_elim, append-nil, arith}
+use Rattle.std.proofs.Common.{◌≡◌, ◌≢◌, ℕ, ◌+◌, ◌<◌, ◌≤◌, ◌==◌, nat_lt, Bool, true, false, cond, List, [], ◌∷◌, ◌++◌}
+use Rattle.std.proofs.Common.{filter, Option, Some, None, refl, sym, ap, subst, ◌∙◌, ⊎_elim, append-nil, arith}
 use Rattle.std.specs.List.{last_or, AllByRecursion}
 use Rattle.std.specs.Option.{option_map_or}
 use Rattle.std.proofs.lemmas.List.Elements.{filter-append}
@@ -16,13 +17,16 @@ pub last_or-push : {A : Type 0} (o : Option A) (xs : List A) (x : A) → last_or
 last_or-push o [] x = refl
 last_or-push o (y ∷ ys) x = last_or-push (Some y) ys x
 
-pub filter_push : {A : Type 0} (p : A → Bool) (xs : List A) (x : A) → filter p (xs ++ x ∷ []) ≡ filter p xs ++ cond (p x) (x ∷ []) []
+pub filter_push : {A : Type 0} (p : A → Bool) (xs : List A) (x : A)
+    → filter p (xs ++ x ∷ []) ≡ filter p xs ++ cond (p x) (x ∷ []) []
 filter_push p xs x = filter-append p xs (x ∷ [])
 
-pub filter_push_no : {A : Type 0} (p : A → Bool) (xs : List A) (x : A) → p x ≡ false → filter p (xs ++ x ∷ []) ≡ filter p xs
+pub filter_push_no : {A : Type 0} (p : A → Bool) (xs : List A) (x : A) → p x ≡ false
+    → filter p (xs ++ x ∷ []) ≡ filter p xs
 filter_push_no p xs x e = filter_push p xs x ∙ ap (λ b. filter p xs ++ cond b (x ∷ []) []) e ∙ append-nil (filter p xs)
 
-pub filter_push_yes : {A : Type 0} (p : A → Bool) (xs : List A) (x : A) → p x ≡ true → filter p (xs ++ x ∷ []) ≡ filter p xs ++ x ∷ []
+pub filter_push_yes : {A : Type 0} (p : A → Bool) (xs : List A) (x : A) → p x ≡ true
+    → filter p (xs ++ x ∷ []) ≡ filter p xs ++ x ∷ []
 filter_push_yes p xs x e = filter_push p xs x ∙ ap (λ b. filter p xs ++ cond b (x ∷ []) []) e
 
 pub last_field-push_no : (p : RawToken → Bool) (f : RawToken → ℕ) (xs : List RawToken) (x : RawToken) → p x ≡ false
@@ -46,7 +50,8 @@ unfolding last_from
 last_or_from p [] = refl
 last_or_from p (x ∷ xs) = last_or_from x xs
 
-cons_unless : (b : Bool) (x : RawToken) (xs ys : List RawToken) → cond b (xs ++ ys) (x ∷ (xs ++ ys)) ≡ cond b xs (x ∷ xs) ++ ys
+cons_unless : (b : Bool) (x : RawToken) (xs ys : List RawToken)
+    → cond b (xs ++ ys) (x ∷ (xs ++ ys)) ≡ cond b xs (x ∷ xs) ++ ys
 cons_unless true x xs ys = refl
 cons_unless false x xs ys = refl
 
@@ -56,7 +61,8 @@ unfolding last_from
 changes_after-push p [] t = refl
 changes_after-push p (x ∷ xs) t =
     let more = cond (are_same t (last_from x xs)) [] (t ∷ []) in
-    ap (λ ys. cond (are_same x p) ys (x ∷ ys)) (changes_after-push x xs t) ∙ cons_unless (are_same x p) x (changes_after x xs) more
+    ap (λ ys. cond (are_same x p) ys (x ∷ ys)) (changes_after-push x xs t)
+    ∙ cons_unless (are_same x p) x (changes_after x xs) more
 
 without_repeats-push : (xs : List RawToken) (t : RawToken)
     → without_repeats (xs ++ t ∷ []) ≡ without_repeats xs ++ cond (repeats (last_or None xs) t) [] (t ∷ [])
@@ -92,11 +98,13 @@ abbrev pub Rises : List RawToken → Type 0
 Rises [] = Unit {0}
 Rises (t ∷ ts) = From t.dst_line ts × Rises ts
 
-pub all_push : (P : RawToken → Type 0) (xs : List RawToken) (x : RawToken) → AllByRecursion P xs → P x → AllByRecursion P (xs ++ x ∷ [])
+pub all_push : (P : RawToken → Type 0) (xs : List RawToken) (x : RawToken) → AllByRecursion P xs → P x
+    → AllByRecursion P (xs ++ x ∷ [])
 all_push P [] x all px = (px, tt)
 all_push P (y ∷ ys) x all px = (all.0, all_push P ys x all.1 px)
 
-pub all_weaker : (P Q : RawToken → Type 0) → ((t : RawToken) → P t → Q t) → (xs : List RawToken) → AllByRecursion P xs → AllByRecursion Q xs
+pub all_weaker : (P Q : RawToken → Type 0) → ((t : RawToken) → P t → Q t) → (xs : List RawToken) → AllByRecursion P xs
+    → AllByRecursion Q xs
 all_weaker P Q f [] all = tt
 all_weaker P Q f (x ∷ xs) all = (f x all.0, all_weaker P Q f xs all.1)
 
@@ -126,18 +134,21 @@ pub none_on : (n m : ℕ) (ts : List RawToken) → UpTo n ts → n < m → filte
 none_on n m [] all h = refl
 none_on n m (t ∷ ts) all h =
     let line : t.dst_line ≤ n = all.0 in
-    ap (λ b. cond b (t ∷ filter (is_on m) ts) (filter (is_on m) ts)) (on_no t.dst_line m (λ e. omega arith)) ∙ none_on n m ts all.1 h
+    ap (λ b. cond b (t ∷ filter (is_on m) ts) (filter (is_on m) ts)) (on_no t.dst_line m (λ e. omega arith))
+    ∙ none_on n m ts all.1 h
 
 none_above : (n : ℕ) (ts : List RawToken) → From n ts → filter (is_above n) ts ≡ []
 none_above n [] all = refl
 none_above n (t ∷ ts) all =
-    ap (λ b. cond b (t ∷ filter (is_above n) ts) (filter (is_above n) ts)) (below_no t.dst_line n all.0) ∙ none_above n ts all.1
+    ap (λ b. cond b (t ∷ filter (is_above n) ts) (filter (is_above n) ts)) (below_no t.dst_line n all.0)
+    ∙ none_above n ts all.1
 
 pub all_above : (n : ℕ) (ts : List RawToken) → UpTo n ts → filter (is_above (n + 1)) ts ≡ ts
 all_above n [] all = refl
 all_above n (t ∷ ts) all =
     let line : t.dst_line ≤ n = all.0 in
-    ap (λ b. cond b (t ∷ filter (is_above (n + 1)) ts) (filter (is_above (n + 1)) ts)) (below_yes t.dst_line (n + 1) (omega arith))
+    ap (λ b. cond b (t ∷ filter (is_above (n + 1)) ts) (filter (is_above (n + 1)) ts))
+    (below_yes t.dst_line (n + 1) (omega arith))
     ∙ ap (λ us. t ∷ us) (all_above n ts all.1)
 
 -- the step of `above_more` from `ts` to `t ∷ ts`, in three cases: `t` is above, on or after line `n`
@@ -166,7 +177,8 @@ above_more_at n t ts from more = ⊎_elim
     (cases_eq t.dst_line n))
     (cases_lt t.dst_line n)
 
-pub above_more : (n : ℕ) (ts : List RawToken) → Rises ts → filter (is_above (n + 1)) ts ≡ filter (is_above n) ts ++ filter (is_on n) ts
+pub above_more : (n : ℕ) (ts : List RawToken) → Rises ts
+    → filter (is_above (n + 1)) ts ≡ filter (is_above n) ts ++ filter (is_on n) ts
 above_more n [] r = refl
 above_more n (t ∷ ts) r = above_more_at n t ts r.0 (above_more n ts r.1)
 

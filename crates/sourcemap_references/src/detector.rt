@@ -1,5 +1,6 @@
 //! References to source maps.
-ghost use Rattle.std.specs.Prelude.{◌≡◌, ◌+◌, ◌<◌, ◌≤◌, ℕ, drop, Err, IsOkUnless, List, MatchOption, MatchResult, None, Ok, Option, Some, false, is_some, length, option_map, string_bytes, true};
+ghost use Rattle.std.specs.Prelude.{◌≡◌, ◌+◌, ◌<◌, ◌≤◌, ℕ, drop, Err, IsOkUnless, List, MatchOption, MatchResult, None};
+ghost use Rattle.std.specs.Prelude.{Ok, Option, Some, false, is_some, length, option_map, string_bytes, true};
 ghost use Rattle.std.specs.Io.BufRead.{strip_last};
 ghost use Rattle.std.specs.Io.Buffered.{reader_remaining};
 ghost use Rattle.std.specs.Result.{result_ok};
@@ -12,7 +13,8 @@ ghost use Rattle.sourcemap_file_urls.specs.Places.{url_text};
 ghost use Rattle.sourcemap_file_urls.specs.Urls.{IsLong};
 ghost use Rattle.sourcemap_references.specs.Lines.{AreUnmarked, IsFirstMarked, LeavesOnly, ReadsLine};
 ghost use Rattle.sourcemap_references.specs.Reference.{first_reference, line_reference, reference_on, url_after_mark};
-ghost use Rattle.sourcemap_references.specs.References.{IsInvalidData, IsReadError, Locates, LocatesRead, reference, url_of};
+ghost use Rattle.sourcemap_references.specs.References.{IsInvalidData, IsReadError, Locates, LocatesRead, reference};
+ghost use Rattle.sourcemap_references.specs.References.{url_of};
 ghost use Rattle.sourcemap_references.specs.declared.detector.SourceMapRef.{SourceMapRef};
 ghost use Rattle.sourcemap_references.specs.Resolution.{IsLongJoin, UnlessLong, is_data_url, resolved, resolved_path};
 

@@ -22,4 +22,5 @@ pub record IsBare (old new : MapValue) : Type 0 where
 -- both byte lists decode to regular maps, and `IsBare` holds of these maps
 abbrev pub Publishes : (old new : List ℕ) → Type 0
 Publishes old new =
-    (m n : MapValue) × BytesHaveResult RegularDecodes old (Ok m) × BytesHaveResult RegularDecodes new (Ok n) × IsBare m n
+    (m n : MapValue) × BytesHaveResult RegularDecodes old (Ok m) × BytesHaveResult RegularDecodes new (Ok n)
+    × IsBare m n

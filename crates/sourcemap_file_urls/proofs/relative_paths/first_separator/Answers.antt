@@ -9,4 +9,5 @@ returns-then-is_separator c =
     sym (position_or_len_is is_separator c.args.path.now c.loop-at.at 0 (omega arith) c.loop-at.invariant (λ l. here))
 
 pub returns : goal.returns
-returns c = sym (position_or_len_is is_separator c.args.path.now (length c.args.path.now) 0 (omega arith) (search rules) (λ l. absurd (omega arith)))
+returns c = sym (position_or_len_is is_separator c.args.path.now (length c.args.path.now) 0 (omega arith) (search rules)
+    (λ l. absurd (omega arith)))

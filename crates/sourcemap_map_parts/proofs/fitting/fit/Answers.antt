@@ -3,10 +3,13 @@ use Rattle.sourcemap_map_parts.proofs.FittingLemmas.{fits, one_more}
 use Rattle.sourcemap_map_parts.proofs.fitting.fit.Goals as goal
 
 pub loop-items-preserved : goal.loop-items-preserved
-loop-items-preserved g c = let e = c.in-Ok.ensures.items in let f = c.in-Ok.ensures.len in let p = c.loop-items.invariant in
-    let k : vec_len c.push.new.self - c.len-len.result ≡ (vec_len c.loop-items.items - c.len-len.result) + 1 = omega arith in (
+loop-items-preserved g c = let e = c.in-Ok.ensures.items in let f = c.in-Ok.ensures.len in let p =
+    c.loop-items.invariant in
+    let k : vec_len c.push.new.self - c.len-len.result ≡ (vec_len c.loop-items.items - c.len-len.result) + 1 =
+    omega arith in (
       omega arith,
-      rw k (one_more (vec_len c.loop-items.items - c.len-len.result) c.args.items.now.items c.loop-items.items.items c.push.new.self.items p.1 e),
+      rw k (one_more (vec_len c.loop-items.items
+          - c.len-len.result) c.args.items.now.items c.loop-items.items.items c.push.new.self.items p.1 e),
     )
 
 pub returns-clause-ok : goal.returns-clause-ok
