@@ -2,10 +2,9 @@
 -- map's closest token is in the module's text too, and the flat map has at most 4294967295 sources and at most
 -- 4294967295 names.
 use Rattle.std.proofs.Common.{◌≡◌, ◌∙◌, refl, sym, ap, subst, ℕ, ◌+◌, ◌-◌, ◌<◌, ◌≤◌, ◌==◌, ◌&&◌, List, [], ◌∷◌, length}
-use Rattle.std.proofs.Common.{map, filter, Bool, true, false, cond, not, nat_lt, nat_eq, Option, Some, None, option_map}
+use Rattle.std.proofs.Common.{map, filter, Bool, true, false, cond, not, Option, Some, None, option_map}
 use Rattle.std.proofs.Common.{unwrap_or, slice_get, arith}
 use Rattle.std.specs.List.{AllByRecursion}
-use Rattle.std.proofs.lemmas.Bool.{eqb-true}
 use Rattle.std.specs.Ordering.{is_lt, is_eq, nat_cmp, ordering_then}
 use Rattle.std.specs.declared.cmp.Ordering.{Ordering}
 use Rattle.std.specs.declared.cmp.Ordering.TheVariants.{Less, Equal, Greater}
@@ -25,6 +24,7 @@ use Rattle.sourcemap_bundle_split.specs.ModuleMap.{sources_in, texts_at, tokens_
 use Rattle.sourcemap_bundle_split.proofs.ClosestLemmas.{closest-among, closest-filter, closest-map, KeepsOrder}
 use Rattle.sourcemap_bundle_split.proofs.LoweredLemmas.{cmp-relative_position, in-later, same-relative_position}
 use Rattle.sourcemap_bundle_split.proofs.NumberLemmas.{text_by_number}
+use Rattle.sourcemap_line_index.proofs.LineIndexLemmas.{eq_from_is_eq}
 
 orders : (line : ℕ) (end p : ℕ × ℕ) (sources names : List ℕ) (tokens : List RawToken) → line ≤ p.0
     → AllByRecursion (KeepsOrder (moved_by line sources names) destination destination position_cmp p
@@ -56,21 +56,13 @@ is_eq-then Less u e = cc
 is_eq-then Equal u e = (refl, e)
 is_eq-then Greater u e = cc
 
-is_eq-same : (a b : ℕ) → is_eq (nat_cmp a b) ≡ true → a ≡ b
-is_eq-same a b e = by_cases (nat_lt a b) (nat_eq a b) refl refl
-  where
-    by_cases : (less same : Bool) → nat_lt a b ≡ less → nat_eq a b ≡ same → a ≡ b
-    by_cases true s l same = let no : false ≡ true = (rw l at e) in cc
-    by_cases false true l same = eqb-true a b same
-    by_cases false false l same = let no : false ≡ true = (rw (l, same) at e) in cc
-
 -- a position that compares equal to one in a range is in the range
 at-in : (line : ℕ) (end p q : ℕ × ℕ) → is_in line end p ≡ true → is_eq (position_cmp q p) ≡ true
     → is_in line end q ≡ true
 at-in line end p q inside same =
     let both = is_eq-then (nat_cmp q.0 p.0) (nat_cmp q.1 p.1) same in
-    let lines : q.0 ≡ p.0 = is_eq-same q.0 p.0 both.0 in
-    let columns : q.1 ≡ p.1 = is_eq-same q.1 p.1 both.1 in
+    let lines : q.0 ≡ p.0 = eq_from_is_eq q.0 p.0 both.0 in
+    let columns : q.1 ≡ p.1 = eq_from_is_eq q.1 p.1 both.1 in
     rw (lines, columns) inside
 
 module _ (flat : MapValue) (name : List ℕ) (line : ℕ) (end p : ℕ × ℕ) (t : RawToken)

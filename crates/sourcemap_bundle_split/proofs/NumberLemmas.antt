@@ -4,7 +4,7 @@ use Rattle.std.proofs.Common.{◌++◌, length, map, fold, Bool, true, false, co
 use Rattle.std.proofs.Common.{is_none, option_map, unwrap_or, slice_get, get_or, arith, ◌⊎◌, inl, inr}
 use Rattle.std.specs.List.{AllByRecursion, IsDistinct, list_any}
 use Rattle.std.specs.Option.{option_or}
-use Rattle.std.proofs.lemmas.Bool.{eqb-true, ltb-true}
+use Rattle.std.proofs.lemmas.Bool.{eqb-true, ltb-true, eq-eqb}
 use Rattle.std.proofs.lemmas.Bool.Decides.{nat_tests}
 use Rattle.std.proofs.lemmas.List.{length-map}
 use Rattle.std.proofs.lemmas.Map.Steps.{length-le_from_distinct_below}
@@ -72,12 +72,9 @@ number_of-met count ids id below = by_cases (number_of ids id) refl
     here : nat_lt id count ≡ true
     here = grind (arith, nat_tests, below)
 
-    itself : (id == id) ≡ true
-    itself = grind (arith, nat_tests)
-
     by_cases : (o : Option ℕ) → number_of ids id ≡ o → (n : ℕ) × (number_of (with_id count ids id) id ≡ Some n)
     by_cases (Some n) found = (n, number_of-stays count ids id id n found)
-    by_cases None found = (length ids, (rw (here, found, number_of-append ids id id, found, itself) refl))
+    by_cases None found = (length ids, (rw (here, found, number_of-append ids id id, found, eq-eqb id id refl) refl))
 
 pub met-fold : (count : ℕ) (more ids : List ℕ) (k id : ℕ) → slice_get more k ≡ Some id → id < count
     → (n : ℕ) × (number_of (fold (with_id count) ids more) id ≡ Some n)

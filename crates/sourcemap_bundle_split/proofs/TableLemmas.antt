@@ -3,7 +3,7 @@ use Rattle.std.proofs.Common.{◌≡◌, ◌≢◌, ◌∙◌, refl, sym, ap, su
 use Rattle.std.proofs.Common.{◌++◌, length, get_or, set, All, Bool, true, false, cond, nat_lt, nat_eq, Option, Some}
 use Rattle.std.proofs.Common.{None, is_none, option_map, unwrap_or, slice_get, arith, ◌⊎◌, inl, inr}
 use Rattle.std.specs.List.{IsDistinct, list_any}
-use Rattle.std.proofs.lemmas.Bool.{eqb-true}
+use Rattle.std.proofs.lemmas.Bool.{eqb-true, eq-eqb}
 use Rattle.std.proofs.lemmas.Bool.Decides.{nat_tests}
 use Rattle.std.proofs.lemmas.List.{get_or_default, get_or-set_same, get_or-set_other}
 use Rattle.std.proofs.lemmas.Map.Keys.{any_passes_from_place}
@@ -16,15 +16,12 @@ use Rattle.sourcemap_bundle_split.specs.Numbers.{Stand}
 use Rattle.sourcemap_bundle_split.proofs.NumberLemmas.{number_of-get, number_of-append, any-number, below-with}
 use Rattle.sourcemap_bundle_split.proofs.NumberLemmas.{distinct-with}
 
-itself : (id : ℕ) → (id == id) ≡ true
-itself id = grind (arith, nat_tests)
-
 -- an id in the list has a number
 number_of-there : (ids : List ℕ) (id n : ℕ) → slice_get ids n ≡ Some id → (m : ℕ) × (number_of ids id ≡ Some m)
 number_of-there [] id n at = cc
 number_of-there (k ∷ ids) id zero at =
     let first : k ≡ id = cc in
-    let same : (k == id) ≡ true = subst (λ x. (x == id) ≡ true) (sym first) (itself id) in
+    let same : (k == id) ≡ true = subst (λ x. (x == id) ≡ true) (sym first) (eq-eqb id id refl) in
     (0, (rw same refl))
 number_of-there (k ∷ ids) id (suc n) at = by_cases (k == id) refl (number_of-there ids id n at)
   where
@@ -83,7 +80,7 @@ with_id-new count ids id inside none = let yes : nat_lt id count ≡ true = grin
 
 pub number_of-new : (ids : List ℕ) (id : ℕ) → number_of ids id ≡ None
     → number_of (ids ++ id ∷ []) id ≡ Some (length ids)
-number_of-new ids id none = rw (number_of-append ids id id, none, itself id) refl
+number_of-new ids id none = rw (number_of-append ids id id, none, eq-eqb id id refl) refl
 
 push-get : (xs : List ℕ) (x k n : ℕ) → slice_get (xs ++ x ∷ []) n ≡ Some k
     → (slice_get xs n ≡ Some k) ⊎ ((n ≡ length xs) × (k ≡ x))

@@ -13,6 +13,7 @@ use Rattle.sourcemap_tokens.proofs.SortLemmas.{Rises}
 use Rattle.sourcemap_tokens.proofs.AllLemmas.{All-both, All-of, All-weaker}
 use Rattle.sourcemap_compose.specs.Stretches.{is_before}
 use Rattle.sourcemap_compose.proofs.StretchesLemmas.{before-chain, after_earlier, not_before_itself, not_both_ways}
+use Rattle.sourcemap_tokens.proofs.SearchLemmas.{cases_Option}
 
 -- Items of a list.
 
@@ -135,10 +136,6 @@ module _ {X : Type 0} (t : X → Bool) where
           → IfSome (option_or o (cond (t y) (Some y) None)) (λ z. P z × (t z ≡ true))
       either None none = here (t y) refl
       either (Some z) some = some
-
-cases_Option : {X : Type 0} (o : Option X) → (o ≡ None) ⊎ ((x : X) × (o ≡ Some x))
-cases_Option None = inl refl
-cases_Option (Some x) = inr (x, refl)
 
 module _ (q : ℕ × ℕ) where
   -- let `x` be before `q`, and let no token of `ys` be before `x`. If each token of `ys` that is before `q` equals `x`,

@@ -3,7 +3,7 @@ use Rattle.std.proofs.Common.{◌≡◌, ◌∙◌, ℕ, suc, ◌-◌, ◌<◌, 
 use Rattle.std.proofs.Common.{length, take, filter, map, codes, refl, ap, sym, subst, arith, inl, inr}
 use Rattle.std.specs.List.{slice_split, onto_first, join_with_byte, list_all}
 use Rattle.std.specs.Str.{bytes_eq}
-use Rattle.std.proofs.lemmas.Bool.{cases_Bool, ne_eqb}
+use Rattle.std.proofs.lemmas.Bool.{cases_Bool, ne_eqb, and_parts}
 use Rattle.std.proofs.lemmas.List.{append-nil, append_assoc, length-append, length-take-le}
 use Rattle.std.proofs.lemmas.List.Folds.{list_all-append}
 use Rattle.std.proofs.lemmas.List.Splits.{slice_split-cons_yes, slice_split-cons_no}
@@ -115,10 +115,6 @@ followed-up (k ∷ ks) (y ∷ ys) xs rest e =
     ap (λ from. followed from (map (λ part. codes "..") ks ++ rest)) (but_last-append xs (y ∷ ys) (omega arith))
     ∙ followed-up ks (take (length (y ∷ ys) - 1) (y ∷ ys)) xs rest (omega arith)
 
-and_both : (a b : Bool) → (a && b) ≡ true → (a ≡ true) × (b ≡ true)
-and_both true b e = (refl, e)
-and_both false b e = absurd (let no = e in cc)
-
 -- a part that is neither `.` nor `..` is appended
 enters : (at : List (List ℕ)) (p : List ℕ) (rest : List (List ℕ)) → is_plain p ≡ true
     → followed at (p ∷ rest) ≡ followed (at ++ p ∷ []) rest
@@ -134,7 +130,7 @@ enters at p rest e = go (bytes_eq p (codes ".")) (bytes_eq p (codes "..")) e
 followed-plain : (at ps : List (List ℕ)) → list_all is_plain ps ≡ true → followed at ps ≡ at ++ ps
 followed-plain at [] e = sym (append-nil at)
 followed-plain at (p ∷ ps) e =
-    let both = and_both (is_plain p) (list_all is_plain ps) e in
+    let both = and_parts (is_plain p) (list_all is_plain ps) e in
     enters at p ps both.0 ∙ followed-plain (at ++ p ∷ []) ps both.1 ∙ append_assoc at (p ∷ []) ps
 
 -- `.` leads where the empty path does
@@ -176,7 +172,7 @@ leads : (at : List (List ℕ)) (ps : List (List ℕ)) (above below : List (List 
     → list_all is_plain ps ≡ true → followed at (parts (or_dot (steps_up above ++ join_with_byte 47 below))) ≡ ps
 leads at ps above below common left right are plain =
     let later : AreParts below = AreParts-later common below (subst AreParts right are) in
-    let plainer = and_both (list_all is_plain common) (list_all is_plain below)
+    let plainer = and_parts (list_all is_plain common) (list_all is_plain below)
     (sym (list_all-append is_plain common below) ∙ ap (list_all is_plain) (sym right) ∙ plain) in
     followed-or_dot at (steps_up above ++ join_with_byte 47 below)
     ∙ ap (followed at) (parts-steps above (join_with_byte 47 below)

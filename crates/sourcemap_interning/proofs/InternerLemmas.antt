@@ -50,12 +50,12 @@ id_of-append texts text new other =
           rw (appended, none, found, h, zero-add) refl
       | inr h ↦
           let apart : bytes_eq other text ≡ false =
-          bytes_eq-false other text (λ e _. absurd (both text other h (sym e))) in
+          bytes_eq-false other text (λ e _. absurd (unequal text other h (sym e))) in
           rw (appended, apart, h) (option_or-None (id_of other texts))
     ]
   where
-    both : (a b : List ℕ) → bytes_eq a b ≡ false → a ≡ b → ⊥
-    both a b apart e = let yes : bytes_eq a b ≡ true = (bytes_eq-Decides a b).1 e in cc
+    unequal : (a b : List ℕ) → bytes_eq a b ≡ false → a ≡ b → ⊥
+    unequal a b apart e = let yes : bytes_eq a b ≡ true = (bytes_eq-Decides a b).1 e in cc
 
     option_or-None : (o : Option ℕ) → option_or o None ≡ o
     option_or-None None = refl

@@ -1,9 +1,9 @@
 -- The lexemes and the tokens of a text, by the first byte of the text.
 use Rattle.std.proofs.Common.{◌≡◌, ◌≢◌, ◌+◌, ◌<◌, ℕ, Bool, true, false, cond, ◌==◌, List, [], ◌∷◌, ◌++◌, Some, ⊎_elim}
-use Rattle.std.proofs.Common.{◌⊎◌, inl, inr, drop, refl, sym, ap, ◌∙◌, arith}
+use Rattle.std.proofs.Common.{◌⊎◌, drop, refl, sym, ap, ◌∙◌, arith}
 use Rattle.std.proofs.lemmas.List.{drop-drop}
 use Rattle.std.proofs.lemmas.Bool.Decides.{nat_tests}
-use Rattle.std.proofs.lemmas.Bool.{true≢false, false≢true, eqb-true, or_cases}
+use Rattle.std.proofs.lemmas.Bool.{true≢false, false≢true, eqb-true, or_cases, cases_Bool}
 use Rattle.json.specs.Token.{Token, begin_object, end_object, begin_array, end_array, key, string, number, boolean}
 use Rattle.json.specs.Token.{null, bad}
 use Rattle.json.specs.Text.{content, plain}
@@ -116,10 +116,6 @@ ends after_key t e may = absurd (false≢true may)
 abbrev HasNoLeadingSpace : List ℕ → Type 0
 HasNoLeadingSpace t = is_space (head t) ≡ true → t ≡ []
 
-true_or_false : (b : Bool) → (b ≡ true) ⊎ (b ≡ false)
-true_or_false true = inl refl
-true_or_false false = inr refl
-
 no_colon_mark : (x : ℕ) (ls : List Lexeme) → is_operator x ≡ true → x ≢ 58
     → begins_colon (operator_lexeme x ∷ ls) ≡ false
 no_colon_mark x ls e other_byte =
@@ -143,8 +139,8 @@ no_colon [] after other_byte = refl
 no_colon (x ∷ xs) after other_byte =
     ⊎_elim (λ e. rw (operator_class x e) (no_colon_mark x _ e other_byte))
     (λ e. ⊎_elim (λ s. cc (after s)) (λ s. no_colon_word (x == 34) (x == 92) (is_operator x) (is_space x) x xs
-    (λ next. lex next xs) e s) (true_or_false (is_space x)))
-    (true_or_false (is_operator x))
+    (λ next. lex next xs) e s) (cases_Bool (is_space x)))
+    (cases_Bool (is_operator x))
 
 pub record IsString (t s u : List ℕ) : Type 0 where
   pub opens : head t ≡ 34

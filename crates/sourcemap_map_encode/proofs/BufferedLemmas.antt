@@ -2,28 +2,19 @@
 use Rattle.std.proofs.Common.{OnOk, Result, Ok, Err, ◌≡◌, ℕ, ◌+◌, suc, zero, List, [], ◌∷◌, ◌++◌, Option, Some, None}
 use Rattle.std.proofs.Common.{replicate, sym, ap, subst, ◌∙◌, append_assoc, append-nil, zero-add, refl, arith}
 use Rattle.std.specs.Io.KnownBytes.{Appends, append_known}
+use Rattle.std.proofs.KnownBytes.{Appends-nil, Appends-trans}
 use Rattle.sourcemap_map_encode.specs.Buffered.{Grows}
-
-pub Appends-none : (known : Option (List ℕ)) → Appends known known []
-Appends-none None = tt
-Appends-none (Some xs) = sym (append-nil xs)
-
-pub Appends-join : (a b c : Option (List ℕ)) (s t : List ℕ) → Appends a b s → Appends b c t → Appends a c (s ++ t)
-Appends-join None b c s t x y = tt
-Appends-join (Some xs) None c s t x y = absurd x
-Appends-join (Some xs) (Some ys) None s t x y = absurd y
-Appends-join (Some xs) (Some ys) (Some zs) s t x y = y ∙ ap (λ r. r ++ t) x ∙ append_assoc xs s t
 
 pub append_known-none : (known : Option (List ℕ)) → append_known known [] ≡ known
 append_known-none None = refl
 append_known-none (Some xs) = ap Some (append-nil xs)
 
 pub Grows-none : (held : Option (List ℕ)) (gathered : List ℕ) → Grows held gathered held gathered []
-Grows-none held gathered = Appends-none (append_known held gathered)
+Grows-none held gathered = Appends-nil (append_known held gathered)
 
 pub Grows-join : (h i j : Option (List ℕ)) (a b c s t : List ℕ) → Grows h a i b s → Grows i b j c t
     → Grows h a j c (s ++ t)
-Grows-join h i j a b c s t x y = Appends-join (append_known h a) (append_known i b) (append_known j c) s t x y
+Grows-join h i j a b c s t x y = Appends-trans (append_known h a) (append_known i b) (append_known j c) s t x y
 
 -- if `text` is appended to the buffer `a` and the writer does not change, both together grow by `text`
 pub Grows-push : (held : Option (List ℕ)) (a text : List ℕ) → Grows held a held (a ++ text) text

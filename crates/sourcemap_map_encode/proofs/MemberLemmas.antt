@@ -1,6 +1,7 @@
 -- The members of a map's record are sorted by key. If each value is plain, the text of the members, between `{` and
 -- `}`, is the JSON text of the record (`IsText`).
 use Rattle.std.proofs.Common.{◌≡◌, if◌then◌else◌, ◌==◌, ℕ, ◌<◌, ◌^◌, List, [], ◌∷◌, ◌++◌, length, map, Bool, true}
+use Rattle.std.proofs.Common.{map-id}
 use Rattle.std.proofs.Common.{false, ◌||◌, ◌&&◌, codes, is_some, Option, Some, None, option_map, refl, sym, ap, subst}
 use Rattle.std.proofs.Common.{◌∙◌, append_assoc, append-nil, arith}
 use Rattle.std.specs.List.{AllByRecursion, list_any}
@@ -9,6 +10,7 @@ use Rattle.std.specs.Ordering.{nat_cmp}
 use Rattle.std.specs.Cmp.Lexicographic.{slice_cmp}
 use Rattle.std.specs.declared.cmp.Ordering.{Ordering}
 use Rattle.std.specs.declared.cmp.Ordering.TheVariants.{Less, Equal, Greater}
+use Rattle.std.proofs.lemmas.Bool.{and_parts}
 use Rattle.json.specs.Print.{quoted}
 use Rattle.json.proofs.Printed.Utf8.{are_ascii, IsUtf8-are_ascii}
 use Rattle.sourcemap_headers.specs.DebugId.{debug_id_text}
@@ -131,10 +133,6 @@ sorted v f s r c n g m i d =
       (refl, (refl, (refl, (refl, (refl, (refl, (refl, (refl, tt)))))))),
     )
 
-same_names : (xs : List (List ℕ)) → map (λ d. d) (map string xs) ≡ map string xs
-same_names [] = refl
-same_names (x ∷ xs) = ap (λ rest. string x ∷ rest) (same_names xs)
-
 same_sources : (xs : List (List ℕ)) → map (written_or_null string) (map Some xs) ≡ map string xs
 same_sources [] = refl
 same_sources (x ∷ xs) = ap (λ rest. string x ∷ rest) (same_sources xs)
@@ -154,7 +152,7 @@ members_are m mappings ranges =
       codes "sources",
       Some (written_list (written_or_null string) (map Some m.sources)),
     ) ∷ contents_entry (length m.sources) m.contents
-    ∷ version_entry ∷ [])) (same_names m.names)
+    ∷ version_entry ∷ [])) (map-id (map string m.names))
     ∙ ap (λ (ds : List Data). chain (debug_id_entry m.debug_id ∷ file_entry m.file ∷ ids_entry m.ignored
     ∷ mappings_entry mappings ∷ names_entry m.names ∷ ranges_entry ranges
     ∷ root_entry m.root ∷ (
@@ -272,10 +270,6 @@ abbrev are_plain_keys : List Entry → Bool
 are_plain_keys [] = true
 are_plain_keys (e ∷ es) = are_ascii e.0 && are_plain_keys es
 
-both : (a b : Bool) → a && b ≡ true → (a ≡ true) × (b ≡ true)
-both true b e = (refl, e)
-both false b e = absurd cc
-
 greater : (o : Ordering) → is_greater o ≡ true → o ≡ Greater
 greater Less e = absurd cc
 greater Equal e = absurd cc
@@ -284,7 +278,7 @@ greater Greater e = refl
 above_past : (key : List ℕ) (es : List Entry) → above key es ≡ true → AllByRecursion (Past key) es
 above_past key [] e = tt
 above_past key (x ∷ xs) e =
-    let each = both (is_greater (slice_cmp nat_cmp key x.0)) (above key xs) e in
+    let each = and_parts (is_greater (slice_cmp nat_cmp key x.0)) (above key xs) e in
     (greater (slice_cmp nat_cmp key x.0) each.0, above_past key xs each.1)
 
 plain_if : (key : List ℕ) (o : Option Data) (before rest all : Members) → IsUtf8 key → IsPlainEntry (key, o)
@@ -297,8 +291,8 @@ plain_chain : (done es : List Entry) → ascending done es ≡ true → are_plai
 plain_chain done [] up ascii fine = subst (λ (xs : List Entry). IsPlainRest (chain done) no_members (chain xs)) (sym
     (append-nil done)) (plain_no_members (chain done))
 plain_chain done (e ∷ es) up ascii fine =
-    let keys = both (are_ascii e.0) (are_plain_keys es) ascii in
-    let each = both (above e.0 done) (ascending (done ++ e ∷ []) es) up in
+    let keys = and_parts (are_ascii e.0) (are_plain_keys es) ascii in
+    let each = and_parts (above e.0 done) (ascending (done ++ e ∷ []) es) up in
     let rest = plain_chain (done ++ e ∷ []) es each.1 keys.1 fine.1 in
     plain_if e.0 e.1 (chain done) (chain es) (chain (done ++ e ∷ es)) (IsUtf8-are_ascii e.0 keys.0) fine.0
     (subst (λ (xs : List Entry). IsPlainRest (put_if e.0 e.1 (chain done)) (chain es) (chain xs))

@@ -20,16 +20,17 @@ either_filled : {X : Type 0} (n k : ℕ) (xs : List X) (x : X) → n ≤ length 
 either_filled n k xs x h =
     sym (filled n k n xs x h) ∙ ap (λ c. take n (xs ++ replicate c x)) (add_comm k n) ∙ filled n n k xs x (omega arith)
 
-pub fits : {X : Type 0} (count k : ℕ) (old new : List (Option X)) → count ≤ length old + k
+pub fitted-filled : {X : Type 0} (count k : ℕ) (old new : List (Option X)) → count ≤ length old + k
     → new ≡ take count (old ++ replicate k None) → new ≡ fitted count old
-fits count k old new h e = e ∙ either_filled count k old None h
+fitted-filled count k old new h e = e ∙ either_filled count k old None h
 
 -- let `now` be `old` with `k` `None` items appended. If `next` is `now` with one more `None` appended, then `next` is
 -- `old` with `k + 1` `None` items appended
-pub one_more : {X : Type 0} (k : ℕ) (old now next : List (Option X)) → now ≡ old ++ replicate k None
+pub filled-push : {X : Type 0} (k : ℕ) (old now next : List (Option X)) → now ≡ old ++ replicate k None
     → next ≡ now ++ None ∷ []
     → next ≡ old ++ replicate (k + 1) None
-one_more k old now next e f = rw (f, e, append_assoc) (ap (λ rest. old ++ rest) (replicate-append-replicate k 1 None))
+filled-push k old now next e f =
+    rw (f, e, append_assoc) (ap (λ rest. old ++ rest) (replicate-append-replicate k 1 None))
 
 -- a function can be applied to each item before or after the list is cut or filled, with the same result
 

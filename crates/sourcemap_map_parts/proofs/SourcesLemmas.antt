@@ -8,6 +8,7 @@ use Rattle.std.specs.Str.{IsCharBoundary}
 use Rattle.std.specs.List.{ends_with}
 use Rattle.std.proofs.lemmas.List.{map-set}
 use Rattle.std.proofs.lemmas.Str.Pattern.{ends_text}
+use Rattle.std.proofs.lemmas.Bool.{and_parts}
 use Rattle.sourcemap_texts.specs.Texts.{texts_of}
 use Rattle.sourcemap_map_parts.specs.Sources.{without_slash, resolved_against}
 
@@ -28,18 +29,14 @@ map-resolved_against_nothing root (s ∷ ss) e =
     let here : resolved_against root s ≡ s = rw e refl in
     let rest : map (resolved_against root) ss ≡ ss = map-resolved_against_nothing root ss e in cc
 
-both : (a b : Bool) → (a && b) ≡ true → (a ≡ true) × (b ≡ true)
-both true true e = (refl, refl)
-both true false e = cc
-both false b e = cc
-
 pub resolved_if_none : (root : List ℕ) (rooted : Option (Vec (String Global) Global)) (none : Bool)
     (changed : Vec (String Global) Global) → ((length root == 0) && none) ≡ true → is_some rooted ≡ not none
     → texts_of (unwrap_or rooted changed) ≡ map (resolved_against root) (texts_of changed)
 resolved_if_none root None none changed e f =
-    sym (map-resolved_against_nothing root (texts_of changed) (both (length root == 0) none e).0)
+    sym (map-resolved_against_nothing root (texts_of changed) (and_parts (length root == 0) none e).0)
 resolved_if_none root (Some texts) true changed e f = cc
-resolved_if_none root (Some texts) false changed e f = let no : false ≡ true = (both (length root == 0) false e).1 in cc
+resolved_if_none root (Some texts) false changed e f = let no : false ≡ true =
+    (and_parts (length root == 0) false e).1 in cc
 
 pub resolved_after_set : (root source text : List ℕ) (sources old new changed : List (List ℕ)) (id : ℕ)
     → old ≡ map (resolved_against root) sources

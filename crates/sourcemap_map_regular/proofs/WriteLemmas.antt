@@ -1,11 +1,12 @@
 -- A map has at most one record. This record has at most two levels and no fraction, and its text has no junk header. If
 -- the record is fine (`IsFine`) and decoding the record restores the map, decoding the text restores the map.
-use Rattle.std.proofs.Common.{◌≡◌, inl, ℕ, ◌+◌, length, ◌≤◌, List, [], ◌∷◌, map, Option, Some, None, option_map, Bool}
-use Rattle.std.proofs.Common.{true, false, ◌||◌, Ok, refl, sym, ap, ◌∙◌, subst, arith}
+use Rattle.std.proofs.Common.{◌≡◌, inl, ℕ, ◌+◌, length, ◌≤◌, List, [], ◌∷◌, map, Option, Some, None, option_map, map-id}
+use Rattle.std.proofs.Common.{false, Ok, refl, sym, ap, ◌∙◌, subst, arith}
 use Rattle.std.specs.Ordering.{nat_cmp, match_ordering}
 use Rattle.std.specs.Cmp.Lexicographic.{slice_cmp}
 use Rattle.std.specs.declared.cmp.Ordering.{Ordering}
 use Rattle.std.specs.declared.cmp.Ordering.TheVariants.{Less, Equal, Greater}
+use Rattle.std.proofs.lemmas.Bool.{or_from, or_parts}
 use Rattle.serde_json.specs.Data.{Data, string, array, object, Members, no_members, member, put, depth, items_depth}
 use Rattle.serde_json.specs.Data.{members_depth}
 use Rattle.serde_json.specs.Read.{max_depth}
@@ -41,27 +42,16 @@ abbrev pub EntriesAreLow : ℕ → List (List ℕ × Option Data) → Type 0
 EntriesAreLow n [] = Unit {0}
 EntriesAreLow n (e ∷ es) = IsLowIf n e.1 × EntriesAreLow n es
 
-pub neither : (r s : Bool) → r ≡ false → s ≡ false → r || s ≡ false
-neither r s p q = rw (p, q) refl
-
-fst_false : (r s : Bool) → r || s ≡ false → r ≡ false
-fst_false true s p = cc
-fst_false false s p = refl
-
-snd_false : (r s : Bool) → r || s ≡ false → s ≡ false
-snd_false true s p = cc
-snd_false false s p = p
-
 module _ (n : ℕ) where
   low_member : (k : List ℕ) (d : Data) (ms : Members) → IsLow n d → AreLow n ms → AreLow n (member k d ms)
   low_member k d ms p q =
-      ((let a = p.0 in let b = q.0 in omega arith), neither (has_float d) (members_have_float ms) p.1 q.1)
+      ((let a = p.0 in let b = q.0 in omega arith), or_from (has_float d) (members_have_float ms) p.1 q.1)
 
   low_head : (k : List ℕ) (d : Data) (ms : Members) → AreLow n (member k d ms) → IsLow n d
-  low_head k d ms p = ((let a = p.0 in omega arith), fst_false (has_float d) (members_have_float ms) p.1)
+  low_head k d ms p = ((let a = p.0 in omega arith), (or_parts (has_float d) (members_have_float ms) p.1).0)
 
   low_tail : (k : List ℕ) (d : Data) (ms : Members) → AreLow n (member k d ms) → AreLow n ms
-  low_tail k d ms p = ((let a = p.0 in omega arith), snd_false (has_float d) (members_have_float ms) p.1)
+  low_tail k d ms p = ((let a = p.0 in omega arith), (or_parts (has_float d) (members_have_float ms) p.1).1)
 
   low_none : AreLow n no_members
   low_none = (omega arith, refl)
@@ -100,7 +90,7 @@ module _ (n : ℕ) where
   low_items write each (x ∷ xs) =
       let p = each x in let q = low_items write each xs in (
         (let a = p.0 in let b = q.0 in omega arith),
-        neither (has_float (write x)) (items_have_float (items_of (map write xs))) p.1 q.1,
+        or_from (has_float (write x)) (items_have_float (items_of (map write xs))) p.1 q.1,
       )
 
   -- a list has at most one level more than its items
@@ -181,12 +171,9 @@ entries_low m mappings ranges = (
     texts : (xs : List (Option (List ℕ))) → IsLow 1 (written_list (written_or_null string) xs)
     texts = low_list 0 (written_or_null string) (low_or_null 0 string (low_string 0))
 
-    same_map : (xs : List (List ℕ)) → map (λ d. d) (map string xs) ≡ map string xs
-    same_map [] = refl
-    same_map (x ∷ xs) = ap (λ rest. string x ∷ rest) (same_map xs)
-
     names : (xs : List (List ℕ)) → IsLow 1 (written_list (λ d. d) (map string xs))
-    names xs = subst (λ ds. IsLow 1 (array (items_of ds))) (sym (same_map xs)) (low_list 0 string (low_string 0) xs)
+    names xs =
+        subst (λ ds. IsLow 1 (array (items_of ds))) (sym (map-id (map string xs))) (low_list 0 string (low_string 0) xs)
 
 low_written : (m : MapValue) (mappings : List ℕ) (ranges : Option (List ℕ))
     → IsLow 2 (written (plain (record_with m mappings ranges)))

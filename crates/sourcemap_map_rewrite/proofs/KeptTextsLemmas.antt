@@ -30,9 +30,9 @@ module _ (texts : List (List ℕ)) (n : NewNumbers) (is : AreNumbered texts n) (
   seen : IsSeen texts n id
   seen = All-at (IsSeen texts n) n.order.items i id at is.seen
 
-  one_more : after ≡ with_text before seen.text
+  with_next_text : after ≡ with_text before seen.text
   unfolding before after
-  one_more =
+  with_next_text =
       let item : get_or n.order.items i 0 ≡ id = get_or_from_slice_get n.order.items i id 0 at in
       ap (texts_in_use texts) (take_more n.order.items i 0 (slice_get_within n.order.items i id at)
       ∙ ap (λ x. take i n.order.items ++ x ∷ []) item)
@@ -61,7 +61,7 @@ module _ (texts : List (List ℕ)) (n : NewNumbers) (is : AreNumbered texts n) (
       by_case None e = e
       by_case (Some k) e =
           let same : k ≡ number =
-          final k (ap (id_of seen.text) one_more ∙ id_of-with_text before seen.text seen.text k e) in
+          final k (ap (id_of seen.text) with_next_text ∙ id_of-with_text before seen.text seen.text k e) in
           let within : k < length before = slice_get_within before k seen.text (slice_get-id_of seen.text before k e) in
           absurd (omega arith)
 
@@ -74,11 +74,11 @@ module _ (texts : List (List ℕ)) (n : NewNumbers) (is : AreNumbered texts n) (
       by_case None e =
           let added : with_text before seen.text ≡ before ++ seen.text ∷ [] = rw e refl in
           let interned : id_of seen.text after ≡ Some (length before) =
-          ap (id_of seen.text) (one_more ∙ added) ∙ id_of-last before seen.text (length before) refl e in
+          ap (id_of seen.text) (with_next_text ∙ added) ∙ id_of-last before seen.text (length before) refl e in
           absurd (other (sym (final (length before) interned)))
 
   still_moved : (text : List ℕ) (k : ℕ) → id_of text before ≡ Some k → id_of text after ≡ Some k
-  still_moved text k e = ap (id_of text) one_more ∙ id_of-with_text before seen.text text k e
+  still_moved text k e = ap (id_of text) with_next_text ∙ id_of-with_text before seen.text text k e
 
   module _ (now moved : List (List ℕ)) (left_or_moved : AreLeftOrMoved texts now
       (texts_in_use texts (take i n.order.items))) (so_far : moved ≡ texts_in_use texts (take i n.order.items)) where
@@ -98,7 +98,7 @@ module _ (texts : List (List ℕ)) (n : NewNumbers) (is : AreNumbered texts n) (
           by_case (inr (k, e)) = let none = new in cc
 
       added : after ≡ before ++ seen.text ∷ []
-      added = one_more ∙ rw new refl
+      added = with_next_text ∙ rw new refl
 
       pub moved-more : (moved' : List (List ℕ)) → moved' ≡ moved ++ taken ∷ []
           → moved' ≡ texts_in_use texts (take (i + 1) n.order.items)
@@ -130,7 +130,7 @@ module _ (texts : List (List ℕ)) (n : NewNumbers) (is : AreNumbered texts n) (
       old = old_text (λ e. other (e ∙ ap length (sym so_far)))
 
       same : after ≡ before
-      same = one_more ∙ rw old.1 refl
+      same = with_next_text ∙ rw old.1 refl
 
       pub moved-same : moved ≡ texts_in_use texts (take (i + 1) n.order.items)
       unfolding before after
@@ -155,7 +155,7 @@ module _ (texts : List (List ℕ)) (n : NewNumbers) (is : AreNumbered texts n) (
     first-more next ids' e =
         let new : id_of seen.text (texts_in_use texts (take i n.order.items)) ≡ None = new_text (next ∙ many) in
         let added : texts_in_use texts (take (i + 1) n.order.items)
-        ≡ texts_in_use texts (take i n.order.items) ++ seen.text ∷ [] = one_more ∙ rw new refl in
+        ≡ texts_in_use texts (take i n.order.items) ++ seen.text ∷ [] = with_next_text ∙ rw new refl in
         let item : get_or n.order.items i 0 ≡ id = get_or_from_slice_get n.order.items i id 0 at in
         let split : n.order.items ≡ take i n.order.items ++ id ∷ drop (i + 1) n.order.items =
         sym (take-append-drop i n.order.items)
@@ -174,5 +174,5 @@ module _ (texts : List (List ℕ)) (n : NewNumbers) (is : AreNumbered texts n) (
     first-same other =
         let old = old_text (λ e. other (e ∙ sym many)) in
         let same : texts_in_use texts (take (i + 1) n.order.items) ≡ texts_in_use texts (take i n.order.items) =
-        one_more ∙ rw old.1 refl in
+        with_next_text ∙ rw old.1 refl in
         so_far ∙ ap (map (first_of texts n.order.items)) (sym same)

@@ -1,7 +1,7 @@
 -- Deduplicated texts and their new numbers.
 use Rattle.std.proofs.Common.{◌≡◌, ◌≢◌, refl, sym, ap, subst, ◌∙◌, ℕ, zero, suc, ◌+◌, ◌<◌, ◌≤◌, List, [], ◌∷◌, ◌++◌}
 use Rattle.std.proofs.Common.{append_assoc, length, map, fold, Bool, true, false, cond, Some, None, Option, arith, inl}
-use Rattle.std.proofs.Common.{inr, ◌⊎◌, slice_get, slice_set, get_or, is_some, option_map, replicate, string_bytes}
+use Rattle.std.proofs.Common.{inr, slice_get, slice_set, get_or, is_some, option_map, replicate, string_bytes}
 use Rattle.std.proofs.Common.{String}
 use Rattle.std.specs.List.{AllByRecursion}
 use Rattle.std.specs.Option.{option_or}
@@ -21,10 +21,15 @@ use Rattle.sourcemap_map_rewrite.specs.Kept.{present, kept_once, number_in}
 use Rattle.sourcemap_map_rewrite.specs.Numbering.{with_text_if, first_some, IsListedIfAny, texts_in_use, seen_texts}
 use Rattle.sourcemap_map_rewrite.specs.Numbering.{IsSeen, IsSeenOrNot, NumbersMore, IsNumbering, Assigns}
 use Rattle.sourcemap_map_rewrite.specs.declared.numbering.Numbering.{Numbering}
+use Rattle.sourcemap_tokens.proofs.SearchLemmas.{cases_Option}
 
 pub option_or-None : {A : Type 0} (o : Option A) → option_or o None ≡ o
 option_or-None None = refl
 option_or-None (Some x) = refl
+
+option_or-assoc : {A : Type 0} (a b c : Option A) → option_or a (option_or b c) ≡ option_or (option_or a b) c
+option_or-assoc None b c = refl
+option_or-assoc (Some x) b c = refl
 
 -- Deduplicated texts.
 
@@ -68,10 +73,6 @@ id_of-with_text texts text other n e =
           ]
       | inr some ↦ rw some.1 e
     ]
-  where
-    cases_Option : {A : Type 0} (o : Option A) → (o ≡ None) ⊎ ((x : A) × (o ≡ Some x))
-    cases_Option None = inl refl
-    cases_Option (Some x) = inr (x, refl)
 
 pub id_of-with_text_if : (texts : List (List ℕ)) (o : Option (List ℕ)) (other : List ℕ) (n : ℕ)
     → id_of other texts ≡ Some n → id_of other (with_text_if texts o) ≡ Some n
@@ -114,10 +115,6 @@ pub first_some-push : {X Y : Type 0} (f : X → Option Y) (xs : List X) (x : X)
 first_some-push f [] x = option_or-None (f x)
 first_some-push f (y ∷ ys) x =
     ap (option_or (f y)) (first_some-push f ys x) ∙ option_or-assoc (f y) (first_some f ys) (f x)
-  where
-    option_or-assoc : {Y : Type 0} (a b c : Option Y) → option_or a (option_or b c) ≡ option_or (option_or a b) c
-    option_or-assoc None b c = refl
-    option_or-assoc (Some x) b c = refl
 
 -- an added text has a number
 pub id_of-added : (texts : List (List ℕ)) (text : List ℕ) → (n : ℕ) × (id_of text (with_text texts text) ≡ Some n)
@@ -276,11 +273,7 @@ first_some-seen f (y ∷ ys) zero x e = let same : y ≡ x = cc in rw (← same)
     twice None (Some z) = refl
     twice (Some z) b = refl
 first_some-seen f (y ∷ ys) (suc k) x e =
-    ap (option_or (f y)) (first_some-seen f ys k x e) ∙ assoc (f y) (first_some f ys) (f x)
-  where
-    assoc : {Y : Type 0} (a b c : Option Y) → option_or a (option_or b c) ≡ option_or (option_or a b) c
-    assoc None b c = refl
-    assoc (Some z) b c = refl
+    ap (option_or (f y)) (first_some-seen f ys k x e) ∙ option_or-assoc (f y) (first_some f ys) (f x)
 
 -- A numbering.
 

@@ -1,9 +1,9 @@
 -- The bytes of encoded texts: digits contain no `,` and no `;`. If one or more parts lack a separator and are joined by
 -- this separator, a split at the separator gives the same parts.
-use Rattle.std.proofs.Common.{◌≡◌, ◌≢◌, ℕ, ◌==◌, true, false, cond, is_none, List, [], ◌∷◌, ◌++◌, Option, Some, None, ℤ}
+use Rattle.std.proofs.Common.{◌≡◌, ◌≢◌, ℕ, ◌==◌, false, cond, is_none, List, [], ◌∷◌, ◌++◌, Option, Some, None, ℤ}
 use Rattle.std.proofs.Common.{refl, sym, ap, subst, ◌∙◌, ◌⊎◌, ⊎_elim, arith}
 use Rattle.std.specs.List.{join_with_byte, slice_split, AllByRecursion}
-use Rattle.std.proofs.lemmas.Bool.{cases_eq}
+use Rattle.std.proofs.lemmas.Bool.{cases_eq, eq-eqb}
 use Rattle.std.proofs.lemmas.Bool.Decides.{nat_tests}
 use Rattle.std.proofs.lemmas.List.Elements.{All-from_recursion}
 use Rattle.std.proofs.lemmas.List.Splits.{slice_split_none, slice_split_at}
@@ -71,9 +71,6 @@ digits_free c (x ∷ xs) mark h =
 
 -- Joined parts.
 
-itself : (c : ℕ) → (c == c) ≡ true
-itself c = grind (arith, nat_tests)
-
 pub join_free : (c d : ℕ) (parts : List (List ℕ)) → (d == c) ≡ false → AllByRecursion (IsFree c) parts
     → IsFree c (join_with_byte d parts)
 join_free c d [] off free = tt
@@ -86,5 +83,5 @@ pub split_join : (c : ℕ) (p : List ℕ) (ps : List (List ℕ)) → AllByRecurs
 split_join c p [] free = slice_split_none (λ b. b == c) p (All-from_recursion (λ x. (x == c) ≡ false) p free.0)
 split_join c p (q ∷ ps) free =
     slice_split_at (λ b. b == c) p c (join_with_byte c (q ∷ ps))
-    (All-from_recursion (λ x. (x == c) ≡ false) p free.0) (itself c)
+    (All-from_recursion (λ x. (x == c) ≡ false) p free.0) (eq-eqb c c refl)
     ∙ ap (λ parts. p ∷ parts) (split_join c q ps free.1)

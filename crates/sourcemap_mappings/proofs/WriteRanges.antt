@@ -4,6 +4,7 @@ use Rattle.std.proofs.Common.{replicate, Option, Some, None, refl, sym, ap, subs
 use Rattle.std.specs.Option.{option_map_or}
 use Rattle.std.proofs.lemmas.List.{map-append}
 use Rattle.std.proofs.lemmas.Nat.Bits.{bit_at-zero}
+use Rattle.std.proofs.lemmas.Bool.{eq-eqb, ne_eqb}
 use Rattle.sourcemap_tokens.specs.declared.tokens.RawToken.{RawToken}
 use Rattle.sourcemap_vlq.specs.Bits.{bit_of, IsBitText}
 use Rattle.sourcemap_tokens.specs.Tokens.{without_repeats}
@@ -11,7 +12,7 @@ use Rattle.sourcemap_mappings.specs.Segment.{semicolon}
 use Rattle.sourcemap_mappings.specs.Write.{is_on, IsRangeLine, LineByLine}
 use Rattle.sourcemap_mappings.specs.WriteSteps.{repeats}
 use Rattle.sourcemap_vlq.proofs.BitLemmas.{IsBitText-same}
-use Rattle.sourcemap_mappings.proofs.WriteTokens.{UpTo, none_on, filter_push_no, filter_push_yes, on_yes, on_no}
+use Rattle.sourcemap_mappings.proofs.WriteTokens.{UpTo, none_on, filter_push_no, filter_push_yes}
 use Rattle.sourcemap_mappings.proofs.WriteWalk.{Walked, same_list, more_list, count_is}
 use Rattle.sourcemap_mappings.proofs.WriteLines.{Ended, Ended-none, Ended-map, Ended-turn, Ended-last, Ended-zero}
 
@@ -29,7 +30,7 @@ IsRangeLine-kept : (m : ℕ) (ts : List RawToken) (t : RawToken) (bits : List �
     → IsRangeLine (ts ++ t ∷ []) m bits
 IsRangeLine-kept m ts t bits h is =
     subst (λ (us : List RawToken). IsBitText (map (λ u. u.is_range) us) bits)
-    (sym (filter_push_no (is_on m) ts t (on_no t.dst_line m (λ e. omega arith)))) is
+    (sym (filter_push_no (is_on m) ts t (ne_eqb t.dst_line m (λ e. omega arith)))) is
 
 -- `text` holds the range bits of `ts` for each line above line `line`, with a `;` after each of these lines. `flags`
 -- are the range flags of the tokens of `ts` on line `line`
@@ -73,7 +74,7 @@ Ranging-more line done previous t text flags e w r =
       flags_are =
           ap (λ fs. fs ++ t.is_range ∷ []) r.flags_are
           ∙ sym (map-append (λ u. u.is_range) (filter (is_on n) ts) (t ∷ []))
-          ∙ ap (map (λ u. u.is_range)) (sym (filter_push_yes (is_on n) ts t (on_yes n n refl)));
+          ∙ ap (map (λ u. u.is_range)) (sym (filter_push_yes (is_on n) ts t (eq-eqb n n refl)));
     } in
     subst (λ (us : List RawToken). Ranging n us text (flags ++ t.is_range ∷ []))
     (more_list line done previous t e w) grown

@@ -7,6 +7,7 @@ use Rattle.std.specs.List.{join_with_byte, AllByRecursion, slice_index_or, last_
 use Rattle.std.specs.Option.{option_map_or}
 use Rattle.std.proofs.lemmas.List.{map-append, nil_from_length}
 use Rattle.std.proofs.lemmas.Bool.Decides.{nat_tests}
+use Rattle.std.proofs.lemmas.Bool.{eq-eqb}
 use Rattle.sourcemap_tokens.specs.declared.tokens.RawToken.{RawToken}
 use Rattle.sourcemap_tokens.specs.Tokens.{AreInOrder, AllWithin, IsWithin, with_valid_name, without_repeats, reduced}
 use Rattle.sourcemap_tokens.specs.Tokens.{in_order}
@@ -18,7 +19,7 @@ use Rattle.sourcemap_mappings.specs.Write.{is_on, is_above, last_field, base, nu
 use Rattle.sourcemap_mappings.specs.Write.{EachLine, LineByLine, line_count, IsWritten, IsRangeText}
 use Rattle.sourcemap_tokens.proofs.TokensLemmas.{All-without_repeats, in_order-ordered, AreInOrder-reduced}
 use Rattle.sourcemap_vlq.proofs.VlqLemmas.{Spells-Reads}
-use Rattle.sourcemap_mappings.proofs.WriteTokens.{Rises, above_more, last_field-push_yes, on_yes}
+use Rattle.sourcemap_mappings.proofs.WriteTokens.{Rises, above_more, last_field-push_yes}
 use Rattle.sourcemap_mappings.proofs.WriteSums.{IsSound, IsSmall, all_sound_from, segment_of, Carries, Carries-none}
 use Rattle.sourcemap_mappings.proofs.WriteSums.{Carries-more, column_more, segment_sound, token_back}
 use Rattle.sourcemap_mappings.proofs.WriteRanges.{no_bit}
@@ -95,7 +96,7 @@ line_back sources names n at bits before (t ∷ ts) above here few few_names sou
     let bit : bit_of bits at ≡ t.is_range = ap (bit_of bits) (sym (add-zero at)) ∙ flags 0 (omega arith) in
     let first = token_back sources names n at bits before here' (above ++ here') t few sound.0 line bit col more in
     let next : sum_at 0 here' ≡ last_field (is_on n) (λ u. u.dst_col) (before ++ t ∷ []) =
-    col ∙ sym (last_field-push_yes (is_on n) (λ u. u.dst_col) before t (on_yes t.dst_line n (sym line))) in
+    col ∙ sym (last_field-push_yes (is_on n) (λ u. u.dst_col) before t (eq-eqb t.dst_line n (sym line))) in
     let rest = line_back sources names n (at + 1) bits (before ++ t ∷ []) ts above here' few few_names sound.1 on.1
     (λ k h. ap (bit_of bits) (omega arith) ∙ flags (suc k) (omega arith)) next more in
     ap (λ u. u ∷ line_tokens n bits above here' (segments_of names (at + 1) (before ++ t ∷ []) ts)) first

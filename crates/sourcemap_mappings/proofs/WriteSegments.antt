@@ -4,7 +4,7 @@ use Rattle.std.proofs.Common.{filter, Option, Some, None, refl, sym, ap, subst, 
 use Rattle.std.proofs.Common.{arith}
 use Rattle.std.specs.List.{join_with_byte, last_or, AllByRecursion}
 use Rattle.std.specs.Option.{option_map_or}
-use Rattle.std.proofs.lemmas.Bool.{cases_lt, cases_eq}
+use Rattle.std.proofs.lemmas.Bool.{cases_lt, cases_eq, le-ltb, eq-eqb, ne_eqb}
 use Rattle.sourcemap_tokens.specs.declared.tokens.RawToken.{RawToken}
 use Rattle.sourcemap_tokens.specs.Tokens.{without_repeats}
 use Rattle.sourcemap_vlq.specs.Vlq.{Spells}
@@ -15,8 +15,7 @@ use Rattle.sourcemap_mappings.specs.Buffer.{Adds}
 use Rattle.sourcemap_mappings.specs.WriteSteps.{repeats, gap, at_line, next_base}
 use Rattle.sourcemap_mappings.proofs.WriteSums.{IsSmall}
 use Rattle.sourcemap_mappings.proofs.WriteTokens.{UpTo, Rises, all_push, cut_at, none_on, filter_push_no}
-use Rattle.sourcemap_mappings.proofs.WriteTokens.{filter_push_yes, last_field-push_no, last_field-push_yes, on_yes}
-use Rattle.sourcemap_mappings.proofs.WriteTokens.{on_no, below_no}
+use Rattle.sourcemap_mappings.proofs.WriteTokens.{filter_push_yes, last_field-push_no, last_field-push_yes}
 use Rattle.sourcemap_mappings.proofs.WriteWalk.{IsAtLine, Walked, Walked-none, Walked-repeat, Walked-more, same_list}
 use Rattle.sourcemap_mappings.proofs.WriteWalk.{more_list, upto_next, count_is}
 use Rattle.sourcemap_mappings.proofs.WriteLines.{Reached, Reached-turn, Reached-more, Reached-last, Ended-none}
@@ -35,7 +34,7 @@ pub moved_base : (names : ℕ) (ts : List RawToken) (t : RawToken)
     → next_base names (base names t.dst_line ts) t ≡ base names t.dst_line (ts ++ t ∷ [])
 moved_base names ts t =
     let column : t.dst_col ≡ last_field (is_on t.dst_line) (λ u. u.dst_col) (ts ++ t ∷ []) =
-    sym (last_field-push_yes (is_on t.dst_line) (λ u. u.dst_col) ts t (on_yes t.dst_line t.dst_line refl)) in
+    sym (last_field-push_yes (is_on t.dst_line) (λ u. u.dst_col) ts t (eq-eqb t.dst_line t.dst_line refl)) in
     let id = field_by has_source (λ u. u.src_id) ts t in
     let line = field_by has_source (λ u. u.src_line) ts t in
     let index = field_by has_source (λ u. u.src_col) ts t in
@@ -46,7 +45,7 @@ pub turned_base : (names line n : ℕ) (ts : List RawToken) → line ≤ n → U
     → at_line (base names line ts) n ≡ base names n ts
 turned_base names line n ts h u = ⊎_elim
     (λ (past : line < n).
-    let off = on_no line n (λ e. omega arith) in
+    let off = ne_eqb line n (λ e. omega arith) in
     let column : last_field (is_on n) (λ t. t.dst_col) ts ≡ 0 =
     ap (λ us. option_map_or (λ t. t.dst_col) (last_or None us) 0) (none_on line n ts u past) in
     ap (λ b. cond b (base names line ts) (record (base names line ts) { dst_line = n; dst_col = 0 })) off
@@ -54,7 +53,7 @@ turned_base names line n ts h u = ⊎_elim
     (λ (not_past : n ≤ line).
     let same : line ≡ n = omega arith in
     ap (λ b. cond b (base names line ts) (record (base names line ts) { dst_line = n; dst_col = 0 }))
-    (on_yes line n same)
+    (eq-eqb line n same)
     ∙ ap (λ m. base names m ts) same)
     (cases_lt line n)
 
@@ -63,8 +62,8 @@ turned_base names line n ts h u = ⊎_elim
 pub IsLine-kept : (names m : ℕ) (ts : List RawToken) (t : RawToken) (part : List ℕ) → m < t.dst_line
     → IsLine names ts m part → IsLine names (ts ++ t ∷ []) m part
 IsLine-kept names m ts t part h line =
-    let above = filter_push_no (is_above m) ts t (below_no t.dst_line m (omega arith)) in
-    let on = filter_push_no (is_on m) ts t (on_no t.dst_line m (λ e. omega arith)) in (
+    let above = filter_push_no (is_above m) ts t (le-ltb t.dst_line m (omega arith)) in
+    let on = filter_push_no (is_on m) ts t (ne_eqb t.dst_line m (λ e. omega arith)) in (
       line.0,
       subst (λ (us : List RawToken). AreSegments names us (filter (is_on m) (ts ++ t ∷ [])) line.0) (sym above)
           (subst (λ (us : List RawToken). AreSegments names (filter (is_above m) ts) us line.0) (sym on) line.1),
@@ -121,8 +120,8 @@ pub IsLine-more : (names : ℕ) (ts : List RawToken) (t : RawToken) (part segmen
     → IsLine names (ts ++ t ∷ []) t.dst_line (part ++ (comma_tail (filter (is_on t.dst_line) ts) ++ segment))
 IsLine-more names ts t part segment rises upto spelled line =
     let n = t.dst_line in
-    let above = filter_push_no (is_above n) ts t (below_no n n (omega arith)) in
-    let on = filter_push_yes (is_on n) ts t (on_yes n n refl) in
+    let above = filter_push_no (is_above n) ts t (le-ltb n n (omega arith)) in
+    let on = filter_push_yes (is_on n) ts t (eq-eqb n n refl) in
     let here = subst (λ (us : List RawToken). Spells (numbers names (base names n us) t) segment) (sym
     (cut_at n ts rises upto)) spelled in
     let are = AreSegments-push names (filter (is_above n) ts) (filter (is_on n) ts) t line.0 segment line.1 here in (
@@ -184,12 +183,12 @@ gap_is line ts (Some p) t h u s = ⊎_elim
     let is_line : line ≡ t.dst_line = sym s.0 ∙ same in
     let full : filter (is_on t.dst_line) ts ≡ s.1.0 ∷ s.1.1 =
     subst (λ (n : ℕ). filter (is_on n) ts ≡ s.1.0 ∷ s.1.1) is_line s.1.2 in
-    ap (λ b. cond b (comma ∷ []) (replicate (t.dst_line - line) semicolon)) (on_yes p.dst_line t.dst_line same)
+    ap (λ b. cond b (comma ∷ []) (replicate (t.dst_line - line) semicolon)) (eq-eqb p.dst_line t.dst_line same)
     ∙ ap (λ us. comma_tail us) (sym full)
     ∙ ap (λ (k : ℕ). replicate k semicolon ++ comma_tail (filter (is_on t.dst_line) ts)) (sym no_line))
     (λ (off : p.dst_line ≢ t.dst_line).
     let past : line < t.dst_line = (let on : p.dst_line ≡ line = s.0 in omega arith) in
-    ap (λ b. cond b (comma ∷ []) (replicate (t.dst_line - line) semicolon)) (on_no p.dst_line t.dst_line off)
+    ap (λ b. cond b (comma ∷ []) (replicate (t.dst_line - line) semicolon)) (ne_eqb p.dst_line t.dst_line off)
     ∙ sym (append-nil (replicate (t.dst_line - line) semicolon))
     ∙ ap (λ us. replicate (t.dst_line - line) semicolon ++ comma_tail us) (sym (none_on line t.dst_line ts u past)))
     (cases_eq p.dst_line t.dst_line)

@@ -6,7 +6,7 @@ use Rattle.std.proofs.Common.{ap, ◌∙◌, ⊎_elim, add-zero, arith, slice_ge
 use Rattle.std.specs.Option.{option_map_or}
 use Rattle.std.specs.List.{AllByRecursion}
 use Rattle.std.specs.Int.{int_rem_euclid}
-use Rattle.std.proofs.lemmas.Bool.{cases_lt}
+use Rattle.std.proofs.lemmas.Bool.{cases_lt, lt-ltb, le-ltb}
 use Rattle.std.proofs.lemmas.Bool.Decides.{nat_tests}
 use Rattle.std.proofs.lemmas.Int.{ints, int_rem_euclid_is}
 use Rattle.std.proofs.lemmas.List.Sums.{sum_by_push}
@@ -19,7 +19,7 @@ use Rattle.sourcemap_mappings.specs.Segment.{Counts, Segment, step, sum_at, fiel
 use Rattle.sourcemap_mappings.specs.Write.{is_on, has_source, has_name, last_field, base, difference, numbers}
 use Rattle.sourcemap_mappings.specs.WriteSteps.{HasSmallPositions}
 use Rattle.sourcemap_mappings.proofs.WriteLemmas.{numbers_by, numbers_are}
-use Rattle.sourcemap_mappings.proofs.WriteTokens.{below_no, below_yes, last_field-push_no, last_field-push_yes}
+use Rattle.sourcemap_mappings.proofs.WriteTokens.{last_field-push_no, last_field-push_yes}
 
 -- Sums modulo 2^32.
 
@@ -285,7 +285,7 @@ token_back sources names n at bits before here all t few sound on bit column c =
           let id : field 1 all s ≡ t.src_id = ap (λ ns. field_of 1 ns) ns ∙ sym within.0 in
           let line : field 2 all s ≡ t.src_line = ap (λ ns. field_of 2 ns) ns ∙ sym within.1 in
           let src_column : field 3 all s ≡ t.src_col = ap (λ ns. field_of 3 ns) ns ∙ sym within.2 in
-          let no_such : nat_lt t.name_id names ≡ false = below_no t.name_id names within.3 in
+          let no_such : nat_lt t.name_id names ≡ false = le-ltb t.name_id names within.3 in
           let id' : field 4 all s ≡ cond (nat_lt t.name_id names) t.name_id 4294967295 =
           ap (λ ns. field_of 4 ns) ns ∙ sym (ap (λ b. cond b t.name_id 4294967295) no_such) in
           cc
@@ -294,7 +294,7 @@ token_back sources names n at bits before here all t few sound on bit column c =
           let id : field 1 all s ≡ t.src_id = ap (λ ns. field_of 1 ns) ns ∙ id_is source in
           let line : field 2 all s ≡ t.src_line = ap (λ ns. field_of 2 ns) ns ∙ line_is source in
           let src_column : field 3 all s ≡ t.src_col = ap (λ ns. field_of 3 ns) ns ∙ src_column_is source in
-          let no_such : nat_lt t.name_id names ≡ false = below_no t.name_id names (no_name names t source name) in
+          let no_such : nat_lt t.name_id names ≡ false = le-ltb t.name_id names (no_name names t source name) in
           let id' : field 4 all s ≡ cond (nat_lt t.name_id names) t.name_id 4294967295 =
           ap (λ ns. field_of 4 ns) ns ∙ sym (ap (λ b. cond b t.name_id 4294967295) no_such) in
           cc
@@ -303,7 +303,7 @@ token_back sources names n at bits before here all t few sound on bit column c =
           let id : field 1 all s ≡ t.src_id = ap (λ ns. field_of 1 ns) ns ∙ id_is source in
           let line : field 2 all s ≡ t.src_line = ap (λ ns. field_of 2 ns) ns ∙ line_is source in
           let src_column : field 3 all s ≡ t.src_col = ap (λ ns. field_of 3 ns) ns ∙ src_column_is source in
-          let such : nat_lt t.name_id names ≡ true = below_yes t.name_id names (name_is names t name) in
+          let such : nat_lt t.name_id names ≡ true = lt-ltb t.name_id names (name_is names t name) in
           let name_back : sum_at 4 all ≡ t.name_id =
           c.name ∙ last_field-push_yes (has_name names) (λ u. u.name_id) before t name in
           let id' : field 4 all s ≡ cond (nat_lt t.name_id names) t.name_id 4294967295 =

@@ -6,13 +6,14 @@ use Rattle.std.specs.Option.{option_map_or}
 use Rattle.std.specs.Ordering.{is_lt}
 use Rattle.std.proofs.lemmas.List.{take_more}
 use Rattle.std.proofs.lemmas.Bool.Decides.{nat_tests}
+use Rattle.std.proofs.lemmas.Bool.{eq-eqb}
 use Rattle.sourcemap_tokens.specs.declared.tokens.RawToken.{RawToken}
 use Rattle.sourcemap_tokens.specs.Tokens.{AreInOrder, position_cmp, destination, without_repeats}
 use Rattle.sourcemap_mappings.specs.Write.{is_on, is_above, line_count}
 use Rattle.sourcemap_mappings.specs.WriteSteps.{repeats}
 use Rattle.sourcemap_mappings.proofs.WriteTokens.{UpTo, Rises, Rises-push, all_push, all_weaker, all_above}
 use Rattle.sourcemap_mappings.proofs.WriteTokens.{filter_push_yes, last_or-push, without_repeats-repeat}
-use Rattle.sourcemap_mappings.proofs.WriteTokens.{without_repeats-more, same_line, on_yes}
+use Rattle.sourcemap_mappings.proofs.WriteTokens.{without_repeats-more, same_line}
 
 -- `ts` are the written tokens. If there is a previous token, this token and at least one written token are on line
 -- `line`. If there is no previous token, `line` is 0 and no token was written
@@ -86,7 +87,7 @@ Walked-more line done previous t e h w =
       is_at_line = (
         refl,
         subst (λ (us : List RawToken). (u : RawToken) × (vs : List RawToken) × (filter (is_on n) us ≡ u ∷ vs)) more
-            (full.0, full.1, filter_push_yes (is_on n) ts t (on_yes n n refl) ∙ full.2),
+            (full.0, full.1, filter_push_yes (is_on n) ts t (eq-eqb n n refl) ∙ full.2),
       );
       last = sym (last_or-push None done t);
     }

@@ -9,6 +9,7 @@ use Rattle.std.proofs.lemmas.Bool.Decides.{nat_tests}
 use Rattle.std.specs.Io.Buffered.{reader_buffer, reader_capacity, reader_inner, reader_remaining}
 use Rattle.std.specs.Io.KnownBytes.{prepend_known}
 use Rattle.std.specs.declared.io.buffered.BufReader.{BufReader}
+use Rattle.std.proofs.KnownBytes.{prepend_known-nil}
 use Rattle.sourcemap_references.proofs.LineLemmas.{is_utf8-nil, text_lines-more}
 use Rattle.sourcemap_references.specs.Lines.{ReadsLine}
 use Rattle.sourcemap_references.specs.Reference.{Reference, first_on, first_reference, line_reference, or_later}
@@ -118,10 +119,6 @@ same_left : (known left : Option (List ℕ)) → left ≡ known → HasLeft know
 same_left None left is = tt
 same_left (Some text) left is = (text, is, refl)
 
-prepend_none : (known : Option (List ℕ)) → prepend_known [] known ≡ known
-prepend_none None = refl
-prepend_none (Some text) = refl
-
 pub left_at_start : {T A : Type 0} (remaining : T → Option (List ℕ)) (inner : T) (r : BufReader T A)
     → reader_inner r ≡ inner → reader_buffer r ≡ []
     → reader_capacity r ≡ 8192 → HasLeft (remaining inner) (reader_remaining remaining r)
@@ -130,7 +127,8 @@ left_at_start remaining inner r is empty capacity =
     let all : reader_remaining remaining r ≡ prepend_known (reader_buffer r) (remaining r.inner) =
     ap (λ b. if b then None else prepend_known (reader_buffer r) (remaining r.inner)) none in
     same_left _ _
-    (all ∙ ap (λ xs. prepend_known xs (remaining r.inner)) empty ∙ prepend_none (remaining r.inner) ∙ ap remaining is)
+    (all ∙ ap (λ xs. prepend_known xs (remaining r.inner)) empty ∙ prepend_known-nil (remaining r.inner)
+    ∙ ap remaining is)
 
 pub left_after : (known before left : Option (List ℕ)) (line : List ℕ) → HasLeft known before
     → ReadsLine before left true line → line_reference line ≡ Some None

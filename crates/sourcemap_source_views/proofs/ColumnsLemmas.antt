@@ -17,8 +17,10 @@ use Rattle.std.specs.Str.{all_scalars}
 use lib.Utf8.{scalar}
 use Rattle.std.proofs.lemmas.Option.{none-some, same_Some}
 use Rattle.std.proofs.lemmas.List.{append_cancel_right, take-append-drop, length-append, length-take-le, take_at}
+use Rattle.std.proofs.lemmas.List.{nil_from_length}
 use Rattle.std.proofs.lemmas.List.{drop_at, get_or-take, get_or-drop, length-drop, take_all, take-take}
 use Rattle.std.proofs.Common.{take-add}
+use Rattle.std.proofs.lemmas.Iterator.Adapters.{option_map_id}
 use Rattle.sourcemap_source_views.specs.Columns.{IsOffset, units_of, width, prefixes, first_reaching, column_offset}
 use Rattle.sourcemap_source_views.specs.Columns.{reached_offset, part_between, slice_of}
 
@@ -65,10 +67,6 @@ option_map-map : {X Y Z : Type 0} (f : Y → Z) (g : X → Y) (o : Option X)
 option_map-map f g None = refl
 option_map-map f g (Some x) = refl
 
-option_map-id : {X : Type 0} (o : Option X) → option_map (λ x. x) o ≡ o
-option_map-id None = refl
-option_map-id (Some x) = refl
-
 -- ---- characters that start before a column
 
 -- each character of a list starts before column `col`, so each shorter prefix of the list has fewer than `col` units
@@ -83,7 +81,7 @@ pub reaching-after : (xs cs : List ℕ) (col : ℕ) → BeginBefore col xs
     → first_reaching col (xs ++ cs) ≡ option_map (λ prefix. xs ++ prefix) (first_reaching (col - width xs) cs)
 reaching-after [] cs col b =
     let same : col ≡ col - 0 = omega arith in
-    sym (option_map-id (first_reaching col cs)) ∙ ap (λ n. option_map (λ prefix. prefix) (first_reaching n cs)) same
+    sym (option_map_id (first_reaching col cs)) ∙ ap (λ n. option_map (λ prefix. prefix) (first_reaching n cs)) same
 reaching-after (x ∷ xs) cs col b =
     let later = reaching-after xs cs (col - units_of x) b.1 in
     let to = minus_minus col (units_of x) (width xs) in
@@ -561,14 +559,10 @@ ascii-back line offset units count col u p e l a =
     let here : IsOffset line at col = (boundary, units_is) in
     (offset-own line at col u here, here)
 
-nothing_taken : (xs : List ℕ) → length xs ≡ 0 → xs ≡ []
-nothing_taken [] e = refl
-nothing_taken (x ∷ xs) e = absurd (omega arith)
-
 pub no_step : (line : List ℕ) (offset units col : ℕ) → IsUtf8 line → IsOffset line offset units → col ≤ units
     → length (take offset line) ≡ 0 → Some offset ≡ column_offset line col
 no_step line offset units col u p l e =
-    let front = nothing_taken (take offset line) e in
+    let front = nil_from_length (take offset line) e in
     let wide : units ≡ 0 = p.1 ∙ ap (λ t. width (chars t)) front ∙ ap width chars-nil in
     let none : col ≡ 0 = omega arith in
     subst (λ n. Some offset ≡ column_offset line n) (wide ∙ sym none) (offset-own line offset units u p)

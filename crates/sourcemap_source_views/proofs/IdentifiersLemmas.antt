@@ -2,7 +2,6 @@
 use Rattle.std.proofs.Common.{◌≡◌, refl, sym, ap, subst, ◌∙◌, ℕ, ◌+◌, ◌-◌, ◌≤◌, ◌≢◌, ◌==◌, nat_lt, ◌&&◌, ◌||◌, Bool}
 use Rattle.std.proofs.Common.{true, false, cond, List, [], ◌∷◌, ◌++◌, length, take, drop, take_while, arith, inl, inr}
 use Rattle.std.proofs.Common.{one-add, Some, None, IsUtf8, IsCharBoundary, chars, encode_utf8, encode_utf8_all}
-use Rattle.std.proofs.Common.{slice_range}
 use Rattle.std.specs.List.{prefix_len, list_all}
 use Rattle.std.specs.Char.{is_whitespace, is_not_whitespace}
 use Rattle.std.specs.Str.{skip_leading_whitespace, trim_start, all_scalars}
@@ -318,6 +317,3 @@ after_first text rest c width u e n = (
       (IsCharBoundary-at_seam text (encode_utf8 c) rest e (IsUtf8-past_char text rest c u e)),
   ap (drop width) e ∙ drop_at (encode_utf8 c) rest width (sym n),
 )
-
-pub slice_front : (xs : List ℕ) (n : ℕ) → slice_range xs 0 n ≡ take n xs
-slice_front xs n = let e : n - 0 ≡ n = omega arith in ap (λ k. take k xs) e

@@ -10,7 +10,7 @@ use Rattle.std.proofs.lemmas.Bool.Decides.{Decides-eqb, nat_tests}
 use Rattle.std.proofs.lemmas.Slice.Eq.{bytes_eq-Decides}
 use Rattle.std.proofs.lemmas.Str.{chars-append, chars-nil, encodes-append, encodes-chars, IsUtf8-drop, IsUtf8-append}
 use Rattle.std.proofs.lemmas.Str.{IsUtf8-between, IsCharBoundary-from_drop, IsCharBoundary-from_rest}
-use Rattle.std.proofs.lemmas.List.{length-append, length-drop, drop-drop}
+use Rattle.std.proofs.lemmas.List.{length-append, length-drop, drop-drop, nil_from_length}
 use Rattle.std.proofs.lemmas.List.Folds.{drop_split}
 use Rattle.sourcemap_source_views.specs.Identifiers.{first_passes, identifier_at_start, is_identifier, is_part}
 use Rattle.sourcemap_source_views.specs.Identifiers.{is_start, is_text, token_at_start, unless_empty}
@@ -81,15 +81,11 @@ suffix_at text rest n e few =
     elim (cases_lt (length text) n) [
       | inl g ↦
           let none : length text - length rest ≡ length text = omega arith in
-          ap (λ k. drop k text) none ∙ drop_all text ∙ sym (nothing rest (omega arith))
+          ap (λ k. drop k text) none ∙ drop_all text ∙ sym (nil_from_length rest (omega arith))
       | inr l ↦
           let same : length text - length rest ≡ n = omega arith in
           ap (λ k. drop k text) same ∙ sym e
     ]
-  where
-    nothing : (xs : List ℕ) → length xs ≡ 0 → xs ≡ []
-    nothing [] e = refl
-    nothing (x ∷ xs) e = absurd (omega arith)
 
 drop_front : (i : ℕ) (front back : List ℕ) → i ≤ length front → drop i (front ++ back) ≡ drop i front ++ back
 drop_front zero front back l = refl

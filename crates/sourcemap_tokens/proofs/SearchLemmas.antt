@@ -1,5 +1,6 @@
 -- The index at which a search ends determines the closest item.
 use Rattle.std.proofs.Common.{◌≡◌, refl, sym, ap, subst, ◌∙◌, ℕ, zero, suc, ◌+◌, ◌-◌, ◌<◌, ◌≤◌, ◌==◌, List, [], ◌∷◌}
+use Rattle.std.proofs.Common.{◌⊎◌}
 use Rattle.std.proofs.Common.{length, get_or, Bool, true, false, cond, Some, None, Option, find, map, option_map}
 use Rattle.std.proofs.Common.{slice_get, IfSome, IsSortedByKey, arith, inl, inr, zero-add}
 use Rattle.std.specs.List.{enumerate_from, AllByRecursion}
@@ -18,6 +19,10 @@ use Rattle.std.proofs.lemmas.Option.{slice_get-get_or}
 use Rattle.std.proofs.lemmas.List.Recursion.{found_at, found_nowhere}
 use Rattle.std.proofs.lemmas.List.Sorted.{searchable_from_sorted}
 use Rattle.sourcemap_tokens.specs.Search.{find_last, closest_item, closest}
+
+pub cases_Option : {X : Type 0} (o : Option X) → (o ≡ None) ⊎ ((x : X) × (o ≡ Some x))
+cases_Option None = inl refl
+cases_Option (Some x) = inr (x, refl)
 
 -- If `low` is not 0, the key of the item at index `low - 1` is before `p`. If the list has an item at index `high`, the
 -- key of this item is not before `p`

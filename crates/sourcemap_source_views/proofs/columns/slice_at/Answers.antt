@@ -1,7 +1,7 @@
 use Rattle.std.proofs.Common.{◌≡◌, ◌∙◌, ◌+◌, ◌-◌, ap, ap₂, subst, subst₂, None, Some, option_map, take, drop}
 use Rattle.sourcemap_source_views.specs.Columns.{column_offset}
 use Rattle.sourcemap_source_views.proofs.ColumnsLemmas.{slice-short, slice-there}
-use Rattle.sourcemap_source_views.proofs.IdentifiersLemmas.{slice_front}
+use Rattle.sourcemap_references.proofs.ReferenceLemmas.{range_from_start}
 use Rattle.sourcemap_source_views.proofs.columns.slice_at.Goals as goal
 
 pub returns-in_err-length : goal.returns-in_err-length
@@ -30,6 +30,6 @@ returns c =
     ≡ column_offset text n) c.range_from-rest.ensures.value far c.in_ok-length.ensures.value in
     let first : Some start.offset ≡ column_offset line c.args.col =
     subst (λ n. Some start.offset ≡ column_offset line n) c.from.ensures c.in_ok-start.ensures.value in
-    ap Some (c.range.ensures.value ∙ slice_front _ _ ∙ ap (take end.offset) c.range_from-rest.ensures.value)
+    ap Some (c.range.ensures.value ∙ range_from_start _ _ ∙ ap (take end.offset) c.range_from-rest.ensures.value)
     ∙ slice-there line c.args.col c.args.span start.offset start.units end.offset c.utf8.line first
     c.in_ok-start.ensures.units last
