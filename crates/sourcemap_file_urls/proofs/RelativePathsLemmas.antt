@@ -1,16 +1,18 @@
 -- The parts of a path, one by one.
 use Rattle.std.proofs.Common.{◌≡◌, ◌∙◌, ℕ, ◌+◌, ◌<◌, ◌≤◌, ◌==◌, true, false, cond, not, List, [], ◌∷◌, ◌++◌, length}
+use Rattle.std.proofs.Common.{Option, None, Some, unwrap_or}
 use Rattle.std.proofs.Common.{filter, flat_map, ap, sym, subst, arith, ◌≢◌, get_or, inl, inr}
 use Rattle.std.specs.List.{All, slice_split, position_or_len, before_first, after_first, join_with_byte}
 use Rattle.std.specs.Str.{IsUtf8, IsCharBoundary}
 use Rattle.std.proofs.Math.ListN.{drop_of_length-le}
 use Rattle.std.proofs.lemmas.List.{take_all, append-nil}
-use Rattle.std.proofs.lemmas.Bool.{cases_lt, or_cases, eqb-true}
+use Rattle.std.proofs.lemmas.Bool.{cases_lt, or_cases, eqb-true, false_from_ne_true}
 use Rattle.std.proofs.lemmas.Str.{IsCharBoundary-before_ascii, IsCharBoundary-after_ascii}
 use Rattle.std.proofs.lemmas.List.Elements.{filter-append}
 use Rattle.std.proofs.lemmas.List.Splits.{slice_split_first, slice_split_none}
-use Rattle.std.proofs.lemmas.List.Sums.{passes_at_first, fails_before_first, prefix_len-le-length}
+use Rattle.std.proofs.lemmas.List.Sums.{passes_at_first, fails_before_first, prefix_len-le-length, position_or_len_is}
 use Rattle.sourcemap_file_urls.specs.RelativePaths.{is_separator, is_nonempty, parts}
+use Rattle.memchr.specs.Find.{IsFirstByte, is_byte2}
 
 -- ---- a path is split at its first separator
 
@@ -47,6 +49,16 @@ parts-next path part later before after e =
 
 -- let `at` be the index of the first separator of `path`, or the length of `path` if there is no separator
 -- (`position_or_len`). If `at` is not this length, `at` is less than this length, and the byte at `at` is a separator
+-- the index that `memchr2` finds, or the length of the path
+pub separator_found : (path : List ℕ) (found : Option ℕ) → IsFirstByte (is_byte2 47 92) path found
+    → unwrap_or found (length path) ≡ position_or_len is_separator path
+separator_found path None none =
+    sym (position_or_len_is is_separator path (length path) 0 (omega arith)
+    (λ k l. false_from_ne_true _ (none k (omega arith) l)) (λ l. absurd (omega arith)))
+separator_found path (Some at) (first, passes) =
+    sym (position_or_len_is is_separator path at 0 (let high = first.high in omega arith)
+    (λ k l. false_from_ne_true _ (first.before k (omega arith) l)) (λ _. passes))
+
 pub separator-first : (path : List ℕ) (at : ℕ) → at ≡ position_or_len is_separator path → at ≢ length path
     → (at < length path) × (is_separator (get_or path at 0) ≡ true)
 separator-first path at e differ =

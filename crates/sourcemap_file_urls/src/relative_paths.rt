@@ -7,6 +7,7 @@ ghost use Rattle.sourcemap_errors.specs.declared.errors.Error.TheVariants.{OutOf
 ghost use Rattle.sourcemap_file_urls.specs.RelativePaths.{is_separator as separates, is_nonempty, parts, folder_parts};
 ghost use Rattle.sourcemap_file_urls.specs.RelativePaths.{after_common, steps_up, relative_path, followed, is_plain};
 
+use memchr::memchr2;
 use sourcemap_errors::errors::Result;
 use std::alloc::Global;
 
@@ -144,19 +145,9 @@ fn split_first_part(path: &str) -> (&str, &str)
     (&path[..end], &path[end + 1..])
 }
 
+#[tactic(auto, using(crate::proofs::RelativePathsLemmas::separator_found))]
 fn first_separator(path: &[u8]) -> usize
     ensures { result ≡ position_or_len separates path.now }
 {
-    for (at, byte) in path.iter().enumerate() {
-        if is_separator(*byte) {
-            return at;
-        }
-    }
-    path.len()
-}
-
-fn is_separator(byte: u8) -> bool
-    ensures { result ≡ separates byte }
-{
-    byte == b'/' || byte == b'\\'
+    memchr2(b'/', b'\\', path).unwrap_or(path.len())
 }

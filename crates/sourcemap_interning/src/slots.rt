@@ -66,9 +66,9 @@ impl<T: Text> NumberTable<T> {
         })
     }
 
-    // The mask of a larger table for `count` texts. `None` as long as the number of their hashes is
-    // at most half of the mask. Texts with one hash count once, since no table has slots for more of
-    // them. But a larger table has to enter all texts again. So its mask is at least a quarter of
+    // The mask of a larger table for `count` texts. `None` as long as the number of texts without
+    // the `collisions` is at most half of the mask: a collision has no slot in a larger table
+    // either. But a larger table has to enter all texts again. So its mask is at least a quarter of
     // `count`, and the table grows at most three times until the number of texts has doubled.
     pub(crate) fn larger_mask(&self, count: usize) -> Option<usize>
         requires { count ≤ 4294967295 }

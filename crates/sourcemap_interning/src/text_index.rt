@@ -16,9 +16,9 @@ const FIRST_MASK: usize = 31;
 
 /// Texts that are numbered in the order in which they first occur. A search starts at the slot that
 /// the hash of the text selects. It reads at most 32 slots, and ends at the first slot that is free
-/// or has this hash. A text without a slot is found by its SipHash. If an earlier text has the same
-/// SipHash, it is found in a tree of texts. So n texts take at most some n log n comparisons, even
-/// if their hashes collide.
+/// or has this hash. A text without a slot is found by its SipHash. If an earlier text without a
+/// slot has the same SipHash, it is found in a tree of texts. So n texts take at most some n log n
+/// comparisons, even if their hashes collide.
 #[derive(Drop)]
 pub struct TextIndex<T: Text> {
     // the texts, by number

@@ -29,11 +29,16 @@ use Rattle.sourcemap_map_regular.specs.Map.{MapValue}
 use Rattle.sourcemap_map_regular.specs.Encode.{record_with, written_contents, written_ids}
 use Rattle.sourcemap_map_regular.specs.Write.{IsText}
 use Rattle.sourcemap_map_encode.specs.Members.{Entry, key_text, part, parts_text, later_after, IsPlainEntry}
-use Rattle.sourcemap_map_encode.specs.Members.{map_entries, debug_id_entry, file_entry, ids_entry, mappings_entry}
+use Rattle.sourcemap_map_encode.specs.Members.{debug_id_entry, file_entry, ids_entry, mappings_entry}
 use Rattle.sourcemap_map_encode.specs.Members.{names_entry, ranges_entry, root_entry, contents_entry, version_entry}
 use Rattle.sourcemap_map_encode.specs.Members.{leading_entries, token_entries, source_entries}
 
 -- Members.
+
+-- all members of the record
+abbrev pub map_entries : MapValue → List ℕ → Option (List ℕ) → List Entry
+map_entries m mappings ranges =
+    leading_entries m ++ (token_entries m mappings ranges ++ (source_entries m ++ version_entry ∷ []))
 
 abbrev pub member_if : List ℕ → Option Data → Members → Members
 member_if key None ms = ms

@@ -18,8 +18,8 @@ use Rattle.sourcemap_map_regular.specs.Write.{IsEncoded}
 use Rattle.sourcemap_map_regular.proofs.EncodeLemmas.{answered}
 use Rattle.sourcemap_map_encode.specs.Members.{Entry, part, parts_text, later_after, IsPlainEntry}
 use Rattle.sourcemap_map_encode.specs.Members.{HasSoundLeadingMembers, IsTokensText, leading_entries, token_entries}
-use Rattle.sourcemap_map_encode.specs.Members.{source_entries, version_entry, map_entries}
-use Rattle.sourcemap_map_encode.proofs.MemberLemmas.{parts_joined, text_is}
+use Rattle.sourcemap_map_encode.specs.Members.{source_entries, version_entry}
+use Rattle.sourcemap_map_encode.proofs.MemberLemmas.{parts_joined, text_is, map_entries}
 
 all_append : (xs ys : List Entry) → AllByRecursion IsPlainEntry xs → AllByRecursion IsPlainEntry ys
     → AllByRecursion IsPlainEntry (xs ++ ys)

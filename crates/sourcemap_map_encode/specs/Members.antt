@@ -87,11 +87,6 @@ token_entries m mappings ranges = mappings_entry mappings ∷ names_entry m.name
 abbrev pub source_entries : MapValue → List Entry
 source_entries m = root_entry m.root ∷ sources_entry m.sources ∷ contents_entry (length m.sources) m.contents ∷ []
 
--- all members of the record
-abbrev pub map_entries : MapValue → List ℕ → Option (List ℕ) → List Entry
-map_entries m mappings ranges =
-    leading_entries m ++ (token_entries m mappings ranges ++ (source_entries m ++ version_entry ∷ []))
-
 -- the debug id, if any, has 16 bytes; each ignored id is below 2^32; the ignored ids are sorted, without repeats
 pub record HasSoundLeadingMembers (m : MapValue) : Type 0 where
   pub id : IfSome m.debug_id IsId

@@ -54,12 +54,6 @@ impl SourceMapRef {
         }
     }
 
-    fn is_data_url(&self) -> bool
-        ensures { result ≡ is_data_url (url_of self.now) }
-    {
-        self.get_url().as_bytes().starts_with(b"data:")
-    }
-
     /// Resolves the URL of the source map against the URL of the file that holds the reference.
     ///
     /// Returns `None` if the URL in the reference starts with `data:`, or if either URL is
@@ -72,7 +66,7 @@ impl SourceMapRef {
             (UnlessLong (resolved minified_url.now (url_of self.now))
             (IsLongJoin minified_url.now (url_of self.now))) result }
     {
-        if self.is_data_url() {
+        if is_data_url(self.get_url()) {
             return Ok(None);
         }
         match urls::parse(*self.url().allocator(), minified_url)? {
@@ -97,7 +91,7 @@ impl SourceMapRef {
             (UnlessLong (resolved_path minified_path.now (url_of self.now))
             (IsLongJoin (url_text minified_path.now false) (url_of self.now))) result }
     {
-        if self.is_data_url() {
+        if is_data_url(self.get_url()) {
             return Ok(None);
         }
         let alloc = *self.url().allocator();
@@ -106,6 +100,13 @@ impl SourceMapRef {
             None => Ok(None),
         }
     }
+}
+
+/// Whether a URL starts with `data:`.
+pub fn is_data_url(url: &str) -> bool
+    ensures { result ≡ is_data_url url.now }
+{
+    url.as_bytes().starts_with(b"data:")
 }
 
 // The text of `reference` resolved against `base`. `None` if `reference` is rejected. The result

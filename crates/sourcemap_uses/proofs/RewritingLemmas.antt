@@ -6,7 +6,7 @@ use Rattle.sourcemap.specs.Due.{Gives-given}
 use Rattle.sourcemap.specs.Encoder.{ReadsBack, Restores}
 use Rattle.sourcemap.specs.Prefixes.{without_prefix}
 use Rattle.sourcemap.specs.Reading.{BytesHaveResult, RegularDecodes}
-use Rattle.sourcemap.specs.Rewrite.{IsDefault, LacksFolder, MeansLess, no_removal, removal_of, rewritten}
+use Rattle.sourcemap.specs.Rewrite.{IsDefault, LacksFolder, MeansLess, no_removal, removal_of, rewritten, Removal}
 use Rattle.sourcemap.specs.Rewrite.{without_removed, used_sources, Gives-rewritten, Rewrites, lacks_none}
 use Rattle.sourcemap.specs.Rewrite.{without_loading}
 use Rattle.sourcemap.specs.Types.{MapValue, Meaning, contents_of, meaning}
@@ -14,7 +14,11 @@ use Rattle.sourcemap.specs.declared.errors.Error.{Error}
 use Rattle.sourcemap.specs.declared.errors.Error.TheVariants.{OutOfMemory}
 use Rattle.sourcemap.specs.declared.types.RewriteOptions.{RewriteOptions}
 use Rattle.sourcemap_uses.proofs.RefusalLemmas.{memory_alone, unless_memory}
-use Rattle.sourcemap_uses.specs.Publishing.{Publishes, without_name, no_details}
+use Rattle.sourcemap_uses.specs.Publishing.{Publishes, without_name}
+
+-- removes names and source contents; the sources keep their prefixes
+abbrev no_details : Removal
+no_details = record { with_names = false; with_contents = false; prefixes = [] }
 
 whole : (source : Option (List ℕ)) → option_map (without_prefix []) source ≡ source
 whole None = refl
