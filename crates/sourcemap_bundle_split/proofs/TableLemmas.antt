@@ -4,11 +4,12 @@ use Rattle.std.proofs.Common.{◌++◌, length, get_or, set, All, Bool, true, fa
 use Rattle.std.proofs.Common.{None, is_none, option_map, unwrap_or, slice_get, arith, ◌⊎◌, inl, inr}
 use Rattle.std.specs.List.{IsDistinct, list_any}
 use Rattle.std.proofs.lemmas.Bool.{eqb-true, eq-eqb}
-use Rattle.std.proofs.lemmas.Bool.Decides.{nat_tests}
+use Rattle.std.proofs.lemmas.Bool.Decides.{nat_tests, not_from_Decides}
 use Rattle.std.proofs.lemmas.List.{get_or_default, get_or-set_same, get_or-set_other}
 use Rattle.std.proofs.lemmas.Map.Keys.{any_passes_from_place}
 use Rattle.std.proofs.lemmas.Map.Steps.{length-le_from_distinct_below}
 use Rattle.std.proofs.lemmas.Option.{slice_get-get_or}
+use Rattle.std.specs.Bool.{Decides}
 use Rattle.sourcemap_tokens.specs.Tokens.{no_id}
 use Rattle.sourcemap_bundle_split.specs.Ids.{AreBelow}
 use Rattle.sourcemap_bundle_split.specs.ModuleMap.{number_of, with_id}
@@ -30,7 +31,7 @@ number_of-there (k ∷ ids) id (suc n) at = by_cases (k == id) refl (number_of-t
     by_cases true same rest = (0, (rw same refl))
     by_cases false same rest = (rest.0 + 1, (rw (same, rest.1) refl))
 
-pub number_at : (numbers order : List ℕ) (id n : ℕ) → Stand numbers order → slice_get order n ≡ Some id
+number_at : (numbers order : List ℕ) (id n : ℕ) → Stand numbers order → slice_get order n ≡ Some id
     → number_of order id ≡ Some n
 number_at numbers order id n stand at =
     let there = number_of-there order id n at in
@@ -52,10 +53,18 @@ number_none numbers order id stand apart = by_cases (number_of order id) refl
 
 -- let `Stand numbers order` hold, let `numbers` have `n` at index `id`, and let `ids` equal `order`. If `ids` does not
 -- have `id` at index `n`, then `id` has no number in `order`
-pub number_none_read : (numbers order ids : List ℕ) (id n default : ℕ) → Stand numbers order → id < length numbers
-    → n ≡ get_or numbers id default → ids ≡ order → slice_get ids n ≢ Some id → number_of order id ≡ None
-number_none_read numbers order ids id n default stand inside read same apart =
-    number_none numbers order id stand (λ at. apart (ap (λ list. slice_get list n) same
+-- a test of whether `order` has `id` at the index that `numbers` has for `id`
+pub number_read : (numbers order ids : List ℕ) (id n : ℕ) {known : Bool} → Stand numbers order → ids ≡ order
+    → Decides known (slice_get ids n ≡ Some id) → known ≡ true → number_of order id ≡ Some n
+number_read numbers order ids id n stand same decides yes =
+    number_at numbers order id n stand (ap (λ list. slice_get list n) (sym same) ∙ decides.0 yes)
+
+pub number_none_read : (numbers order ids : List ℕ) (id n default : ℕ) {known : Bool} → Stand numbers order
+    → id < length numbers → n ≡ get_or numbers id default → ids ≡ order
+    → Decides known (slice_get ids n ≡ Some id) → known ≡ false → number_of order id ≡ None
+number_none_read numbers order ids id n default {known} stand inside read same decides no =
+    number_none numbers order id stand (λ at. not_from_Decides known decides no
+    (ap (λ list. slice_get list n) same
     ∙ ap (slice_get order) (read ∙ get_or_default numbers id default 0 inside) ∙ at))
 
 -- if each id in `order` is below `count`, an id that is not below `count` has no number in `order`

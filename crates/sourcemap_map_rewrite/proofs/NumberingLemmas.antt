@@ -256,11 +256,6 @@ module _ {X : Type 0} where
   slice_get-replicate (suc n) x zero h = refl
   slice_get-replicate (suc n) x (suc i) h = slice_get-replicate n x i (omega arith)
 
-pub text-at : (texts : List (String Global)) (i : ℕ) (s : String Global) → i < length texts → s ≡ get_or texts i s
-    → slice_get (map string_bytes texts) i ≡ Some (string_bytes s)
-text-at texts i s within read = slice_get-map string_bytes texts i ∙ ap (option_map string_bytes) (slice_get_read texts
-    (length texts) i s refl within read)
-
 -- let `x` be an item of `xs`. If `first_some f xs` is `None`, then `f x` is also `None`. So appending `x` to `xs` does
 -- not change the result of `first_some f`
 first_some-seen : {X Y : Type 0} (f : X → Option Y) (xs : List X) (k : ℕ) (x : X) → slice_get xs k ≡ Some x

@@ -4,7 +4,7 @@ use Rattle.std.specs.declared.alloc.Global.{Global}
 use Rattle.std.proofs.lemmas.List.{map-append, map_push, take_more}
 use Rattle.std.proofs.lemmas.List.Elements.{All-get_or}
 use Rattle.sourcemap_bundle_split.specs.ModuleMap.{texts_at}
-use Rattle.sourcemap_bundle_split.proofs.TextsLemmas.{text_there}
+use Rattle.sourcemap_texts.proofs.TextsLemmas.{text_there}
 use Rattle.sourcemap_bundle_split.proofs.module_maps.texts_at.Goals as goal
 
 pub loop-id-preserved : goal.loop-id-preserved

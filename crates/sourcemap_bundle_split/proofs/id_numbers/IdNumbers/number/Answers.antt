@@ -1,11 +1,11 @@
-use Rattle.std.proofs.Common.{◌≡◌, ◌≢◌, ◌<◌, ◌∙◌, ◌++◌, ◌∷◌, [], sym, ap, subst, length, get_or, set, slice_get, nat_eq}
-use Rattle.std.proofs.Common.{Some, None, arith, refl}
+use Rattle.std.proofs.Common.{◌≡◌, ◌<◌, ◌++◌, ◌∷◌, [], sym, subst, length, set, nat_eq}
+use Rattle.std.proofs.Common.{None, arith, refl}
 use Rattle.std.specs.List.{IsDistinct}
-use Rattle.std.proofs.lemmas.List.{get_or_default, length-set}
+use Rattle.std.proofs.lemmas.List.{length-set}
 use Rattle.sourcemap_bundle_split.specs.Ids.{AreBelow}
 use Rattle.sourcemap_bundle_split.specs.ModuleMap.{number_of}
 use Rattle.sourcemap_bundle_split.specs.Numbers.{Stand}
-use Rattle.sourcemap_bundle_split.proofs.TableLemmas.{below_push, distinct_push, few_ids, number_at, number_none_read}
+use Rattle.sourcemap_bundle_split.proofs.TableLemmas.{below_push, distinct_push, few_ids, number_none_read, number_read}
 use Rattle.sourcemap_bundle_split.proofs.TableLemmas.{number_of-new, number_past, stand_push, with_id-known}
 use Rattle.sourcemap_bundle_split.proofs.TableLemmas.{with_id-new}
 use Rattle.sourcemap_bundle_split.proofs.id_numbers.IdNumbers.number.Goals as goal
@@ -24,20 +24,16 @@ pub returns-then-is_at-clause-ids : goal.returns-then-is_at-clause-ids
 returns-then-is_at-clause-ids c =
     let numbers = c.self.inside.numbers.items in
     let order = c.self.inside.order.items in
-    let at : slice_get order c.index-number.result.now ≡ Some c.args.id =
-    ap (λ ids. slice_get ids c.index-number.result.now) (sym c.deref.ensures.value)
-    ∙ c.is_at.ensures.0 c.if-is_at.true in
-    let known = number_at numbers order c.args.id c.index-number.result.now c.self.invariant.stand at in
+    let known = number_read numbers order _ c.args.id _ c.self.invariant.stand c.deref.ensures.value c.is_at.ensures
+    c.if-is_at.true in
     rw (← c.self.view_is, with_id-known (length numbers) order c.args.id c.index-number.result.now known) refl
 
 pub returns-then-is_at-clause-number : goal.returns-then-is_at-clause-number
 returns-then-is_at-clause-number c =
     let numbers = c.self.inside.numbers.items in
     let order = c.self.inside.order.items in
-    let at : slice_get order c.index-number.result.now ≡ Some c.args.id =
-    ap (λ ids. slice_get ids c.index-number.result.now) (sym c.deref.ensures.value)
-    ∙ c.is_at.ensures.0 c.if-is_at.true in
-    let known = number_at numbers order c.args.id c.index-number.result.now c.self.invariant.stand at in
+    let known = number_read numbers order _ c.args.id _ c.self.invariant.stand c.deref.ensures.value c.is_at.ensures
+    c.if-is_at.true in
     rw (← c.self.view_is, known) refl
 
 -- a new id gets the next number
@@ -54,10 +50,8 @@ invariant_of-self-2 c =
     let order = c.self.inside.order.items in
     let id = c.args.id in
     let inside : id < length numbers = omega (arith, c.if-slot-len.false, c.len.ensures, c.self.inside.numbers.ok.0) in
-    let apart : slice_get c.deref.result.now c.index-number.result.now ≢ Some id =
-    λ at. (let there = c.is_at.ensures.1 at in let not_there = c.if-is_at.false in cc) in
     let none = number_none_read numbers order _ id _ _ c.self.invariant.stand inside c.index-number.ensures
-    c.deref.ensures.value apart in
+    c.deref.ensures.value c.is_at.ensures c.if-is_at.false in
     let next : c.len-number.result ≡ length order = omega (arith, c.len-number.ensures, c.self.inside.order.ok.0) in
     record {
       few = omega (arith, c.self.invariant.few, length-set numbers id c.len-number.result);
@@ -77,10 +71,8 @@ returns-clause-ids c =
     let order = c.self.inside.order.items in
     let id = c.args.id in
     let inside : id < length numbers = omega (arith, c.if-slot-len.false, c.len.ensures, c.self.inside.numbers.ok.0) in
-    let apart : slice_get c.deref.result.now c.index-number.result.now ≢ Some id =
-    λ at. (let there = c.is_at.ensures.1 at in let not_there = c.if-is_at.false in cc) in
     let none = number_none_read numbers order _ id _ _ c.self.invariant.stand inside c.index-number.ensures
-    c.deref.ensures.value apart in
+    c.deref.ensures.value c.is_at.ensures c.if-is_at.false in
     rw (
       ← c.self.view_is,
       length-set numbers id c.len-number.result,
@@ -94,9 +86,7 @@ returns-clause-number c =
     let order = c.self.inside.order.items in
     let id = c.args.id in
     let inside : id < length numbers = omega (arith, c.if-slot-len.false, c.len.ensures, c.self.inside.numbers.ok.0) in
-    let apart : slice_get c.deref.result.now c.index-number.result.now ≢ Some id =
-    λ at. (let there = c.is_at.ensures.1 at in let not_there = c.if-is_at.false in cc) in
     let none = number_none_read numbers order _ id _ _ c.self.invariant.stand inside c.index-number.ensures
-    c.deref.ensures.value apart in
+    c.deref.ensures.value c.is_at.ensures c.if-is_at.false in
     let next : c.len-number.result ≡ length order = omega (arith, c.len-number.ensures, c.self.inside.order.ok.0) in
     rw (c.in_ok-push.ensures.items, number_of-new order id none) next
