@@ -1,17 +1,15 @@
 -- Deduplicated texts and their new numbers.
 use Rattle.std.proofs.Common.{◌≡◌, ◌≢◌, refl, sym, ap, subst, ◌∙◌, ℕ, zero, suc, ◌+◌, ◌<◌, ◌≤◌, List, [], ◌∷◌, ◌++◌}
 use Rattle.std.proofs.Common.{append_assoc, length, map, fold, Bool, true, false, cond, Some, None, Option, arith, inl}
-use Rattle.std.proofs.Common.{inr, slice_get, slice_set, get_or, is_some, option_map, replicate, string_bytes}
-use Rattle.std.proofs.Common.{String}
+use Rattle.std.proofs.Common.{inr, slice_get, slice_set, is_some, replicate}
 use Rattle.std.specs.List.{AllByRecursion}
 use Rattle.std.specs.Option.{option_or}
 use Rattle.std.specs.Str.{bytes_eq}
-use Rattle.std.specs.declared.alloc.Global.{Global}
 use Rattle.std.proofs.lemmas.Bool.{cases_Bool, cases_eq}
 use Rattle.std.proofs.lemmas.Slice.Eq.{bytes_eq-Decides}
 use Rattle.std.proofs.lemmas.List.Sums.{fold-append}
 use Rattle.std.proofs.lemmas.List.{map_push, length_push, append-nil, length-set, length-replicate}
-use Rattle.std.proofs.lemmas.Option.{slice_get_within, slice_get_past, slice_get-map, slice_get_read}
+use Rattle.std.proofs.lemmas.Option.{slice_get_within, slice_get_past}
 use Rattle.sourcemap_interning.proofs.ItemLemmas.{slice_get-set_same, slice_get-set_other, slice_get-pushed}
 use Rattle.sourcemap_interning.proofs.ItemLemmas.{slice_get-last}
 use Rattle.sourcemap_interning.specs.Interner.{id_of, with_text, AreDistinct}
