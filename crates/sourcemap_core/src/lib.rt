@@ -1,4 +1,4 @@
-//! Facade of what needs no JSON and no map type: re-exports the modules below from other crates.
+//! A facade of what needs neither JSON nor a type of maps; knows nothing of either.
 #![tactic(auto)]
 
 pub mod compose;

@@ -1,5 +1,6 @@
 //! Absolute paths of files as URLs, and back.
-ghost use Rattle.std.specs.Prelude.{◌≡◌, ◌<◌, ℕ, not, Ok, option_map, string_bytes, OnOk, IfErr, codes, if◌then◌else◌, [], ◌∷◌, ◌++◌};
+ghost use Rattle.std.specs.Prelude.{◌≡◌, ◌<◌, ℕ, not, Ok, option_map, string_bytes, OnOk, IfErr, codes, [], ◌∷◌, ◌++◌};
+ghost use Rattle.std.specs.Prelude.{if◌then◌else◌};
 ghost use Rattle.sourcemap_errors.specs.Answer.{Gives, IsAnswer};
 ghost use Rattle.sourcemap_file_urls.specs.Places as spec;
 ghost use Rattle.sourcemap_file_urls.specs.Places.{PathUrl, NamesPath, path_of, text_of, escaped, is_unreserved};

@@ -1,13 +1,14 @@
 -- A map of any kind is written as at most one JSON value. No number in this value has a fraction. If index maps are not
 -- nested deep, the value has few levels.
 use Rattle.std.proofs.Common.{◌≡◌, ◌∙◌, ◌+◌, ◌*◌, ◌≤◌, ◌++◌, refl, sym, ap, subst, arith, ℕ, List, [], ◌∷◌, codes, Option, Some, false}
+use Rattle.std.proofs.lemmas.Bool.{or_from}
 use Rattle.serde_json.specs.Data.{Data, null, string, array, object, Members, no_members, Items, item, depth, items_depth}
 use Rattle.serde_json.specs.Read.{max_depth}
 use Rattle.serde_json.specs.Written.{compact_text, has_float, items_have_float}
 use Rattle.sourcemap_headers.specs.DebugId.{debug_id_text}
 use Rattle.sourcemap_records.specs.Field.{written_number, written_or_null, written_list, put_if, put_all}
 use Rattle.sourcemap_records.specs.Jsontypes.{Tree, Sections, SectionHead, entries, written, written_fields, written_sections, written_section, written_offset}
-use Rattle.sourcemap_map_regular.proofs.WriteLemmas.{IsLow, EntriesAreLow, low_object, low_list, low_or_null, low_if, low_number, low_string, low_entries, neither, record-low as regular-low}
+use Rattle.sourcemap_map_regular.proofs.WriteLemmas.{IsLow, EntriesAreLow, low_object, low_list, low_or_null, low_if, low_number, low_string, low_entries, record-low as regular-low}
 use Rattle.sourcemap_hermes.proofs.WriteLemmas.{record-low as hermes-low}
 use Rattle.sourcemap_index_model.specs.Encode.{index_fields, AreWrittenBy, IsLeafRecord, IsRecordOf}
 use Rattle.sourcemap_index_model.specs.MapTree.{LeafMap, regular, hermes, IndexParts, MapTree, leaf, index, MapSections, no_sections, hollow, filled}
@@ -104,7 +105,7 @@ AreLowItems n ds = (items_depth ds ≤ 3 * n + 6) × (items_have_float ds ≡ fa
 
 low_item : (n : ℕ) (d : Data) (ys : Sections) → IsLow (3 * n + 5 + 1) d → AreLowItems n (written_sections ys) → AreLowItems n (item d (written_sections ys))
 low_item n d ys here rest =
-    ((let a = here.0 in let b = rest.0 in omega arith), neither (has_float d) (items_have_float (written_sections ys)) here.1 rest.1)
+    ((let a = here.0 in let b = rest.0 in omega arith), or_from (has_float d) (items_have_float (written_sections ys)) here.1 rest.1)
 
 mutual
   -- the record `r` has at most `3 * levels t + 5` levels. An index map adds three levels: its object, the list of its

@@ -1,5 +1,6 @@
 //! Assigns new numbers to texts in the order of first use.
-ghost use Rattle.std.specs.Prelude.{◌≡◌, ◌<◌, ◌≤◌, None, [], length, map, slice_get, string_bytes, vec_len, replicate, IfOk, OnOk, IsOkUnless};
+ghost use Rattle.std.specs.Prelude.{◌≡◌, ◌<◌, ◌≤◌, None, [], length, map, slice_get, string_bytes, vec_len, replicate};
+ghost use Rattle.std.specs.Prelude.{IfOk, OnOk, IsOkUnless};
 ghost use Rattle.sourcemap_interning.specs.Interner.{id_of};
 ghost use Rattle.sourcemap_tokens.specs.Tokens.{no_id};
 ghost use Rattle.sourcemap_errors.specs.declared.errors.Error.TheVariants.{OutOfMemory};
