@@ -1,7 +1,7 @@
 #!/usr/bin/env python3
 """Writes texts that all have the same hash by the hash function of the kit's maps, whose seed is fixed.
 
-    colliding.py KIND COUNT [--usual]
+    bench/colliding.py KIND COUNT [--usual]
 
 KIND says what contains the COUNT texts. `lines`: each line is a text. `sources` or `names`: a map has the texts
 as its sources or names, and a token for each. `index`: an index map has ten sections, each with a tenth of the

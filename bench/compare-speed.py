@@ -2,7 +2,9 @@
 """Measures the time and memory of this library and of a reference program, and prints their ratios as Markdown.
 
     bench/compare-speed.py REFERENCE [MAP..] [--pairs FOLDER] [--views] [--bundles] [--rounds N] [--no-made] [--no-maps]
-                           [--lookups N..] [--growth N..] [--instructions]
+                           [--lookups N..] [--growth N..] [--instructions] [--svg FILE]
+    bench/compare-speed.py --svg FILE --figures decode=RATIO,lookup=RATIO,rewrite=RATIO [--date DATE] [--what TEXT]
+                           [--note TEXT]
 
 REFERENCE       the folder bench/reference, which is then built, from the public registry only if crates are missing.
                 Or a program over the Rust crate with the commands `bench OPERATION N` and `stat`, which takes `slice`
@@ -23,10 +25,13 @@ MAP             files of maps, which may be index maps. Without MAP, the maps th
 --growth        numbers of tokens (75000 250000). For each number, a table compares four made maps. The smallest has
                 this number of tokens, and each other one has twice as many as the one before. 0 gives no table
 --instructions  also counts instructions, with valgrind, which is slow
+--svg           writes a picture of three ratios to FILE, as docs/speed.svg is: decoding a slice, looking up, and copying
+                and rewriting. Each is the largest ratio among the measured regular maps, without the maps that are added
+--figures       measures nothing, and draws these ratios. --date is the day on which they were measured (today), --what
+                says of which maps they are, and --note is a comment in the file, which says where they come from
 
-If a program of this repository is missing, it is built first. With --no-maps, only the programs for views and bundles
-are built. SOURCEMAP_TOOL, SOURCEMAP_BENCH and, for views and bundles, SOURCEMAP_BENCH_VIEWS and
-SOURCEMAP_BENCH_BUNDLES in the environment name other programs.
+If a program of this repository is missing, it is built first. With --no-maps, only `sourcemap_bench` is built.
+SOURCEMAP_TOOL and SOURCEMAP_BENCH in the environment name other programs.
 
 The time of an operation comes from two processes: one repeats the operation often, and the other does it once. The
 difference of their times is divided by the difference of their numbers of repetitions. So the figure does not contain
@@ -40,10 +45,12 @@ different checksums for an operation, these are printed on standard error, and t
 there as soon as it is measured, except in tables of growth. A cell has the ratio of the figure here to the reference's,
 and in parentheses the figure here. A row of growth has the figure on the smallest map, and then the ratios to it.
 """
-import argparse, json, os, pathlib, shutil, subprocess, sys, tempfile
-from comparing import BENCH, BENCH_BUNDLES, BENCH_VIEWS, CRATES, TOOL, build_missing, reference_program, text_beside
+import argparse, datetime, json, os, pathlib, shutil, subprocess, sys, tempfile
+sys.path.insert(0, str(pathlib.Path(__file__).resolve().parent.parent / 'compare'))
+from comparing import BENCH, CRATES, TOOL, build_missing, reference_program, text_beside
 from composing import Token, mappings_of
 from index_maps import LAST, is_index, record_of
+from picture import picture
 from walks import TOKENS
 
 SCRIPTS = CRATES.parent / 'bench'
@@ -53,11 +60,13 @@ TITLES = {'decode': 'decode a slice', 'decode-reader': 'decode a reader', 'looku
           'tokens': 'all tokens', 'encode': 'encode', 'rewrite': 'copy and rewrite', 'flatten': 'flatten',
           'compose': 'copy and compose', 'lines': 'a view and all its lines', 'names': 'walks over all tokens', 'split': 'flatten and split'}
 OF_VIEWS = ['lines', 'names']
-# the programs for the operations that BENCH does not have
-PROGRAMS = {**dict.fromkeys(OF_VIEWS, BENCH_VIEWS), 'split': BENCH_BUNDLES}
+# the words before the operations on other subjects than maps
+SUBJECTS = {**dict.fromkeys(OF_VIEWS, ['views']), 'split': ['bundles']}
 BUNDLES = {'2,500 modules': ['2500', '250000'], '5,000 modules': ['5000', '500000'], '10,000 modules': ['10000', '1000000'],
            '5,000 modules in one section': ['5000', '500000', '--sections', '1'],
            '5,000 modules with contents': ['5000', '500000', '--contents', '2000']}
+# the operations in the picture
+DRAWN = ['decode', 'lookup', 'rewrite']
 COUNTED = ['decode', 'decode-reader', 'encode']
 RUNS = (['lookup', '3', '100'], ['rewrite'])
 INDEX_RUNS = (['lookup', '3', '100'], ['flatten'])
@@ -120,7 +129,7 @@ class Pair:
     """Both programs, and whether a checksum differed."""
 
     def __init__(self, reference):
-        self.commands = {'here': lambda op, n: [PROGRAMS.get(op, BENCH), op, str(n)],
+        self.commands = {'here': lambda op, n: [BENCH, *SUBJECTS.get(op, []), op, str(n)],
                          'reference': lambda op, n: [reference, 'bench', op, str(n)]}
         self.reference = reference
         self.is_different = False
@@ -211,10 +220,11 @@ class Table:
 
 
 class Maps:
-    """The tables of maps of one kind: of operations, of whole runs and of instructions."""
+    """The tables of maps of one kind: of operations, of whole runs and of instructions. `ratios` has the ratio of each
+    operation for each map."""
 
     def __init__(self, operations, runs):
-        self.operations, self.runs = operations, runs
+        self.operations, self.runs, self.ratios = operations, runs, {}
         self.times = Table(['Map', 'Size', 'Tokens', *(TITLES[each] for each in operations)])
         words = ['`' + ' '.join(each) + '`' for each in runs]
         self.wholes = Table(['Map', *(head for each in words for head in ('run of ' + each, 'its most memory'))])
@@ -223,8 +233,9 @@ class Maps:
     def add(self, programs, path, tokens, rounds, is_counted):
         name, size = f'`{os.path.basename(path)}`', os.path.getsize(path) / 1e3
         size = f'{size / 1e3:.1f} MB' if size >= 100 else f'{size:.0f} kB'
-        times = [cell(programs.times(path, each, rounds), 'ms', 1e3) for each in self.operations]
-        self.times.add([name, size, f'{int(tokens):,}', *times])
+        times = [programs.times(path, each, rounds) for each in self.operations]
+        self.ratios[path] = {each: pair[0] / pair[1] for each, pair in zip(self.operations, times) if pair}
+        self.times.add([name, size, f'{int(tokens):,}', *(cell(pair, 'ms', 1e3) for pair in times)])
         wholes = [each for words in self.runs for each in (cell(programs.whole(path, words, rounds), 'ms', 1e3),
                                                            cell(programs.memory(path, words), 'MB', 1))]
         self.wholes.add([name, *wholes])
@@ -238,6 +249,7 @@ class Maps:
 
 
 def map_tables(programs, paths, rounds, is_counted):
+    """Prints the tables of maps. Returns the ratios of the regular maps."""
     kinds = {'Regular maps': Maps(OPERATIONS, RUNS), 'Index maps': Maps(INDEX_OPERATIONS, INDEX_RUNS)}
     for path in paths:
         kind, tokens = subprocess.run([programs.reference, 'stat'], stdin=open(path), capture_output=True,
@@ -245,6 +257,30 @@ def map_tables(programs, paths, rounds, is_counted):
         kinds['Index maps' if kind == 'index' else 'Regular maps'].add(programs, path, tokens, rounds, is_counted)
     for kind, maps in kinds.items():
         maps.show(kind)
+    return kinds['Regular maps'].ratios
+
+
+def draw(path, figures, date, what, note):
+    pathlib.Path(path).write_text(picture(figures, date, what, note))
+
+
+def draw_measured(path, ratios, rounds):
+    """Draws the largest ratio of each operation among these maps."""
+    if not ratios:
+        sys.exit('no picture: no regular map but those that are added was measured')
+    figures = {each: max(ratio[each] for ratio in ratios.values() if each in ratio) for each in DRAWN
+               if any(each in ratio for ratio in ratios.values())}
+    names = ', '.join(sorted(map(os.path.basename, ratios)))
+    draw(path, figures, datetime.date.today(), f'the largest ratio of {len(ratios)} maps',
+         f'measured by bench/compare-speed.py, rounds: {rounds}, maps: {names}')
+
+
+def figures_of(text):
+    """The ratios in the argument of --figures."""
+    figures = {name: float(ratio) for name, ratio in (part.split('=') for part in text.split(','))}
+    if list(figures) != DRAWN:
+        raise ValueError
+    return figures
 
 
 def lines_of(paths, folder):
@@ -359,7 +395,7 @@ def growth_table(programs, smallest, rounds):
 
 def main():
     words = argparse.ArgumentParser(usage=__doc__)
-    words.add_argument('reference')
+    words.add_argument('reference', nargs='?')
     words.add_argument('maps', nargs='*')
     words.add_argument('--pairs', type=pathlib.Path)
     words.add_argument('--views', action='store_true')
@@ -370,20 +406,28 @@ def main():
     words.add_argument('--lookups', type=int, nargs='+', default=[300, 1000, 5000, 20000, 100000, 2300000])
     words.add_argument('--growth', type=int, nargs='+', default=[75000, 250000])
     words.add_argument('--instructions', action='store_true')
+    words.add_argument('--svg')
+    words.add_argument('--figures', type=figures_of)
+    words.add_argument('--date', default=datetime.date.today())
+    words.add_argument('--what', default='the largest ratio of 4 real maps')
+    words.add_argument('--note', default='figures given to bench/compare-speed.py')
     given = words.parse_args()
+    if given.figures and given.svg:
+        return draw(given.svg, given.figures, given.date, given.what, given.note)
+    if not given.reference or given.figures:
+        words.error('names no reference, or no file for the picture')
     if given.instructions and not shutil.which('valgrind'):
         words.error('--instructions needs valgrind')
-    build_missing([BENCH_VIEWS] * given.views + [BENCH_BUNDLES] * given.bundles)
-    if not given.no_maps:
-        build_missing()
+    build_missing([BENCH] if given.no_maps else [TOOL, BENCH])
     programs = Pair(reference_program(given.reference))
     with tempfile.TemporaryDirectory() as folder:
-        paths = [] if given.no_maps else given.maps or gathered_maps(folder)
-        if not given.no_made and not given.no_maps:
-            paths += [made_map(made, folder, name) for name, made in MADE.items()]
-        map_tables(programs, paths, given.rounds, given.instructions)
+        real = [] if given.no_maps else given.maps or gathered_maps(folder)
+        made = [] if given.no_maps or given.no_made else [made_map(words, folder, name) for name, words in MADE.items()]
+        ratios = map_tables(programs, real + made, given.rounds, given.instructions)
+        if given.svg:
+            draw_measured(given.svg, {path: ratio for path, ratio in ratios.items() if path in real}, given.rounds)
         if given.views:
-            view_table(programs, paths, given.rounds)
+            view_table(programs, real + made, given.rounds)
     if given.bundles:
         bundle_table(programs, given.rounds, given.instructions)
     if given.pairs:

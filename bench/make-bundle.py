@@ -11,7 +11,8 @@ Each module is one line, as Metro writes them. It has its own source and its par
 one of 2,000 names, which the modules share. One step in eight goes to the next line of the source. One module in two
 hundred is missing from the bundle.
 """
-import argparse, itertools, json, struct, sys
+import argparse, itertools, json, pathlib, struct, sys
+sys.path.insert(0, str(pathlib.Path(__file__).resolve().parent.parent / 'compare'))
 from composing import Token, mappings_of
 from index_maps import LAST
 

@@ -12,7 +12,8 @@ list of function maps is as long as the list of sources, shorter, or longer. An 
 has one or two records. Some texts of scope mappings cannot be read, some are not sorted, and some have indexes of
 missing names.
 """
-import argparse, json, pathlib, random
+import argparse, json, pathlib, random, sys
+sys.path.insert(0, str(pathlib.Path(__file__).resolve().parent.parent / 'compare'))
 from composing import Token, digits_of, mappings_of
 from hermes_maps import KEY
 from index_maps import LAST

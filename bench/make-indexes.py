@@ -18,7 +18,8 @@ or without a URL. A twelfth of the files have errors in up to two maps. Some ind
 file or a debug id. Some maps have contents, an ignore list or range tokens. If a map is used twice, its contents may
 differ. Some ids of ignore lists name no source.
 """
-import argparse, json, pathlib, random
+import argparse, json, pathlib, random, sys
+sys.path.insert(0, str(pathlib.Path(__file__).resolve().parent.parent / 'compare'))
 from index_maps import LAST, is_index, record_of
 
 DEPTH = 4

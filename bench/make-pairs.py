@@ -18,7 +18,8 @@ The original of a large pair has ten tokens on each line. Its adjustment is like
 shorter, with forty tokens on each line. It has nine in ten of the original's tokens, in blocks of two hundred. One
 block in twenty is swapped with the block before it, and one in four hundred is moved to the end of the text.
 """
-import argparse, json, pathlib, random
+import argparse, json, pathlib, random, sys
+sys.path.insert(0, str(pathlib.Path(__file__).resolve().parent.parent / 'compare'))
 from composing import Token, mappings_of
 from index_maps import LAST
 

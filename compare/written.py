@@ -2,7 +2,7 @@
 """Compares the text that this library writes of a map with the tokens that a reference program reads from this text,
 and with the text that the reference writes of the map. Does so for every regular map below a folder.
 
-    bench/compare-written.py REFERENCE MAPS
+    compare/written.py REFERENCE MAPS
 
 REFERENCE    the folder bench/reference, which is then built, or a program over the Rust crate with the commands
              `stat`, `tokens` (that of `sourcemap_tool`), and `roundtrip`, which writes a map as it is

@@ -3,12 +3,13 @@
 output or an input fails, and if there is no memory to read its arguments. Also tests the wrapper `sourcemap`: through
 a symbolic link, from another folder, and if no program is built.
 
-    bench/try-program.py
+    checks/program.py
 
 If the program is missing, it is built first. SOURCEMAP_TOOL in the environment names another program, but not for the
 wrapper. Each trial that does not end as expected is printed, and then the status is 1.
 """
 import os, pathlib, resource, shutil, subprocess, sys, tempfile
+sys.path.insert(0, str(pathlib.Path(__file__).resolve().parent.parent / 'compare'))
 from comparing import CRATES, TOOL, build_missing
 
 HOME = CRATES.parent

@@ -1,4 +1,4 @@
-"""Random inputs for calls that `sourcemap_bench_calls` and `sourcemap_bench_bundles` make, and what each call prints by
+"""Random inputs for calls that `sourcemap_bench_calls` and `sourcemap_bench` make, and what each call prints by
 the rules of the formats. The rules are those of `bundles.py`, `references.py`, `walks.py` and `rules.py`. Nothing is
 taken from the two programs."""
 import base64, binascii, collections, json, re, types
@@ -351,7 +351,7 @@ CALLS = {('walk',): (map_and_text, identifier_sum), ('view',): (referring_text, 
          ('to-data-url',): (map_line, data_url_size), ('set-root',): (map_and_text, with_root), ('set-sources',): (map_and_lines, with_sources),
          ('set-contents',): (map_and_lines, with_contents), ('set-file',): (map_and_lines, with_file), ('ignore',): (map_and_lines, with_ignored),
          ('strip',): (prefixes_and_sources, stripped_size)}
-SPLIT = ('split', '1')
+SPLIT = ('bundles', 'split', '1')
 ALL = {**CALLS, SPLIT: (index_and_bundle, checksum_of)}
 
 

@@ -2,7 +2,7 @@
 """Compares the answers of `sourcemap_tool`, which is called this program below, with those of a reference program. Does
 so for every map below a folder.
 
-    bench/compare-answers.py REFERENCE MAPS [--positions N]
+    compare/answers.py REFERENCE MAPS [--positions N]
 
 REFERENCE    the folder bench/reference, which is then built, or a program over the Rust crate that has the commands of
              this program, and also `positions N SEED [wild]`, `batch FILE` and `dst FILE`. The last two answer each

@@ -2,7 +2,7 @@
 """Compares the modules of RAM bundles, and the texts and maps that bundles are split into, with those of a reference
 program, and with the rules in bundles.py.
 
-    bench/compare-bundles.py REFERENCE [--bundles N] [--folders N] [--seed N]
+    compare/split.py REFERENCE [--bundles N] [--folders N] [--seed N]
 
 REFERENCE    the folder bench/reference, which is then built, or a program over the Rust crate that has the command
              `bundles QUESTIONS`, as asking_bundles.py describes it

@@ -2,7 +2,7 @@
 """Compares four kinds of answers with those of a reference program, and with the rules in references.py and urls.py:
 references to maps, what references resolve to, relative paths, and which texts are maps.
 
-    bench/compare-references.py REFERENCE [PACKAGES] [--texts N] [--seed N]
+    compare/located.py REFERENCE [PACKAGES] [--texts N] [--seed N]
 
 REFERENCE    the folder bench/reference, which is then built, or a program over the Rust crate that has the command
              `references QUESTIONS`, as asking_references.py describes it

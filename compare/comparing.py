@@ -7,9 +7,7 @@ from index_maps import LISTS, bytes_of, flat_tokens, is_index, pieces, record_of
 CRATES = pathlib.Path(__file__).resolve().parent.parent / 'crates'
 TOOL = os.environ.get('SOURCEMAP_TOOL', str(CRATES / 'sourcemap_tool/out/sourcemap_tool'))
 BENCH = os.environ.get('SOURCEMAP_BENCH', str(CRATES / 'sourcemap_bench/out/sourcemap_bench'))
-BENCH_BUNDLES = os.environ.get('SOURCEMAP_BENCH_BUNDLES', str(CRATES / 'sourcemap_bench_bundles/out/sourcemap_bench_bundles'))
 BENCH_CALLS = os.environ.get('SOURCEMAP_BENCH_CALLS', str(CRATES / 'sourcemap_bench_calls/out/sourcemap_bench_calls'))
-BENCH_VIEWS = os.environ.get('SOURCEMAP_BENCH_VIEWS', str(CRATES / 'sourcemap_bench_views/out/sourcemap_bench_views'))
 MAPS_AT_ONCE = 3
 MARK = b' range'
 # the position and the text of a token; the text may contain line ends

@@ -2,7 +2,7 @@
 """Adjusts maps by other maps with this repository's program and with a reference program. Compares both results, and
 compares the first one with the rules of composition in composing.py.
 
-    bench/compare-composed.py REFERENCE PAIRS
+    compare/composed.py REFERENCE PAIRS
 
 REFERENCE  the folder bench/reference, which is then built, or a program over the Rust crate that has the command
            `compose FILE`

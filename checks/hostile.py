@@ -1,7 +1,7 @@
 #!/usr/bin/env python3
 """Measures time and memory on hostile inputs: each kind at three sizes, by each command and call that it concerns.
 
-    bench/hostile.py [KIND..] [--scale N] [--instructions] [--list]
+    checks/hostile.py [KIND..] [--scale N] [--instructions] [--list]
 
 KIND            a kind, or a part of the names of kinds (all kinds)
 --scale         multiplies the sizes, as 0.1 or 4 (1)
@@ -28,15 +28,14 @@ A second table has for each kind the memory that it allows for each unit of n, t
 output for each byte of input. If nested index maps are among the kinds, the script finds by bisection how much stack
 they take, and prints it. The last line is `N passed, M failed`. The exit status is 1 if a row failed.
 
-The programs are sourcemap_tool, sourcemap_bench, sourcemap_bench_views, sourcemap_bench_bundles and
-sourcemap_bench_calls. The script builds those that are missing. SOURCEMAP_TOOL, SOURCEMAP_BENCH, SOURCEMAP_BENCH_VIEWS,
-SOURCEMAP_BENCH_BUNDLES and SOURCEMAP_BENCH_CALLS in the environment name other programs. Needs the GNU version of
-`/usr/bin/time`, and valgrind for --instructions.
+The programs are sourcemap_tool, sourcemap_bench and sourcemap_bench_calls. The script builds those that are missing.
+SOURCEMAP_TOOL, SOURCEMAP_BENCH and SOURCEMAP_BENCH_CALLS in the environment name other programs. Needs the GNU version
+of `/usr/bin/time`, and valgrind for --instructions.
 """
 import argparse, base64, collections, functools, json, math, os, pathlib, re, resource, struct, subprocess, sys, tempfile
-from comparing import BENCH, BENCH_BUNDLES, BENCH_CALLS, BENCH_VIEWS, TOOL, build_missing
+sys.path.insert(0, str(pathlib.Path(__file__).resolve().parent.parent / 'compare'))
+from comparing import BENCH, BENCH_CALLS, CRATES, TOOL, build_missing
 
-SCRIPTS = pathlib.Path(__file__).resolve().parent
 SLACK = 2
 # smaller amounts are noise: seconds, instructions, bytes
 LEAST_TIME, LEAST_COUNT, LEAST_MEMORY = 0.02, 5_000_000, 1 << 20
@@ -136,7 +135,7 @@ def small(mappings='AAAA'):
 
 
 def colliding_input(what, count, *options):
-    command = [SCRIPTS / 'colliding.py', what, str(count), *options]
+    command = [CRATES.parent / 'bench/colliding.py', what, str(count), *options]
     return subprocess.run(command, stdout=subprocess.PIPE, check=True).stdout
 
 
@@ -557,7 +556,7 @@ def views_of(tokens, most):
     line, `names` would take many times as long."""
     def calls_times_line(size, given, written):
         return given + math.ceil(tokens(size) / 128) * size
-    return [Run(BENCH_CALLS, ['walk'], most=50), Run(BENCH_VIEWS, ['names', '1'], count=calls_times_line, most=most)]
+    return [Run(BENCH_CALLS, ['walk'], most=50), Run(BENCH, ['views', 'names', '1'], count=calls_times_line, most=most)]
 
 
 @kind('one long identifier, a token at each column', 50_000, views_of(lambda size: size, 0.4), 12)
@@ -580,7 +579,7 @@ def _(size):
     return flat('AAAA,' + digits(size - 1) + 'AAC,' + 'AAAC,' * 20_000 + 'AAAC') + b'\n' + b'a' * size
 
 
-@kind('lines without text', 1_000_000, of_calls('view', 'slices', 'locate', 'locate-reader', 'locate-view') + [Run(BENCH_VIEWS, ['lines', '1'])], 12)
+@kind('lines without text', 1_000_000, of_calls('view', 'slices', 'locate', 'locate-reader', 'locate-view') + [Run(BENCH, ['views', 'lines', '1'])], 12)
 def _(size):
     return b'\n' * size
 
@@ -670,7 +669,7 @@ def _(size):
     return bundle_of_files((number * (2**64 - 2) // (size - 1), b'a' * 4_000) for number in range(size))
 
 
-SPLITS = [Run(BENCH_BUNDLES, ['split', '1'])]
+SPLITS = [Run(BENCH, ['bundles', 'split', '1'])]
 
 
 def split_of(offsets, mappings, text, entries):
@@ -686,7 +685,7 @@ def _(size):
 
 
 # the map of each module gets all tokens
-@kind('modules that all stand on one line', 1_000, [Run(BENCH_BUNDLES, ['split', '1'], count=by_square)], 12)
+@kind('modules that all stand on one line', 1_000, [Run(BENCH, ['bundles', 'split', '1'], count=by_square)], 12)
 def _(size):
     return split_of([0] * size, 'AAAA,' + 'CAAC,' * size + 'C', b'x' * (2 * size) + b'\0', [(0, 2 * size)] * size)
 

@@ -2,7 +2,7 @@
 """Compares names of functions, lines of texts and slices of texts with those of a reference program, and with the
 rules as walks.py and hermes_maps.py state them.
 
-    bench/compare-functions.py REFERENCE MAPS [--questions N]
+    compare/functions.py REFERENCE MAPS [--questions N]
 
 REFERENCE    the folder bench/reference, which is then built, or a program over the Rust crate with the commands
              `names QUESTIONS [TEXT]` and `slices QUESTIONS TEXT`. QUESTIONS is a file with a list of lists, and each

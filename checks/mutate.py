@@ -4,16 +4,16 @@ inputs are maps, pairs of maps, RAM bundles, generated texts and lists of positi
 some are mutated. Each run with the same seed has the same inputs. Two more programs make the calls for which
 `sourcemap_tool` has no command: on maps, RAM bundles, generated texts, references, data URLs and paths.
 
-    bench/mutate.py [--runs N] [--seed N] [--jobs N] [--reference PROGRAM] [--only CASE]
+    checks/mutate.py [--runs N] [--seed N] [--jobs N] [--reference PROGRAM] [--only CASE]
 
 A case has the arguments of a program, its standard input, and the file that the arguments name. `rules.py` states the
 expected status and output of a command, and `calls.py` those of a call. A case fails if its run ends otherwise, or if
-it writes to standard error. There is one exception: if `sourcemap_bench_bundles` does not split a bundle, it writes the
+it writes to standard error. There is one exception: if `sourcemap_bench` does not split a bundle, it writes the
 error to standard error, and only its status is compared. The rules leave some cases open, and then require only that
 the status is 0 or 1. One reason is an output with too many lines for `rules.py`. Such a run may also print
 `out of memory` and end with status 1, because a run has 256 MB of memory.
 
-With --reference, each case of a command also runs on PROGRAM, a built program over the crate (`reference/`). The script
+With --reference, each case of a command also runs on PROGRAM, a built program over the crate (`bench/reference/`). The script
 compares no case of `trace`, which the reference does not have, and no run whose status is not 0 or 1. Each difference
 must have a reason among those of `docs/DIFFERENCES.md`. Without a reason it is printed as UNEXPLAINED, and the case
 fails.
@@ -25,12 +25,13 @@ separately for commands and calls. In its counts, `open` are the cases that the 
 
 A million cases take some minutes on four processors. For this speed, each program is started only once for each job and
 each number of arguments. A library forks it for each run; a C compiler (CC, or else cc) makes this library of
-`serving.c`. The script also needs Python 3.10. SOURCEMAP_TOOL, SOURCEMAP_BENCH_CALLS and SOURCEMAP_BENCH_BUNDLES name
-other programs than those in `crates`.
+`serving.c`. The script also needs Python 3.10. SOURCEMAP_TOOL, SOURCEMAP_BENCH and SOURCEMAP_BENCH_CALLS name other
+programs than those in `crates`.
 """
 import argparse, collections, json, multiprocessing, os, pathlib, random, shutil, struct, subprocess, sys, tempfile, time
+sys.path.insert(0, str(pathlib.Path(__file__).resolve().parent.parent / 'compare'))
 import calls, rules
-from comparing import BENCH_BUNDLES, BENCH_CALLS, TOOL, build_missing
+from comparing import BENCH, BENCH_CALLS, TOOL, build_missing
 from composing import DIGITS, Token, mappings_of
 from drawn_bundles import TEXTS as MODULES, bundle_bytes
 from drawn_references import drawn_text
@@ -275,7 +276,7 @@ def case_of(seed, at, path):
     chance = random.Random(f'{seed} {at} calls')
     if chance.random() < CALLS_SHARE:
         words, data = calls.draw_call(chance, MAPS)
-        return Case([*words], data, b'', BENCH_BUNDLES if words == calls.SPLIT else BENCH_CALLS)
+        return Case([*words], data, b'', BENCH if words == calls.SPLIT else BENCH_CALLS)
     chance = random.Random(f'{seed} {at}')
     words = words_of(chance, path)
     data = map_bytes(chance, words[0])
@@ -329,7 +330,7 @@ def contradiction(case, ended, want):
     status, output, errors = ended
     if status > 2:
         return f'status {status}'
-    if case.program == BENCH_BUNDLES and status == 1 and errors and not output:
+    if case.program == BENCH and status == 1 and errors and not output:
         # the kit words the error on standard error, so only the status is compared
         return None if want[0] == 1 else f'the rules say {want}'
     if errors:
@@ -487,7 +488,7 @@ def main():
     words.add_argument('--reference')
     words.add_argument('--only', type=int)
     given = words.parse_args()
-    build_missing([TOOL, BENCH_CALLS, BENCH_BUNDLES])
+    build_missing([TOOL, BENCH, BENCH_CALLS])
     with tempfile.TemporaryDirectory() as folder:
         library = library_in(folder)
         if given.only is not None:

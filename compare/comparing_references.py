@@ -1,4 +1,4 @@
-"""Shared by compare-references.py, compare-loading.py and compare-bundles.py: asks the library, the reference program
+"""Shared by located.py, loading.py and split.py: asks the library, the reference program
 and the rules the same questions, and finds reasons for differences. A reason must lead to the answer of the
 reference."""
 import collections, itertools, json, pathlib, sys, tempfile

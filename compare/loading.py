@@ -1,7 +1,7 @@
 #!/usr/bin/env python3
 """Compares contents that are loaded from files with those of a reference program, and with the rules.
 
-    bench/compare-loading.py REFERENCE [--cases N] [--seed N]
+    compare/loading.py REFERENCE [--cases N] [--seed N]
 
 REFERENCE    the folder bench/reference, which is then built, or a program over the Rust crate that has the command
              `references QUESTIONS`, as asking_references.py describes it

@@ -1,6 +1,6 @@
 """The rules of RAM bundles: which modules a bundle contains, and the texts and maps that it is split into. The code
 follows the rules of the format, and takes nothing from the programs that are compared. `ways` are known departures of
-the reference program from the rules, by the names that compare-bundles.py lists. A result departs from the rules in
+the reference program from the rules, by the names that split.py lists. A result departs from the rules in
 these ways only."""
 import os, re, struct
 from composing import tokens_of_record

@@ -1,7 +1,7 @@
 #!/usr/bin/env python3
 """Tests the rows of docs/DIFFERENCES.md: runs this repository's programs and the reference on the input of each row.
 
-    bench/try-differences.py REFERENCE
+    compare/differences.py REFERENCE
 
 REFERENCE    the folder bench/reference, which is then built, or a program over the Rust crate with these commands:
              `lookup`, `tokens`, `rewrite`, `stream rewrite`, `flatten`, `compose`, `shift`,

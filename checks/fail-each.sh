@@ -3,7 +3,7 @@
 # in turn: once this one alone, and once this one and all later ones. Also fails and interrupts each read
 # and each write in turn, and lets them move one byte or none.
 #
-#   bench/fail-each.sh [--build] [--millis N] [--jobs N] [CRATE ..]
+#   checks/fail-each.sh [--build] [--millis N] [--jobs N] [CRATE ..]
 #
 # Uses the tests and the program that `rt ci` has proved and built in the folder `out` of each crate. With
 # --build the script first proves and builds those that are missing. CRATE is a crate with tests, or
