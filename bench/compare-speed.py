@@ -393,7 +393,7 @@ def growth_table(programs, smallest, rounds):
             print(f'| most memory | {name} | {figure_text(figures[0][i])} MB | {growth} |', flush=True)
 
 
-def main():
+def arguments():
     words = argparse.ArgumentParser(usage=__doc__)
     words.add_argument('reference', nargs='?')
     words.add_argument('maps', nargs='*')
@@ -412,12 +412,17 @@ def main():
     words.add_argument('--what', default='the largest ratio of 4 real maps')
     words.add_argument('--note', default='figures given to bench/compare-speed.py')
     given = words.parse_args()
-    if given.figures and given.svg:
-        return draw(given.svg, given.figures, given.date, given.what, given.note)
-    if not given.reference or given.figures:
+    if given.figures and not given.svg or not given.figures and not given.reference:
         words.error('names no reference, or no file for the picture')
     if given.instructions and not shutil.which('valgrind'):
         words.error('--instructions needs valgrind')
+    return given
+
+
+def main():
+    given = arguments()
+    if given.figures:
+        return draw(given.svg, given.figures, given.date, given.what, given.note)
     build_missing([BENCH] if given.no_maps else [TOOL, BENCH])
     programs = Pair(reference_program(given.reference))
     with tempfile.TemporaryDirectory() as folder:

@@ -16,23 +16,21 @@ IMPORT = re.compile(r'(pub )?use ([\w.]+?)(?:\.\{(.*)\})?(?: as ([^\s]+))?$', re
 
 
 class Text(NamedTuple):
-    """A piece of a definition or of a clause: its place, its lines, and the modules and names in scope."""
+    """A piece of a file, and the number of its first line."""
     file: pathlib.Path
     line: int
     text: str
 
     def size(self):
+        """The number of lines that are not blank."""
         return sum(1 for line in self.text.splitlines() if line.strip())
 
 
 class Definition:
-    """A definition of a module of specs/."""
+    """A definition of a module of specs/: its declaration and its equations, and the constructors of a type."""
 
-    def __init__(self, module, name, kind, piece, constructors=()):
-        self.module, self.name, self.kind, self.piece, self.constructors = module, name, kind, piece, constructors
-
-    def key(self):
-        return self.module.path, self.name
+    def __init__(self, module, name, pieces, constructors):
+        self.module, self.name, self.pieces, self.constructors = module, name, pieces, constructors
 
 
 def without_comments(text, mark):
@@ -99,11 +97,11 @@ class Module:
         is_declared = kind or found[0].startswith(('abbrev', 'pub', 'unfoldable', 'opaque')) or chunk[0].startswith(f'{name} : ')
         if is_declared:
             constructors = re.findall(r'^  (?:pub )?(\S+) :', text, re.M) if kind == 'data' else []
-            self.definitions[name] = Definition(self, name, kind or 'value', [Text(self.file, at + 1, text)], constructors)
+            self.definitions[name] = Definition(self, name, [Text(self.file, at + 1, text)], constructors)
             self.last = name
         else:
             owner = self.definitions[name if name in self.definitions else self.last]
-            owner.piece.append(Text(self.file, at + 1, text))
+            owner.pieces.append(Text(self.file, at + 1, text))
 
 
 def spec_modules():

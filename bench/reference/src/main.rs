@@ -1,4 +1,4 @@
-//! The reference program of the scripts in bench/: runs their commands with the crate `sourcemap`.
+//! The reference program of the scripts: runs their commands with the crate `sourcemap`.
 
 mod bundles;
 mod draws;
