@@ -1,6 +1,6 @@
 use Rattle.std.proofs.Common.{◌∙◌, ap, add-one}
-use Rattle.sourcemap_bench_views.specs.Sums.{name_sum}
-use Rattle.sourcemap_bench_views.proofs.rounds.name_rounds.Goals as goal
+use Rattle.sourcemap_bench.specs.ViewSums.{name_sum}
+use Rattle.sourcemap_bench.proofs.view_rounds.name_rounds.Goals as goal
 
 pub loop-preserved : goal.loop-preserved
 loop-preserved c =

@@ -1,10 +1,10 @@
-//! Rounds of an operation and their checksums.
+//! Rounds of an operation on views of texts, and their checksums.
 ghost use Rattle.std.specs.Prelude.{◌≡◌, IfOk};
-ghost use Rattle.sourcemap_bench_views.specs.Sums.{line_sum, name_sum, rounds_sum};
+ghost use Rattle.sourcemap_bench.specs.ViewSums.{line_sum, name_sum, rounds_sum};
 
-use crate::command::Operation;
+use crate::command::ViewOperation;
 use crate::starts::walk_starts;
-use crate::sums::{line_sum, name_sum};
+use crate::view_sums::{line_sum, name_sum};
 use sourcemap::{Result, SourceMap, SourceView};
 use std::alloc::Global;
 use std::str;
@@ -48,11 +48,18 @@ fn guessed_rounds(alloc: Global, lines: &str, rounds: u32) -> Result<u32> {
     Ok(name_rounds(&map, &view, starts.as_slice(), rounds))
 }
 
-/// Repeats an operation and returns the checksum of all rounds.
-pub fn checksum(alloc: Global, operation: Operation, rounds: u32, bytes: &[u8]) -> Result<u32> {
+/// Repeats an operation and returns the checksum of all rounds. For `Lines`, `bytes` are the text.
+/// For `Names`, the first line of `bytes` is a source map, and all text after this line is the
+/// generated text.
+pub fn repeat_on_view(
+    alloc: Global,
+    operation: ViewOperation,
+    rounds: u32,
+    bytes: &[u8],
+) -> Result<u32> {
     let text = str::from_utf8(bytes)?;
     match operation {
-        Operation::Lines => line_rounds(alloc, text, rounds),
-        Operation::Names => guessed_rounds(alloc, text, rounds),
+        ViewOperation::Lines => line_rounds(alloc, text, rounds),
+        ViewOperation::Names => guessed_rounds(alloc, text, rounds),
     }
 }

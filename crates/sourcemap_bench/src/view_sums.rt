@@ -1,26 +1,15 @@
-//! Checksums of results.
+//! Checksums of lines of texts, and of guessed names.
 ghost use Rattle.std.specs.Prelude.{◌≡◌, fold};
 ghost use Rattle.std.specs.Option.{option_copied};
 ghost use Rattle.sourcemap.specs.TokenWalk.{function_name};
-ghost use Rattle.sourcemap_bench_views.specs.Sums.{absent_name, counted, line_sum, mixed, name_sum, name_worth};
+ghost use Rattle.sourcemap_bench.specs.Sums.{mixed};
+ghost use Rattle.sourcemap_bench.specs.ViewSums.{absent_name, line_sum, name_sum, name_worth};
 
+use crate::sums::{add_count, add_to_sum};
 use sourcemap::{SourceMap, SourceView};
 
 // No function of the timed texts has this name, so no walk ends early.
 const ABSENT_NAME: &str = "nameOfNoFunction";
-
-fn add_to_sum(sum: u32, number: u32) -> u32
-    ensures { result ≡ mixed sum number }
-{
-    ((31 * u64::from(sum) + u64::from(number)) % (1 << 32)) as u32
-}
-
-// Counts above 4294967295 are taken as 4294967295.
-fn add_count(sum: u32, count: usize) -> u32
-    ensures { result ≡ counted sum count }
-{
-    add_to_sum(sum, u32::try_from(count).unwrap_or(u32::MAX))
-}
 
 /// Adds the byte count of each line of a view to the checksum `start`, in order, and returns the
 /// new checksum. Lines after the first 4294967296 lines are ignored. Line terminators are not

@@ -1,16 +1,9 @@
--- 32-bit checksums of the results of the timed operations.
-use Rattle.std.specs.Prelude.{ℕ, suc, zero, ◌+◌, ◌*◌, ◌%◌, ◌^◌, List, codes, fold, length, min, take, Option, Some, None}
+-- Checksums of lines of texts, and of guessed names.
+use Rattle.std.specs.Prelude.{ℕ, suc, zero, ◌+◌, List, codes, fold, length, min, take, Option, Some, None}
 use Rattle.sourcemap.specs.Lines.{line_bodies}
 use Rattle.sourcemap.specs.TokenWalk.{function_name}
 use Rattle.sourcemap.specs.Types.{MapValue}
-
--- the new checksum after `number` is added to the checksum `sum`: 31 times `sum`, plus `number`, modulo 2^32
-abbrev pub mixed : ℕ → ℕ → ℕ
-mixed sum number = (31 * sum + number) % 2 ^ 32
-
--- the new checksum after `count` is added to the checksum `sum`. A count above 4294967295 is taken as 4294967295
-abbrev pub counted : ℕ → ℕ → ℕ
-counted sum count = mixed sum (min count 4294967295)
+use Rattle.sourcemap_bench.specs.Sums.{counted, mixed}
 
 -- the new checksum after the byte counts of `lines` are added to the checksum `sum`, in order. A byte count above
 -- 4294967295 is taken as 4294967295

@@ -1,6 +1,6 @@
 use Rattle.std.proofs.Common.{◌≡◌, take}
-use Rattle.sourcemap_bench_views.specs.Sums.{name_sum}
-use Rattle.sourcemap_bench_views.proofs.sums.name_sum.Given as goal
+use Rattle.sourcemap_bench.specs.ViewSums.{name_sum}
+use Rattle.sourcemap_bench.proofs.view_sums.name_sum.Given as goal
 
 abbrev pub invariant-loop-position : goal.invariant-loop-position
 invariant-loop-position l =

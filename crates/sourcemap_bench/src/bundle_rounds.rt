@@ -1,17 +1,12 @@
 //! Splits a bundle repeatedly, and makes a checksum of the modules.
 ghost use Rattle.std.specs.Prelude.{◌≡◌};
 ghost use Rattle.sourcemap_bundle_split.specs.Split.{parts_value};
-ghost use Rattle.sourcemap_bench_bundles.specs.Sums.{mixed, with_module};
+ghost use Rattle.sourcemap_bench.specs.BundleSums.{with_module};
 
+use crate::sums::{add_count, add_to_sum};
 use sourcemap::ram_bundle::{RamBundle, SplitRamBundleModuleIter, split_ram_bundle};
 use sourcemap::{Result, SourceMap, SourceMapIndex, SourceView};
 use std::alloc::Global;
-
-fn add_to_sum(sum: u32, number: u32) -> u32
-    ensures { result ≡ mixed sum number }
-{
-    ((31 * u64::from(sum) + u64::from(number)) % (1 << 32)) as u32
-}
 
 // Adds two numbers to the checksum `sum` and returns the new checksum. The first number is the byte
 // count of the module's text; a count above 4294967295 is taken as 4294967295. The second number is
@@ -20,8 +15,7 @@ fn with_module(sum: u32, parts: &(String, SourceView, SourceMap)) -> u32
     ensures { result ≡ with_module sum (parts_value parts.now) }
 {
     let (_, view, map) = parts;
-    let length = u32::try_from(view.source().len()).unwrap_or(u32::MAX);
-    add_to_sum(add_to_sum(sum, length), map.get_source_count())
+    add_to_sum(add_count(sum, view.source().len()), map.get_source_count())
 }
 
 // Adds all modules to a checksum, or returns the first error that the iterator yields.
@@ -59,7 +53,7 @@ fn split_rounds(
 
 /// Splits the bundle `rounds` times and returns the checksum. The index map is on the first line,
 /// and the bundle is after that line.
-pub fn checksum(alloc: Global, rounds: u32, bytes: &[u8]) -> Result<u32> {
+pub fn repeat_split(alloc: Global, rounds: u32, bytes: &[u8]) -> Result<u32> {
     let mut parts = bytes.splitn(2, |byte| *byte == b'\n');
     let index = SourceMapIndex::from_slice(alloc, parts.next().unwrap_or_default())?;
     let bundle = RamBundle::parse_indexed_from_slice(parts.next().unwrap_or_default())?;
