@@ -1,6 +1,6 @@
 //! RAM bundles: their headers, their modules, and the maps of these modules.
 
-pub use sourcemap_bundle_bytes::bundle::{
+pub use sourcemap_bundles::bundle::{
     ModuleEntry, RAM_BUNDLE_MAGIC, RamBundleHeader, byte_range,
 };
 pub use sourcemap_bundle_split::split::{SplitRamBundleModuleIter, split_ram_bundle};

@@ -1,6 +1,6 @@
 //! The header of an indexed bundle, the entries of its modules, and ranges of its bytes.
 ghost use Rattle.std.specs.Prelude.{◌≡◌, ◌↔◌, IsTrue};
-ghost use Rattle.sourcemap_bundle_bytes.specs.Bundle.{Returns, bundle_magic, entry_of, header_of, range_of};
+ghost use Rattle.sourcemap_bundles.specs.Bundle.{Returns, bundle_magic, entry_of, header_of, range_of};
 
 use byteorder::{ByteOrder, LittleEndian};
 use sourcemap_errors::errors::{Error, RangeFault, Result};

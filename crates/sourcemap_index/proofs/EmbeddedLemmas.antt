@@ -6,7 +6,7 @@ use Rattle.sourcemap_errors.specs.Answer.{UnlessMemory}
 use Rattle.sourcemap_errors.proofs.AnswerLemmas.{UnlessMemory-weaker}
 use Rattle.sourcemap_index.specs.Decode.{UrlDecodes}
 use Rattle.sourcemap_references.specs.Resolution.{is_data_url}
-use Rattle.sourcemap_embedding.specs.Embedded.{EmbeddedAnswer}
+use Rattle.sourcemap_index.specs.Embedded.{EmbeddedAnswer}
 
 where_true : (b : Bool) (P Q : Type 0) → b ≡ true → P → MatchBool b P Q
 where_true true P Q is p = p

@@ -7,7 +7,7 @@ use Rattle.sourcemap_errors.specs.declared.errors.JsonFault.TheVariants.{Parse}
 use Rattle.sourcemap_errors.specs.Answer.{UnlessMemory}
 use Rattle.sourcemap_headers.specs.Header.{after_header}
 use Rattle.sourcemap_records.specs.Bytes.{IsJson, IsHeaderError, HoldNoJson}
-use Rattle.sourcemap_detection.specs.Detection.{AreMap}
+use Rattle.sourcemap_records.specs.Detection.{AreMap}
 
 no_value : (found : Option (List ℕ)) (e : Error)
     → MatchOption found (IsHeaderError e) (λ text. ((d : Data) → ¬ IsJson text d) × (e ≡ BadJson Parse))
@@ -23,6 +23,8 @@ pub not_a_map : (bytes : List ℕ) (e : Error) → UnlessMemory e (HoldNoJson by
     → MatchResult result (λ is. (is ≡ false) × (e ≢ OutOfMemory)) (λ f. (f ≡ OutOfMemory) × (e ≡ OutOfMemory))
     → IfOk result (λ is. IsTrue is ↔ AreMap bytes)
 not_a_map bytes e why (Ok true) is = cc
-not_a_map bytes e why (Ok false) is =
-    (λ h. cc, λ are. absurd (no_value (after_header bytes) e (unless_memory e (HoldNoJson bytes e) is.1 why) are.0 are.1))
+not_a_map bytes e why (Ok false) is = (
+  λ h. cc,
+  λ are. absurd (no_value (after_header bytes) e (unless_memory e (HoldNoJson bytes e) is.1 why) are.0 are.1),
+)
 not_a_map bytes e why (Err f) is = tt

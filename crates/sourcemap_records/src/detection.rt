@@ -3,12 +3,12 @@
 ghost use Rattle.std.specs.Prelude.{◌≡◌, ◌≢◌, ◌↔◌, IsTrue, IfOk, IfSome, IsOkUnless, MatchResult, false};
 ghost use Rattle.serde_json.specs.View.{view};
 ghost use Rattle.sourcemap_errors.specs.declared.errors.Error.TheVariants.{OutOfMemory};
-ghost use Rattle.sourcemap_detection.specs.Detection.{AreMap, has_map_keys, is_map};
+ghost use Rattle.sourcemap_records.specs.Detection.{AreMap, has_map_keys, is_map};
 
+use crate::bytes::{read_all, read_json};
+use crate::jsontypes::MinimalRawSourceMap;
 use serde_json::Value;
 use sourcemap_errors::errors::{Error, Result};
-use sourcemap_records::bytes::{read_all, read_json};
-use sourcemap_records::jsontypes::MinimalRawSourceMap;
 use std::alloc::Global;
 use std::io::Read;
 

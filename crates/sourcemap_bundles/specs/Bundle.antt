@@ -4,8 +4,8 @@ use Rattle.byteorder.specs.Endian.{little_number}
 use Rattle.sourcemap_errors.specs.declared.errors.RangeFault.{RangeFault}
 use Rattle.sourcemap_errors.specs.declared.errors.Error.{Error}
 use Rattle.sourcemap_errors.specs.declared.errors.Error.TheVariants.{Scroll}
-use Rattle.sourcemap_bundle_bytes.specs.declared.bundle.ModuleEntry.{ModuleEntry}
-use Rattle.sourcemap_bundle_bytes.specs.declared.bundle.RamBundleHeader.{RamBundleHeader}
+use Rattle.sourcemap_bundles.specs.declared.bundle.ModuleEntry.{ModuleEntry}
+use Rattle.sourcemap_bundles.specs.declared.bundle.RamBundleHeader.{RamBundleHeader}
 
 -- the result of a call that allocates nothing agrees with `due`: both are the same error, or `view` maps the value of
 -- the result to the value of `due`

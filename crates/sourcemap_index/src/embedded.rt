@@ -3,11 +3,11 @@ ghost use Rattle.std.specs.Prelude.{ℕ, List, IfOk, IfSome, option_map};
 ghost use Rattle.sourcemap_errors.specs.Answer.{IsAnswer};
 ghost use Rattle.sourcemap_index.specs.Family.{map_tree};
 ghost use Rattle.sourcemap_index_model.specs.WellFormed.{IsWellFormed};
-ghost use Rattle.sourcemap_embedding.specs.Embedded.{EmbeddedAnswer};
+ghost use Rattle.sourcemap_index.specs.Embedded.{EmbeddedAnswer};
 
+use crate::decode::decode_data_url;
+use crate::family::DecodedMap;
 use sourcemap_errors::errors::Result;
-use sourcemap_index::decode::decode_data_url;
-use sourcemap_index::family::DecodedMap;
 use sourcemap_references::detector::SourceMapRef;
 use std::alloc::Global;
 
