@@ -189,6 +189,8 @@ class Tally:
 
     def add(self, about, way, calls, found, is_well):
         call, how, is_short = way
+        if call == 'allocation' and calls == 0:
+            self.add_unswept(about, 'no allocation was intercepted')
         self.left_out += max(calls - len(found) + 1, 0) if how not in ('nothing', 'each_interrupted') else 0
         for number, ending in sorted(found.items()):
             if is_well(number, ending):

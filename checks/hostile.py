@@ -236,6 +236,11 @@ def _(size):
                     'mappings': 'AAAA,' + 'CCAA,' * (size - 1) + 'C'})
 
 
+@kind('contents without sources, copied and printed', 100_000, COPIES, 110)
+def _(size):
+    return text_of({'version': 3, 'sources': [], 'sourcesContent': [''] * size, 'names': [], 'mappings': ''})
+
+
 @kind('doubled keys', 100_000, DECODES, 3)
 def _(size):
     return b'{"version":3,"sources":[],"mappings":"",' + b'"names":[],' * size + b'"names":[]}'
@@ -249,6 +254,12 @@ def _(size):
 @kind('objects in a key that nothing reads', 100_000, DECODES, 140)
 def _(size):
     return b'{"version":3,"sources":[],"names":[],"mappings":"","x":[' + b'{"":0},' * size + b'{"":0}]}'
+
+
+@kind('nested objects in a key that nothing reads', 1_000, DECODES, 180)
+def _(size):
+    nested = b'{"":' * 125 + b'0' + b'}' * 125
+    return b'{"version":3,"sources":[],"names":[],"mappings":"","x":[' + (nested + b',') * size + b'0]}'
 
 
 @kind('arrays in a key that nothing reads', 200_000, DECODES, 16)
@@ -357,6 +368,13 @@ def _(size):
     return text_of(map_with_root(size)) + b'\n' + b's' * size
 
 
+# all prefixes have a long common start with the one source
+@kind('prefixes times their length', 1_000, of_calls('strip'), 2, by_square)
+def _(size):
+    start = b'p' * size
+    return b' '.join(start + b'%d' % number for number in range(size)) + b'\n' + start + b'/\n'
+
+
 PREFIX = 'p' * 40
 
 
@@ -458,12 +476,28 @@ def _(size):
     return b'{"version":3,"sections":[' + b'{"offset":{"line":0,"column":0}},' * size + b'{"offset":{"line":0,"column":0}}]}'
 
 
-@kind('a large map in forty indexes', 100_000, INDEX, 24)
+@kind('sections with an empty map', 50_000, VALUES, 170)
 def _(size):
-    record = flat('CAAA,' * size + 'C').decode()
-    for _ in range(40):
+    section = b'{"offset":{"line":0,"column":0},"map":{"mappings":""}}'
+    return b'{"version":3,"sections":[' + (section + b',') * size + section + b']}'
+
+
+def within_indexes(tokens, depth):
+    record = flat('CAAA,' * tokens + 'C').decode()
+    for _ in range(depth):
         record = '{"version":3,"sections":[{"offset":{"line":0,"column":0},"map":' + record + '}]}'
     return record.encode()
+
+
+@kind('a large map in forty indexes', 100_000, INDEX, 24)
+def _(size):
+    return within_indexes(size, 40)
+
+
+# each index flattens the ones inside of it
+@kind('a map in ten to forty indexes', 10, of_bench('flatten 1') + of_calls('flatten-and-rewrite'), 24, lambda size, given, written: size * given)
+def _(size):
+    return within_indexes(50_000, size)
 
 
 def unresolved_index(size):
@@ -641,6 +675,11 @@ def _(size):
 @kind('a bundle whose entries lie', 100_000, of_calls('bundle'), 2)
 def _(size):
     return bundle(size, 0xFFFFFFFF, [(0xFFFFFFFF, 0xFFFFFFFF)] * size)
+
+
+@kind('a bundle whose count passes its table', 100_000, of_calls('bundle'), 2)
+def _(size):
+    return struct.pack('<III', 0xFB0BD1E5, 4 * size, 0) + struct.pack('<II', 0, 2) * size
 
 
 @kind('a bundle of nothing', 100_000, of_calls('bundle'), 2)

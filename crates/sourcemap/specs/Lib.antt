@@ -74,9 +74,9 @@ pub use Rattle.sourcemap_file_urls.specs.Urls
 pub use Rattle.sourcemap_references.specs.Reference
 pub use Rattle.sourcemap_references.specs.References
 pub use Rattle.sourcemap_references.specs.Resolution
-pub use Rattle.sourcemap_detection.specs.Detection
-pub use Rattle.sourcemap_embedding.specs.Embedded
-pub use Rattle.sourcemap_bundle_bytes.specs.Bundle
+pub use Rattle.sourcemap_records.specs.Detection
+pub use Rattle.sourcemap_index.specs.Embedded
+pub use Rattle.sourcemap_bundles.specs.Bundle
 pub use Rattle.sourcemap_bundles.specs.Folder as BundleFolder
 pub use Rattle.sourcemap_bundles.specs.Iterators as BundleIterators
 pub use Rattle.sourcemap_bundles.specs.Modules as BundleModules

@@ -6,7 +6,8 @@ pub use sourcemap_core::laws::{
     binary_digits_are_fewest, bits_are_determined, closest_tokens_stay,
     composed_tokens_stay_within, lines_make_their_text, mappings_determine_one_answer,
     moved_positions_answer_as_before, one_stable_order, reduced_answers_alike,
-    relative_paths_lead_to_their_targets, segments_are_determined, written_texts_are_determined,
+    relative_paths_lead_to_their_targets, segments_are_determined, unreserved_bytes_alone_are_kept,
+    written_texts_are_determined,
 };
 pub use sourcemap_headers::data_url::data_urls_have_one_answer;
 pub use sourcemap_hermes::encode::{

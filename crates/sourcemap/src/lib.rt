@@ -1,6 +1,5 @@
-//! A facade for source maps: reading, lookups, changes and writing. It has the items that most
-//! users call, under the names of the Rust crate `sourcemap`. Other crates define these items, and
-//! this crate re-exports them. Each defining crate has one subject. docs/MAP.md lists the crates.
+//! A facade of source maps, under the names of the Rust crate `sourcemap`; knows nothing of C and of
+//! command lines.
 #![tactic(auto)]
 
 pub mod decoder;

@@ -20,7 +20,8 @@ writer_failed bytes t e (inl never) = absurd never
 writer_failed bytes t e (inr io) = inr io
 
 -- if `bytes` do not decode, the decoding error satisfies `IsUnwritten`
-pub no_map : (bytes : List ℕ) (e : Error) → UnlessMemory e (BytesDecode bytes (Err e)) → UnlessMemory e (IsUnwritten bytes e)
+pub no_map : (bytes : List ℕ) (e : Error) → UnlessMemory e (BytesDecode bytes (Err e))
+    → UnlessMemory e (IsUnwritten bytes e)
 no_map bytes e h = unless_memory e (BytesDecode bytes (Err e)) (IsUnwritten bytes e) inl h
 
 pub text_written : {T : Type 0} (bytes : List ℕ) (t : MapTree) (r : Result T Error) (old new : Option (List ℕ))
@@ -33,4 +34,5 @@ pub text_unwritten : {T : Type 0} (bytes : List ℕ) (t : MapTree) (r : Result T
     → IfErr r (λ e. UnlessMemory e (RecordAnswer t (Err e) ⊎ IsIo e))
     → IfErr r (λ e. UnlessMemory e (IsUnwritten bytes e))
 text_unwritten bytes t (Ok _) h = tt
-text_unwritten bytes t (Err e) h = unless_memory e (RecordAnswer t (Err e) ⊎ IsIo e) (IsUnwritten bytes e) (writer_failed bytes t e) h
+text_unwritten bytes t (Err e) h =
+    unless_memory e (RecordAnswer t (Err e) ⊎ IsIo e) (IsUnwritten bytes e) (writer_failed bytes t e) h

@@ -1,5 +1,5 @@
 -- Checksums of results. They are numbers of 32 bits.
-use Rattle.std.specs.Prelude.{ℕ, ◌+◌, ◌*◌, ◌%◌, ◌^◌, ◌==◌, List, fold, Option, Some, None, if◌then◌else◌}
+use Rattle.std.specs.Prelude.{ℕ, ◌+◌, ◌*◌, ◌%◌, ◌^◌, ◌==◌, List, fold, min, Option, Some, None, if◌then◌else◌}
 use Rattle.sourcemap.specs.Token.{TokenValue, says, tokens_from}
 use Rattle.sourcemap.specs.Tokens.{no_id}
 use Rattle.sourcemap.specs.Trees.{MapTree, lookup}
@@ -8,6 +8,10 @@ use Rattle.sourcemap.specs.Types.{MapValue}
 -- the new checksum after `number` is added to the checksum `sum`
 abbrev pub mixed : ℕ → ℕ → ℕ
 mixed sum number = (31 * sum + number) % 2 ^ 32
+
+-- the new checksum after `count` is added to the checksum `sum`. A count above 4294967295 is taken as 4294967295
+abbrev pub counted : ℕ → ℕ → ℕ
+counted sum count = mixed sum (min count 4294967295)
 
 -- the number that a token adds to a checksum
 abbrev pub worth : Option TokenValue → ℕ

@@ -1,5 +1,5 @@
 -- The checksums of rounds of an operation.
-use Rattle.std.specs.Prelude.{◌≡◌, ℕ, suc, zero, List, length, min, Ok}
+use Rattle.std.specs.Prelude.{◌≡◌, ℕ, suc, zero, List, length, Ok}
 use Rattle.sourcemap.specs.Adjust.{adjusted}
 use Rattle.sourcemap.specs.Written.{IsEncoded}
 use Rattle.sourcemap.specs.AnyMap.{index_value, map_tree}
@@ -9,13 +9,9 @@ use Rattle.sourcemap.specs.Rewrite.{no_removal, rewritten}
 use Rattle.sourcemap.specs.TreeEncoder.{RecordAnswer}
 use Rattle.sourcemap.specs.Trees.{IsInOrder, MapTree, held, index, index_tree, leaf, section_list}
 use Rattle.sourcemap.specs.Types.{MapValue}
-use Rattle.sourcemap_bench.specs.Sums.{mixed, lookup_sum, token_sum}
+use Rattle.sourcemap_bench.specs.Sums.{counted, mixed, lookup_sum, token_sum}
 use Rattle.sourcemap_bench.specs.declared.work.Work.{Work}
 use Rattle.sourcemap_bench.specs.declared.work.Work.TheVariants.{Decode, DecodeReader, Lookup, Tokens, Encode, Rewrite, Flatten, Compose}
-
--- the new checksum after `count` is added to the checksum `sum`. A count above 4294967295 is taken as 4294967295
-abbrev pub counted : ℕ → ℕ → ℕ
-counted sum count = mixed sum (min count 4294967295)
 
 -- the number of top-level sections if the map is an index map, otherwise the number of tokens
 abbrev pub size : MapTree → ℕ

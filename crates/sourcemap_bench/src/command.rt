@@ -1,6 +1,6 @@
 //! The timed operations and their words.
-ghost use Rattle.std.specs.Prelude.{◌≡◌, ◌≢◌, ◌∷◌, [], List, ℕ, IfSome, IfNone, MatchOption, map, string_bytes};
-ghost use Rattle.sourcemap_bench.specs.Command.{word_of, AskFor};
+ghost use Rattle.std.specs.Prelude.{◌≡◌, ◌≢◌, ◌∷◌, [], List, ℕ, IfSome, IfNone, MatchOption, codes, map, string_bytes};
+ghost use Rattle.sourcemap_bench.specs.Command.{word_of, view_word_of, AskFor};
 
 /// An operation that is repeated.
 #[derive(Clone, Copy, Debug, PartialEq, Eq)]
@@ -23,11 +23,25 @@ pub enum Operation {
     Compose,
 }
 
+/// An operation on views of texts that is repeated.
+#[derive(Clone, Copy, Debug, PartialEq, Eq)]
+pub enum ViewOperation {
+    /// `lines`: makes a view of a text and iterates over its lines.
+    Lines,
+    /// `names`: walks back from the position of every 128th token, and searches for a name that no
+    /// function has.
+    Names,
+}
+
 /// The command of a run.
 #[derive(Clone, Copy, Debug, PartialEq, Eq)]
 pub enum Command {
     /// `OPERATION N`: repeats an operation N times.
     Repeat(Operation, u32),
+    /// `views OPERATION N`: repeats an operation on views of texts N times.
+    RepeatOnView(ViewOperation, u32),
+    /// `bundles split N`: splits an indexed RAM bundle N times.
+    Split(u32),
     /// `write`: writes the encoded map.
     Write,
 }
@@ -50,6 +64,18 @@ fn operation_of(word: &str) -> Option<Operation>
     }
 }
 
+fn view_operation_of(word: &str) -> Option<ViewOperation>
+    ensures { MatchOption result
+        ((operation : _) → word.now ≢ view_word_of operation)
+        (λ operation. word.now ≡ view_word_of operation) }
+{
+    match word {
+        "lines" => Some(ViewOperation::Lines),
+        "names" => Some(ViewOperation::Names),
+        _ => None,
+    }
+}
+
 fn parse_word(word: &str) -> Option<Command>
     ensures { IfSome result (AskFor (word.now ∷ [])) }
 {
@@ -67,14 +93,43 @@ fn parse_repeat(word: &str, rounds: &str) -> Option<Command>
     Some(Command::Repeat(operation, rounds))
 }
 
+fn parse_views(word: &str, rounds: &str) -> Option<Command>
+    ensures { IfSome result (AskFor (codes "views" ∷ word.now ∷ rounds.now ∷ [])) }
+{
+    let operation = view_operation_of(word)?;
+    let rounds = rounds.parse().ok()?;
+    Some(Command::RepeatOnView(operation, rounds))
+}
+
+fn parse_bundles(word: &str, rounds: &str) -> Option<Command>
+    ensures { IfSome result (AskFor (codes "bundles" ∷ word.now ∷ rounds.now ∷ [])) }
+{
+    match word {
+        "split" => Some(Command::Split(rounds.parse().ok()?)),
+        _ => None,
+    }
+}
+
+fn parse_group(group: &str, word: &str, rounds: &str) -> Option<Command>
+    ensures { IfSome result (AskFor (group.now ∷ word.now ∷ rounds.now ∷ [])) }
+{
+    match group {
+        "views" => parse_views(word, rounds),
+        "bundles" => parse_bundles(word, rounds),
+        _ => None,
+    }
+}
+
 /// Parses `write`, or an operation and a decimal number below 2^32. The number may start with `+`.
-/// Returns `None` for other words.
+/// An operation on views is two words, of which the first is `views`. The operation on bundles is
+/// `bundles split`. Returns `None` for other words.
 pub fn parse_words(words: &[String]) -> Option<Command>
     ensures { IfSome result (AskFor (map string_bytes words.now)) }
 {
     match words {
         [word] => parse_word(word.as_str()),
         [word, rounds] => parse_repeat(word.as_str(), rounds.as_str()),
+        [group, word, rounds] => parse_group(group.as_str(), word.as_str(), rounds.as_str()),
         _ => None,
     }
 }

@@ -3,7 +3,7 @@ ghost use Rattle.std.specs.Prelude.{◌≡◌, ℕ, fold, option_map};
 ghost use Rattle.sourcemap.specs.AnyMap.{map_tree};
 ghost use Rattle.sourcemap.specs.Token.{token_value};
 ghost use Rattle.sourcemap.specs.Trees.{IsInOrder, lookup};
-ghost use Rattle.sourcemap_bench.specs.Sums.{mixed, worth, lookup_sum, token_sum};
+ghost use Rattle.sourcemap_bench.specs.Sums.{counted, mixed, worth, lookup_sum, token_sum};
 
 use sourcemap::{DecodedMap, SourceMap, Token};
 
@@ -13,6 +13,13 @@ pub fn add_to_sum(sum: u32, number: u32) -> u32
     ensures { result ≡ mixed sum number }
 {
     ((31 * u64::from(sum) + u64::from(number)) % (1 << 32)) as u32
+}
+
+/// Adds a count to a checksum. A count above 4294967295 is taken as 4294967295.
+pub fn add_count(sum: u32, count: usize) -> u32
+    ensures { result ≡ counted sum count }
+{
+    add_to_sum(sum, u32::try_from(count).unwrap_or(u32::MAX))
 }
 
 /// Returns the number that a token adds to a checksum: `(line + 7 * column + 1) % 2^32`. The values

@@ -6,7 +6,7 @@ ghost use Rattle.sourcemap_bench.specs.Work.{LengthOfText, RoundGives, RoundsGiv
 
 use crate::command::Operation;
 use crate::draws::drawn_positions;
-use crate::sums::{add_to_sum, lookup_sum, token_sum};
+use crate::sums::{add_count, add_to_sum, lookup_sum, token_sum};
 use sourcemap::encoder::encode_to_vec;
 use sourcemap::{
     DecodedMap, Error, Result, RewriteOptions, SourceMap, SourceMapIndex, decode, decode_slice,
@@ -140,7 +140,7 @@ fn text_sum(alloc: Global, map: &DecodedMap, sum: u32) -> Result<u32>
     ensures { IfOk result (LengthOfText (map_tree map.now) sum) }
 {
     let text = encode_to_vec(alloc, map)?;
-    Ok(add_to_sum(sum, u32::try_from(text.len()).unwrap_or(u32::MAX)))
+    Ok(add_count(sum, text.len()))
 }
 
 fn flat_sum(index: &SourceMapIndex, sum: u32) -> Result<u32>

@@ -1,5 +1,6 @@
 -- A builder of maps: sources and names are interned, and a source may be replaced later.
-use Rattle.std.specs.Prelude.{ℕ, ◌<◌, ◌≢◌, ◌⊎◌, IsSome, length, Bool, cond, is_some, List, [], ◌∷◌, ◌++◌, Option, Some, None, unwrap_or, Result, Ok, Err}
+use Rattle.std.specs.Prelude.{ℕ, ◌<◌, ◌≢◌, ◌⊎◌, IsSome, length, Bool, cond, is_some, List, [], ◌∷◌, ◌++◌, Option, Some}
+use Rattle.std.specs.Prelude.{None, unwrap_or, Result, Ok, Err}
 use Rattle.sourcemap_errors.specs.declared.errors.Error.{Error}
 use Rattle.sourcemap_tokens.specs.declared.tokens.RawToken.{RawToken}
 use Rattle.sourcemap_tokens.specs.Tokens.{in_order, no_id}

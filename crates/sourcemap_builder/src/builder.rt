@@ -1,5 +1,7 @@
 //! Builds a map token by token.
-ghost use Rattle.std.specs.Prelude.{◌≡◌, ◌≤◌, ◌<◌, ◌⊎◌, ℕ, [], ◌∷◌, ◌++◌, Ok, length, slice_get, slice_set, map, List, Option, option_map, string_bytes, unwrap_or, vec_len, None, IsSome, IsSomeAnd, IfErr, IfOk, IsOkUnless, OnOk, OnErr, is_some};
+ghost use Rattle.std.specs.Prelude.{◌≡◌, ◌≤◌, ◌<◌, ◌⊎◌, ℕ, [], ◌∷◌, ◌++◌, Ok, length, slice_get, slice_set, map, List};
+ghost use Rattle.std.specs.Prelude.{Option, option_map, string_bytes, unwrap_or, vec_len, None, IsSome, IsSomeAnd};
+ghost use Rattle.std.specs.Prelude.{IfErr, IfOk, IsOkUnless, OnOk, OnErr, is_some};
 ghost use Rattle.std.specs.Option.{option_copied};
 ghost use Rattle.sourcemap_errors.specs.Answer.{Gives, Changes};
 ghost use Rattle.sourcemap_interning.specs.Interner.{id_for};
@@ -81,7 +83,9 @@ impl Drop for SourceMapBuilder {
 impl SourceMapBuilder {
     ghost use Rattle.std.specs.BTreeSet.{insert_key};
     ghost use Rattle.std.specs.Ordering.{nat_cmp};
-    ghost use Rattle.sourcemap_builder.specs.Builder.{empty_builder, with_source, with_name, with_source_if, with_name_if, with_texts, with_token, token_without_ids, token_with_ids, built, IsOptionalId, HasSource, Loads};
+    ghost use Rattle.sourcemap_builder.specs.Builder.{empty_builder, with_source, with_name, with_source_if};
+    ghost use Rattle.sourcemap_builder.specs.Builder.{with_name_if, with_texts, with_token, token_without_ids};
+    ghost use Rattle.sourcemap_builder.specs.Builder.{token_with_ids, built, IsOptionalId, HasSource, Loads};
 
     /// An empty builder with the name of the generated file. The only error is `OutOfMemory`.
     pub fn new(alloc: Global, file: Option<&str>) -> Result<Self>

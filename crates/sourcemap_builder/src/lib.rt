@@ -1,4 +1,4 @@
-//! Building a source map, token by token.
+//! Builds a regular map, token by token; knows nothing of the JSON form of maps.
 #![tactic(auto)]
 
 pub mod builder;

@@ -7,4 +7,3 @@ pub mod MovedLemmas
 pub mod NumberLemmas
 pub mod SplitLemmas
 pub mod TableLemmas
-pub mod TextsLemmas

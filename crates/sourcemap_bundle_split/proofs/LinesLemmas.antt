@@ -1,6 +1,7 @@
 -- Two searches find the tokens in a module's text. The first search drops the tokens before the start of the text. From
 -- the rest, the second search keeps the tokens before the end of the text.
-use Rattle.std.proofs.Common.{◌≡◌, ◌∙◌, refl, sym, ap, subst, ℕ, zero, suc, ◌+◌, ◌-◌, ◌<◌, ◌≤◌, List, [], ◌∷◌, length, get_or, take, drop, map, filter, All, Bool, true, false, cond, not, ◌&&◌, ltb, arith}
+use Rattle.std.proofs.Common.{◌≡◌, ◌∙◌, refl, sym, ap, subst, ℕ, zero, suc, ◌+◌, ◌-◌, ◌<◌, ◌≤◌, List, [], ◌∷◌, length}
+use Rattle.std.proofs.Common.{get_or, take, drop, map, filter, All, Bool, true, false, cond, not, ◌&&◌, ltb, arith}
 use Rattle.std.specs.List.{AllByRecursion}
 use Rattle.std.specs.List.Sorted.{IsPartitionPoint, IsPartitionedBy}
 use Rattle.std.specs.Ordering.{is_lt, ordering_index, ordering_then, nat_cmp}
@@ -17,28 +18,37 @@ use Rattle.sourcemap_bundle_split.proofs.LoweredLemmas.{cmp-relative_position, n
 
 -- Lists in which the items that pass a test come first.
 
-point_parts : {X : Type 0} (p : X → Bool) (xs : List X) (i : ℕ) → i ≤ length xs → IsPartitionPoint (λ y. p y ≡ true) (λ y. p y ≡ false) xs i
+point_parts : {X : Type 0} (p : X → Bool) (xs : List X) (i : ℕ) → i ≤ length xs
+    → IsPartitionPoint (λ y. p y ≡ true) (λ y. p y ≡ false) xs i
     → (take i xs ≡ filter p xs) × (drop i xs ≡ filter (λ x. not (p x)) xs)
 point_parts p [] zero bound point = (refl, refl)
 point_parts p [] (suc i) bound point = absurd (omega arith)
 point_parts p (x ∷ xs) zero bound point =
     let fails : p x ≡ false = point.1 0 x (omega arith) (omega arith) in
-    let rest = point_parts p xs 0 (omega arith) ((λ k d l m. absurd (omega arith)), (λ k d l m. point.1 (suc k) d (omega arith) (omega arith))) in
+    let rest = point_parts p xs 0 (omega arith) (
+      (λ k d l m. absurd (omega arith)),
+      (λ k d l m. point.1 (suc k) d (omega arith) (omega arith)),
+    ) in
     ((rw fails rest.0), (rw fails (ap (λ ys. x ∷ ys) rest.1)))
 point_parts p (x ∷ xs) (suc i) bound point =
     let passes : p x ≡ true = point.0 0 x (omega arith) (omega arith) in
-    let rest = point_parts p xs i (omega arith) ((λ k d l m. point.0 (suc k) d (omega arith) (omega arith)), (λ k d l m. point.1 (suc k) d (omega arith) (omega arith))) in
+    let rest = point_parts p xs i (omega arith) (
+      (λ k d l m. point.0 (suc k) d (omega arith) (omega arith)),
+      (λ k d l m. point.1 (suc k) d (omega arith) (omega arith)),
+    ) in
     ((rw passes (ap (λ ys. x ∷ ys) rest.0)), (rw passes rest.1))
 
 abbrev pub stands_before : ℕ × ℕ → RawToken → Bool
 stands_before b t = is_lt (position_cmp (destination t) b)
 
 pub before_first : (tokens : List RawToken) (b : ℕ × ℕ) (i : ℕ) → i ≤ length tokens
-    → IsPartitionPoint (λ t. stands_before b t ≡ true) (λ t. stands_before b t ≡ false) tokens i → take i tokens ≡ filter (stands_before b) tokens
+    → IsPartitionPoint (λ t. stands_before b t ≡ true) (λ t. stands_before b t ≡ false) tokens i
+    → take i tokens ≡ filter (stands_before b) tokens
 before_first tokens b i bound point = (point_parts (stands_before b) tokens i bound point).0
 
 pub not_before_later : (tokens : List RawToken) (b : ℕ × ℕ) (i : ℕ) → i ≤ length tokens
-    → IsPartitionPoint (λ t. stands_before b t ≡ true) (λ t. stands_before b t ≡ false) tokens i → drop i tokens ≡ filter (λ t. not (stands_before b t)) tokens
+    → IsPartitionPoint (λ t. stands_before b t ≡ true) (λ t. stands_before b t ≡ false) tokens i
+    → drop i tokens ≡ filter (λ t. not (stands_before b t)) tokens
 not_before_later tokens b i bound point = (point_parts (stands_before b) tokens i bound point).1
 
 rank_less : (o : Ordering) → is_lt o ≡ ltb (ordering_index o) 1
@@ -70,7 +80,8 @@ filter-both {X} p q (x ∷ xs) = by_cases (p x) (q x) refl refl (filter-both p q
 -- If tokens are in order, the tokens that a filter keeps are in order too. If tokens are in order, and all of them are
 -- on `line` or on later lines, they stay in order when `moved_by` counts their lines from `line`.
 
-all-filter : {X : Type 0} (P : X → Type 0) (p : X → Bool) (xs : List X) → AllByRecursion P xs → AllByRecursion P (filter p xs)
+all-filter : {X : Type 0} (P : X → Type 0) (p : X → Bool) (xs : List X) → AllByRecursion P xs
+    → AllByRecursion P (filter p xs)
 all-filter P p [] all = tt
 all-filter {X} P p (x ∷ xs) all = by_cases (p x) refl (all-filter P p xs all.1)
   where
@@ -94,9 +105,11 @@ rising tokens up = Rises-from_sorted stands_less (ranks_by position_cmp_total de
 
 less-moved : (line : ℕ) (sources names : List ℕ) (a b : RawToken) → line ≤ a.dst_line → line ≤ b.dst_line
     → stands_less (moved_by line sources names a) (moved_by line sources names b) ≡ stands_less a b
-less-moved line sources names a b la lb = ap (λ o. is_lt (ordering_then o (nat_cmp a.dst_col b.dst_col))) (cmp-relative_position a.dst_line b.dst_line line la lb)
+less-moved line sources names a b la lb = ap (λ o. is_lt
+    (ordering_then o (nat_cmp a.dst_col b.dst_col))) (cmp-relative_position a.dst_line b.dst_line line la lb)
 
-all-moved : (line : ℕ) (sources names : List ℕ) (x : RawToken) (xs : List RawToken) → line ≤ x.dst_line → All (λ t. line ≤ t.dst_line) xs
+all-moved : (line : ℕ) (sources names : List ℕ) (x : RawToken) (xs : List RawToken) → line ≤ x.dst_line
+    → All (λ t. line ≤ t.dst_line) xs
     → AllByRecursion (λ y. stands_less y x ≡ false) xs
     → AllByRecursion (λ y. stands_less y (moved_by line sources names x) ≡ false) (map (moved_by line sources names) xs)
 all-moved line sources names x [] lx later all = tt
@@ -105,21 +118,26 @@ all-moved line sources names x (y ∷ ys) lx later all = (
   all-moved line sources names x ys lx (All-tail (λ (t : RawToken). line ≤ t.dst_line) y ys later) all.1,
 )
 
-rises-moved : (line : ℕ) (sources names : List ℕ) (xs : List RawToken) → All (λ t. line ≤ t.dst_line) xs → Rises stands_less xs
+rises-moved : (line : ℕ) (sources names : List ℕ) (xs : List RawToken) → All (λ t. line ≤ t.dst_line) xs
+    → Rises stands_less xs
     → Rises stands_less (map (moved_by line sources names) xs)
 rises-moved line sources names [] later up = tt
 rises-moved line sources names (x ∷ xs) later up = (
-  all-moved line sources names x xs (All-head (λ (t : RawToken). line ≤ t.dst_line) x xs later) (All-tail (λ (t : RawToken). line ≤ t.dst_line) x xs later) up.0,
+  all-moved line sources names x xs (All-head (λ (t : RawToken). line ≤ t.dst_line) x xs later)
+      (All-tail (λ (t : RawToken). line ≤ t.dst_line) x xs later) up.0,
   rises-moved line sources names xs (All-tail (λ (t : RawToken). line ≤ t.dst_line) x xs later) up.1,
 )
 
-pub in_order-moved : (line : ℕ) (sources names : List ℕ) (tokens : List RawToken) → All (λ t. line ≤ t.dst_line) tokens → AreInOrder tokens
+pub in_order-moved : (line : ℕ) (sources names : List ℕ) (tokens : List RawToken) → All (λ t. line ≤ t.dst_line) tokens
+    → AreInOrder tokens
     → AreInOrder (map (moved_by line sources names) tokens)
 in_order-moved line sources names tokens later up =
-    sorted_from_Rises stands_less (map (moved_by line sources names) tokens) (rises-moved line sources names tokens later (rising tokens up))
+    sorted_from_Rises stands_less (map (moved_by line sources names) tokens)
+    (rises-moved line sources names tokens later (rising tokens up))
 
 -- the tokens that are not before the start of `line` are on `line` or on a later line
-pub later-from : (line : ℕ) (tokens : List RawToken) → All (λ t. line ≤ t.dst_line) (filter (λ t. not (stands_before (line, 0) t)) tokens)
+pub later-from : (line : ℕ) (tokens : List RawToken)
+    → All (λ t. line ≤ t.dst_line) (filter (λ t. not (stands_before (line, 0) t)) tokens)
 later-from line tokens =
     All-weaker (λ (t : RawToken). not (stands_before (line, 0) t) ≡ true) (λ (t : RawToken). line ≤ t.dst_line)
     (λ t passes. not_before-line line (destination t) passes) (filter (λ t. not (stands_before (line, 0) t)) tokens)

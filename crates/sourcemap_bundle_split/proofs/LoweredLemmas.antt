@@ -20,7 +20,8 @@ pub same-relative_position : (a b line : ℕ) → line ≤ a → line ≤ b → 
 same-relative_position a b line la lb = grind (arith, nat_tests)
 
 pub cmp-relative_position : (a b line : ℕ) → line ≤ a → line ≤ b → nat_cmp (a - line) (b - line) ≡ nat_cmp a b
-cmp-relative_position a b line la lb = rw (less-relative_position a b line la lb, same-relative_position a b line la lb) refl
+cmp-relative_position a b line la lb =
+    rw (less-relative_position a b line la lb, same-relative_position a b line la lb) refl
 
 -- a position that is not before the start of `line` is on `line` or on a later line
 pub not_before-line : (line : ℕ) (p : ℕ × ℕ) → not (is_lt (position_cmp p (line, 0))) ≡ true → line ≤ p.0

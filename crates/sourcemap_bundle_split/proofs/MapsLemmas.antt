@@ -5,9 +5,11 @@ use Rattle.sourcemap_tokens.specs.declared.tokens.RawToken.{RawToken}
 use Rattle.sourcemap_map_regular.specs.Lists.{AreListsOf}
 use Rattle.sourcemap_map_regular.specs.Map.{MapValue}
 use Rattle.sourcemap_map_regular.specs.declared.lists.MapLists.{MapLists}
-use Rattle.sourcemap_bundle_split.specs.ModuleMap.{module_map, moved_by, names_in, sources_in, texts_at, tokens_in, used_ids}
+use Rattle.sourcemap_bundle_split.specs.ModuleMap.{module_map, moved_by, names_in, sources_in, texts_at, tokens_in}
+use Rattle.sourcemap_bundle_split.specs.ModuleMap.{used_ids}
 
-module _ (flat : MapValue) (lists : MapLists) (name : List ℕ) (line : ℕ) (end : ℕ × ℕ) (own tokens : List RawToken) (sources names : List ℕ)
+module _ (flat : MapValue) (lists : MapLists) (name : List ℕ) (line : ℕ) (end : ℕ × ℕ) (own tokens : List RawToken)
+    (sources names : List ℕ)
     (are : AreListsOf flat lists) (own_is : own ≡ tokens_in line end lists.tokens.now)
     (sources_are : sources ≡ used_ids (length flat.sources) (map (λ (t : RawToken). t.src_id) own))
     (names_are : names ≡ used_ids (length flat.names) (map (λ (t : RawToken). t.name_id) own))
@@ -38,5 +40,6 @@ module _ (flat : MapValue) (lists : MapLists) (name : List ℕ) (line : ℕ) (en
       ap (λ ts. map_with ts sources names) tokens_are
       ∙ ap (λ ts. map_with (map (moved_by line sources names) ts) sources names) same_own
       ∙ ap (λ ids. map_with (map (moved_by line ids names) (tokens_in line end flat.tokens)) ids names) same_sources
-      ∙ ap (λ ids. map_with (map (moved_by line (sources_in flat line end) ids) (tokens_in line end flat.tokens)) (sources_in flat line end) ids) same_names
+      ∙ ap (λ ids. map_with (map (moved_by line (sources_in flat line end) ids) (tokens_in line end flat.tokens))
+      (sources_in flat line end) ids) same_names
       ∙ (rw (are.names, are.sources, are.contents) refl)

@@ -1,6 +1,7 @@
 -- Split bundles, and the items that their iterators return. An item is the name, the text and the map of a module, or
 -- an error.
-use Rattle.std.specs.Prelude.{◌≡◌, ◌≤◌, ℕ, ◌&&◌, if◌then◌else◌, List, [], ◌∷◌, ◌++◌, codes, length, map, filter_map, slice_get, Option, Some, None, is_some, MatchOption, Result, Ok, Err, string_bytes}
+use Rattle.std.specs.Prelude.{◌≡◌, ◌≤◌, ℕ, ◌&&◌, if◌then◌else◌, List, [], ◌∷◌, ◌++◌, codes, length, map, filter_map}
+use Rattle.std.specs.Prelude.{slice_get, Option, Some, None, is_some, MatchOption, Result, Ok, Err, string_bytes}
 use Rattle.std.specs.Fmt.{decimal}
 use Rattle.std.specs.Str.{is_utf8}
 use Rattle.std.specs.declared.alloc.Global.{Global}
@@ -77,7 +78,8 @@ dues_in split = dues_of split.flat split.offsets split.modules
 
 -- the split bundle with this flat map, these modules and this list of first lines; the error `NotARamBundle` if the
 -- list is `None`
-abbrev pub with_offsets : MapValue → List (Result ModuleValue Error) → Option (List (Option ℕ)) → Result SplitValue Error
+abbrev pub with_offsets : MapValue → List (Result ModuleValue Error) → Option (List (Option ℕ))
+    → Result SplitValue Error
 with_offsets flat modules None = Err NotARamBundle
 with_offsets flat modules (Some offsets) = Ok (record { flat = flat; offsets = offsets; modules = modules })
 
@@ -95,6 +97,8 @@ pub record HasFewTexts (flat : MapValue) : Type 0 where
 -- A call of `next` changes an iterator from `s` to `t`. `rest` lists the items that an iterator has still to return.
 -- The call returns the first item of `rest s`, or the error `OutOfMemory` instead of this item. In both cases `rest t`
 -- has the other items of `rest s`. If `rest s` is empty, the call returns `None`, and `rest t` is empty
-abbrev pub YieldsDue : {S A B : Type 0} → (A → B) → (S → List (Result B Error)) → S → Option (Result A Error) → S → Type 0
+abbrev pub YieldsDue : {S A B : Type 0} → (A → B) → (S → List (Result B Error)) → S → Option (Result A Error)
+    → S → Type 0
 YieldsDue {B = B} view rest s item t =
-    MatchOption item ((rest s ≡ []) × (rest t ≡ [])) (λ r. (due : Result B Error) × (rest s ≡ due ∷ rest t) × Gives view r due)
+    MatchOption item ((rest s ≡ []) × (rest t ≡ [])) (λ r. (due : Result B Error) × (rest s ≡ due ∷ rest t)
+    × Gives view r due)

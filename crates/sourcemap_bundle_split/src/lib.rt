@@ -1,5 +1,5 @@
-//! Splits bundles: gives the name and the text of each module, and a map with the tokens that the
-//! flat map of the whole bundle has in the module's text.
+//! Splits a bundle into its modules, with the text and the map of each; knows nothing of the JSON
+//! form of maps.
 #![tactic(auto)]
 
 mod id_numbers;

@@ -1,5 +1,6 @@
 //! Maps of modules, made from the flat map of a bundle.
-ghost use Rattle.std.specs.Prelude.{◌≡◌, ◌<◌, ◌≤◌, All, None, Ok, Some, IfOk, OnOk, IsOkUnless, [], is_some, length, map, string_bytes};
+ghost use Rattle.std.specs.Prelude.{◌≡◌, ◌<◌, ◌≤◌, All, None, Ok, Some, IfOk, OnOk, IsOkUnless, [], is_some, length};
+ghost use Rattle.std.specs.Prelude.{map, string_bytes};
 ghost use Rattle.sourcemap_errors.specs.Answer.{Gives};
 ghost use Rattle.sourcemap_errors.specs.declared.errors.Error.TheVariants.{OutOfMemory};
 ghost use Rattle.sourcemap_tokens.specs.Items.{item_at};

@@ -6,7 +6,8 @@ ghost use Rattle.sourcemap_bundles.specs.Iterators.{modules_left};
 ghost use Rattle.sourcemap_bundles.specs.Modules.{bundle_count, modules_of};
 ghost use Rattle.sourcemap_bundles.specs.Stored.{module_value};
 ghost use Rattle.sourcemap_index.specs.Family.{index_value};
-ghost use Rattle.sourcemap_bundle_split.specs.Iterators.{dues_left, modules_and_lines_left, module_and_line, split_value};
+ghost use Rattle.sourcemap_bundle_split.specs.Iterators.{dues_left, modules_and_lines_left, module_and_line};
+ghost use Rattle.sourcemap_bundle_split.specs.Iterators.{split_value};
 ghost use Rattle.sourcemap_bundle_split.specs.Split.{HasFewTexts, Splits, parts_at, parts_value, utf8_text};
 
 use crate::module_maps::ModuleMaps;

@@ -1,6 +1,6 @@
 // Indexed bundles that were made by hand.
 use crate::texts::{bundle_text, bytes_text, module_text, parsed_text};
-use sourcemap_bundle_bytes::bundle::{ModuleEntry, RAM_BUNDLE_MAGIC, RamBundleHeader, byte_range};
+use sourcemap_bundles::bundle::{ModuleEntry, RAM_BUNDLE_MAGIC, RamBundleHeader, byte_range};
 use sourcemap_bundles::ram_bundle::{RamBundle, RamBundleType, is_ram_bundle_slice};
 use sourcemap_errors::errors::Result;
 use sourcemap_test_support::check;

@@ -34,18 +34,23 @@ same_entries (p ∷ m) (q ∷ n) h =
 -- `match_ordering` selects one of three lists of stored entries. It makes no difference whether `numbered_file_value`
 -- converts the entries before or after this selection
 match_ordering-map : (o : Ordering) (a b c : List (ℕ × Vec ℕ Global))
-    → map numbered_file_value (match_ordering o a b c) ≡ match_ordering o (map numbered_file_value a) (map numbered_file_value b) (map numbered_file_value c)
+    → map numbered_file_value (match_ordering o a b c)
+    ≡ match_ordering o (map numbered_file_value a) (map numbered_file_value b) (map numbered_file_value c)
 match_ordering-map Less a b c = refl
 match_ordering-map Equal a b c = refl
 match_ordering-map Greater a b c = refl
 
 pub entries_insert : (entries : List (ℕ × Vec ℕ Global)) (id : ℕ) (text : Vec ℕ Global)
-    → map numbered_file_value (insert_entry nat_cmp entries id text) ≡ insert_entry nat_cmp (map numbered_file_value entries) id text.items
+    → map numbered_file_value (insert_entry nat_cmp entries id text)
+    ≡ insert_entry nat_cmp (map numbered_file_value entries) id text.items
 entries_insert [] id text = refl
 entries_insert (e ∷ entries) id text =
-    match_ordering-map (nat_cmp id e.0) ((id, text) ∷ e ∷ entries) ((e.0, text) ∷ entries) (e ∷ insert_entry nat_cmp entries id text)
-    ∙ ap (λ rest. match_ordering (nat_cmp id e.0) ((id, text.items) ∷ numbered_file_value e ∷ map numbered_file_value entries)
-    ((e.0, text.items) ∷ map numbered_file_value entries) (numbered_file_value e ∷ rest)) (entries_insert entries id text)
+    match_ordering-map (nat_cmp id e.0) ((id, text) ∷ e ∷ entries) ((e.0, text) ∷ entries)
+    (e ∷ insert_entry nat_cmp entries id text)
+    ∙ ap (λ rest.
+    match_ordering (nat_cmp id e.0) ((id, text.items) ∷ numbered_file_value e ∷ map numbered_file_value entries)
+    ((e.0, text.items) ∷ map numbered_file_value entries) (numbered_file_value e ∷ rest))
+    (entries_insert entries id text)
 
 are_numbered-push : (names : List (List ℕ)) (found : List (ℕ × List ℕ)) (name : List ℕ) (id : ℕ) (text : List ℕ)
     → AreNumbered names found → IsNumbered name id → AreNumbered (names ++ name ∷ []) (found ++ (id, text) ∷ [])
@@ -54,8 +59,10 @@ are_numbered-push [] (f ∷ found) name id text h n = absurd h
 are_numbered-push (x ∷ names) [] name id text h n = absurd h
 are_numbered-push (x ∷ names) (f ∷ found) name id text h n = (h.0, are_numbered-push names found name id text h.1 n)
 
-IsReadBy-push : (names : List (List ℕ)) (startup : List ℕ) (folder : FilesValue) (name : List ℕ) (id : ℕ) (text : List ℕ)
-    → IsReadBy names startup folder → IsNumbered name id → IsReadBy (names ++ name ∷ []) startup (with_file folder (id, text))
+IsReadBy-push : (names : List (List ℕ)) (startup : List ℕ) (folder : FilesValue) (name : List ℕ) (id : ℕ)
+    (text : List ℕ)
+    → IsReadBy names startup folder → IsNumbered name id
+    → IsReadBy (names ++ name ∷ []) startup (with_file folder (id, text))
 IsReadBy-push names startup folder name id text (found, numbered, read) n = (
   found ++ (id, text) ∷ [],
   are_numbered-push names found name id text numbered n,
@@ -78,10 +85,12 @@ found_by_number (e ∷ entries) test =
 
 -- if `folder` was read from the files of the first `i` names, and a file of the next name is added, the result
 -- `folder'` was read from the files of the first `i + 1` names
-pub IsReadBy-more : (names : List (String Global)) (i : ℕ) (item : String Global) (name startup : List ℕ) (id : ℕ) (text : List ℕ)
+pub IsReadBy-more : (names : List (String Global)) (i : ℕ) (item : String Global) (name startup : List ℕ) (id : ℕ)
+    (text : List ℕ)
     (folder folder' : FilesValue) → i < length names → item ≡ get_or names i item → name ≡ string_bytes item
     → folder' ≡ with_file folder (id, text) → IsNumbered name id
-    → IsReadBy (map string_bytes (take i names)) startup folder → IsReadBy (map string_bytes (take (i + 1) names)) startup folder'
+    → IsReadBy (map string_bytes (take i names)) startup folder
+    → IsReadBy (map string_bytes (take (i + 1) names)) startup folder'
 IsReadBy-more names i item name startup id text folder folder' below is same added numbered before =
     let first : List (List ℕ) = map string_bytes (take i names) in
     let more : take (i + 1) names ≡ take i names ++ item ∷ [] =
@@ -90,24 +99,28 @@ IsReadBy-more names i item name startup id text folder folder' below is same add
     ap (map string_bytes) more ∙ map-append string_bytes (take i names) (item ∷ []) in
     subst (λ ns. IsReadBy ns startup folder') (sym names_more)
     (subst (λ f. IsReadBy (first ++ string_bytes item ∷ []) startup f) (sym added)
-    (IsReadBy-push first startup folder (string_bytes item) id text before (subst (λ n. IsNumbered n id) same numbered)))
+    (IsReadBy-push first startup folder (string_bytes item) id text before
+    (subst (λ n. IsNumbered n id) same numbered)))
 
 not_gt_from_le : (a b : ℕ) → a ≤ b → is_gt (nat_cmp a b) ≡ false
 not_gt_from_le a b le =
-    by_ranked (a < b) (a ≡ b) (b < a) (nat_cmp a b) (ranked a b _ refl) (λ e _. ap is_gt e) (λ e _. ap is_gt e) (λ _ l. absurd (omega (arith, le, l)))
+    by_ranked (a < b) (a ≡ b) (b < a) (nat_cmp a b) (ranked a b _ refl) (λ e _. ap is_gt e) (λ e _. ap is_gt e)
+    (λ _ l. absurd (omega (arith, le, l)))
 
 none_below : (found : Option (Vec ℕ Global)) (a b : ℕ) → a < b → (IsSome found → b ≤ a) → found ≡ None
 none_below None a b below least = refl
 none_below (Some text) a b below least = let past : b ≤ a = least refl in absurd (omega (arith, below, past))
 
 -- a number without a stored entry has no file
-pub no_file : (folder : UnbundleRamBundle) (id : ℕ) → get nat_cmp folder.modules id ≡ None → file_module (files_value folder) id ≡ None
+pub no_file : (folder : UnbundleRamBundle) (id : ℕ) → get nat_cmp folder.modules id ≡ None
+    → file_module (files_value folder) id ≡ None
 no_file folder id none =
     ap (option_map (λ text. record { id = id; text = text }))
     (found_by_number folder.modules.entries (λ k. is_eq (nat_cmp id k)) ∙ ap (option_map (λ v. v.items)) none)
 
 -- the first stored entry `e` from number `from` on is a file, and no smaller number from `from` on has a file
-pub first_file : (folder : UnbundleRamBundle) (from : ℕ) (part : List (ℕ × Vec ℕ Global)) (e : ℕ × Vec ℕ Global) (rest : List (ℕ × Vec ℕ Global))
+pub first_file : (folder : UnbundleRamBundle) (from : ℕ) (part : List (ℕ × Vec ℕ Global)) (e : ℕ × Vec ℕ Global)
+    (rest : List (ℕ × Vec ℕ Global))
     → part ≡ e ∷ rest → IsRangeOf nat_cmp (Included from) Unbounded folder.modules part
     → (from ≤ e.0) × (file_module (files_value folder) e.0 ≡ Some (record { id = e.0; text = e.1.items }))
     × ((id : ℕ) → from ≤ id → id < e.0 → file_module (files_value folder) id ≡ None)
@@ -116,7 +129,8 @@ first_file folder from part e rest is range =
     subst (λ es. IsRangeOf nat_cmp (Included from) Unbounded folder.modules es) is range in (
       le_from_not_gt from e.0 first.1.0.0,
       ap (option_map (λ text. record { id = e.0; text = text }))
-          (found_by_number folder.modules.entries (λ k. is_eq (nat_cmp e.0 k)) ∙ ap (option_map (λ v. v.items)) first.1.1),
+          (found_by_number folder.modules.entries (λ k. is_eq (nat_cmp e.0 k))
+          ∙ ap (option_map (λ v. v.items)) first.1.1),
       λ id at below. no_file folder id (none_below (get nat_cmp folder.modules id) id e.0 below
           (λ has. le_from_not_gt e.0 id (first.2 id (not_gt_from_le from id at, tt) has))),
     )

@@ -8,7 +8,8 @@ use Rattle.sourcemap_bundles.specs.Modules.{BundleValue, FilesValue, ModuleValue
 -- let `id` be below `end`. If `id` has a module or an error, the items from `id` on are this module or error, followed
 -- by the items from `id + 1` on. Otherwise the items from `id` on are the items from `id + 1` on
 pub modules_next : (bundle : BundleValue) (id end : ℕ) → id < end
-    → modules_from bundle (end - id) id ≡ with_item (bundle_module bundle id) (modules_from bundle (end - (id + 1)) (id + 1))
+    → modules_from bundle (end - id) id
+    ≡ with_item (bundle_module bundle id) (modules_from bundle (end - (id + 1)) (id + 1))
 modules_next bundle id end below = let left : end - id ≡ suc (end - (id + 1)) = omega arith in rw left refl
 
 pub modules_end : (bundle : BundleValue) (id end : ℕ) → end ≤ id → modules_from bundle (end - id) id ≡ []
@@ -62,4 +63,8 @@ with_item-length (Err e) items = omega arith
 pub modules_length : (bundle : BundleValue) (left id : ℕ) → length (modules_from bundle left id) ≤ left
 modules_length bundle zero id = omega arith
 modules_length bundle (suc left) id =
-    omega (arith, with_item-length (bundle_module bundle id) (modules_from bundle left (id + 1)), modules_length bundle left (id + 1))
+    omega (
+      arith,
+      with_item-length (bundle_module bundle id) (modules_from bundle left (id + 1)),
+      modules_length bundle left (id + 1),
+    )

@@ -49,7 +49,8 @@ AreNumbered names found = AllZip (λ name file. IsNumbered name file.0) names fo
 -- a file bundle with this startup code, after one file for each of these names was added, in the order of the list.
 -- Each file has the number that its name denotes, as in `IsNumbered`. The files may have any contents
 abbrev pub IsReadBy : List (List ℕ) → List ℕ → FilesValue → Type 0
-IsReadBy names startup folder = (found : List (ℕ × List ℕ)) × AreNumbered names found × (folder ≡ folder_of startup found)
+IsReadBy names startup folder =
+    (found : List (ℕ × List ℕ)) × AreNumbered names found × (folder ≡ folder_of startup found)
 
 -- a file bundle that was read from files in the order of the bytes of their names
 abbrev pub IsFolder : FilesValue → Type 0

@@ -1,3 +1,4 @@
+pub mod Bundle
 pub mod Folder
 pub mod Iterators
 pub mod Modules

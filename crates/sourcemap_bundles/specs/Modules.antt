@@ -7,9 +7,9 @@ use Rattle.sourcemap_errors.specs.Answer.{UnlessMemory}
 use Rattle.sourcemap_errors.specs.Errors.{FromIo}
 use Rattle.sourcemap_errors.specs.declared.errors.Error.{Error}
 use Rattle.sourcemap_errors.specs.declared.errors.Error.TheVariants.{Io, InvalidRamBundleEntry, InvalidRamBundleIndex, InvalidRamBundleMagic, OutOfMemory, Utf8}
-use Rattle.sourcemap_bundle_bytes.specs.Bundle.{bundle_magic, entry_of, header_of, u32_at, range_of, then_make}
-use Rattle.sourcemap_bundle_bytes.specs.declared.bundle.ModuleEntry.{ModuleEntry}
-use Rattle.sourcemap_bundle_bytes.specs.declared.bundle.RamBundleHeader.{RamBundleHeader}
+use Rattle.sourcemap_bundles.specs.Bundle.{bundle_magic, entry_of, header_of, u32_at, range_of, then_make}
+use Rattle.sourcemap_bundles.specs.declared.bundle.ModuleEntry.{ModuleEntry}
+use Rattle.sourcemap_bundles.specs.declared.bundle.RamBundleHeader.{RamBundleHeader}
 
 -- a module: its number, and its text in bytes
 pub record ModuleValue : Type 0 where
@@ -81,7 +81,8 @@ bundle_module (indexed header bytes) id = indexed_module header bytes id
 bundle_module (files folder) id = Ok (file_module folder id)
 
 -- `items`, after a module or an error was added as the first item. `Ok None` adds no item
-abbrev pub with_item : Result (Option ModuleValue) Error → List (Result ModuleValue Error) → List (Result ModuleValue Error)
+abbrev pub with_item : Result (Option ModuleValue) Error → List (Result ModuleValue Error)
+    → List (Result ModuleValue Error)
 with_item (Ok None) items = items
 with_item (Ok (Some found)) items = Ok found ∷ items
 with_item (Err e) items = Err e ∷ items

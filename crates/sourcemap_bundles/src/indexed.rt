@@ -2,12 +2,12 @@
 ghost use Rattle.std.specs.Prelude.{◌≡◌, ◌<◌, ◌^◌, Ok, option_map};
 ghost use Rattle.std.specs.Cow.{cow_slice_items};
 ghost use Rattle.sourcemap_errors.specs.Answer.{Gives};
-ghost use Rattle.sourcemap_bundle_bytes.specs.Bundle.{Returns};
+ghost use Rattle.sourcemap_bundles.specs.Bundle.{Returns};
 ghost use Rattle.sourcemap_bundles.specs.Modules.{code_start, indexed_bundle, indexed_module, indexed_startup};
 ghost use Rattle.sourcemap_bundles.specs.Stored.{indexed_value, module_value};
 
+use crate::bundle::{ModuleEntry, RamBundleHeader, byte_range};
 use crate::modules::RamBundleModule;
-use sourcemap_bundle_bytes::bundle::{ModuleEntry, RamBundleHeader, byte_range};
 use sourcemap_errors::errors::{Error, Result};
 use std::borrow::CowSlice;
 

@@ -1,16 +1,16 @@
 //! Bundles of either kind, and an iterator over the modules of a bundle.
 ghost use Rattle.std.specs.Prelude.{◌≡◌, ◌≤◌, ◌↔◌, IfErr, IfOk, IsTrue, Ok, length, option_map};
 ghost use Rattle.sourcemap_errors.specs.Answer.{Gives};
-ghost use Rattle.sourcemap_bundle_bytes.specs.Bundle.{Returns};
+ghost use Rattle.sourcemap_bundles.specs.Bundle.{Returns};
 ghost use Rattle.sourcemap_bundles.specs.Modules.{HasBundleHeader, ReadsIndexedBundle, bundle_count, bundle_module, bundle_startup, indexed_bundle, modules_of};
 ghost use Rattle.sourcemap_bundles.specs.Folder.{IsFileBundle, IsFileError};
 ghost use Rattle.sourcemap_bundles.specs.Stored.{module_value, type_of};
 
+use crate::bundle::RamBundleHeader;
 use crate::indexed::IndexedRamBundle;
 pub use crate::modules::RamBundleModule;
 use crate::unbundle::UnbundleRamBundle;
 pub use crate::unbundle::is_unbundle_path;
-use sourcemap_bundle_bytes::bundle::RamBundleHeader;
 use sourcemap_errors::errors::{Error, Result};
 use std::alloc::Global;
 use std::borrow::CowSlice;

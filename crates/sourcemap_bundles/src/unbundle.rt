@@ -11,8 +11,8 @@ ghost use Rattle.sourcemap_bundles.specs.Folder.{IsFileError, IsFolder, IsNumber
 ghost use Rattle.sourcemap_bundles.specs.Modules.{file_module};
 ghost use Rattle.sourcemap_bundles.specs.Stored.{files_value, module_value};
 
+use crate::bundle::RAM_BUNDLE_MAGIC;
 use crate::modules::RamBundleModule;
-use sourcemap_bundle_bytes::bundle::RAM_BUNDLE_MAGIC;
 use sourcemap_errors::errors::{Error, Result};
 use std::alloc::Global;
 use std::collections::BTreeMap;

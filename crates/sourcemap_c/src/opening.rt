@@ -1,7 +1,7 @@
 //! Calls that open, share and close handles.
 ghost use Rattle.std.specs.Prelude.{◌≡◌, ◌↔◌, ◌≢◌, Err, IsTrue, None, Ok, Some};
 ghost use Rattle.std.specs.Str.{IsUtf8};
-ghost use Rattle.sourcemap_detection.specs.Detection.{AreMap};
+ghost use Rattle.sourcemap_records.specs.Detection.{AreMap};
 ghost use Rattle.sourcemap_c_handles.specs.Handles.{held_in};
 ghost use Rattle.sourcemap_index.specs.Decode.{BytesDecode, UrlDecodes};
 ghost use Rattle.sourcemap_index.specs.Family.{map_tree};

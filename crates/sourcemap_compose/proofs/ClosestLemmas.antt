@@ -1,5 +1,6 @@
 -- A sufficient condition and a necessary condition for a token of a sorted list to be the closest to a position.
-use Rattle.std.proofs.Common.{◌≡◌, refl, sym, ap, subst, ◌∙◌, ℕ, zero, suc, ◌<◌, List, [], ◌∷◌, length, Bool, true, false, cond, Some, None, Option, find, arith, inl, inr, ◌⊎◌}
+use Rattle.std.proofs.Common.{◌≡◌, refl, sym, ap, subst, ◌∙◌, ℕ, zero, suc, ◌<◌, List, [], ◌∷◌, length, Bool, true}
+use Rattle.std.proofs.Common.{false, cond, Some, None, Option, find, arith, inl, inr, ◌⊎◌}
 use Rattle.std.specs.List.{AllByRecursion, Contains, slice_index_or}
 use Rattle.std.specs.Option.{option_or, IfSome}
 use Rattle.std.specs.Ordering.{is_eq}
@@ -12,6 +13,7 @@ use Rattle.sourcemap_tokens.proofs.SortLemmas.{Rises}
 use Rattle.sourcemap_tokens.proofs.AllLemmas.{All-both, All-of, All-weaker}
 use Rattle.sourcemap_compose.specs.Stretches.{is_before}
 use Rattle.sourcemap_compose.proofs.StretchesLemmas.{before-chain, after_earlier, not_before_itself, not_both_ways}
+use Rattle.sourcemap_tokens.proofs.SearchLemmas.{cases_Option}
 
 -- Items of a list.
 
@@ -23,7 +25,8 @@ module _ {X : Type 0} where
   pub Contains-from_in : (x : X) (xs : List X) → IsIn x xs → Contains xs x
   Contains-from_in x [] is = absurd is
   Contains-from_in x (y ∷ ys) (inl e) = (0, omega arith, e)
-  Contains-from_in x (y ∷ ys) (inr is) = let later = Contains-from_in x ys is in (suc later.0, omega (arith, later.1), later.2)
+  Contains-from_in x (y ∷ ys) (inr is) = let later = Contains-from_in x ys is in
+      (suc later.0, omega (arith, later.1), later.2)
 
   in_at : (x : X) (xs : List X) (k : ℕ) → k < length xs → slice_index_or xs k x ≡ x → IsIn x xs
   in_at x [] k l e = absurd (omega arith)
@@ -43,15 +46,18 @@ module _ {X : Type 0} where
   All-from_in P (y ∷ ys) each = (each y (inl refl), All-from_in P ys (λ x is. each x (inr is)))
 
 -- sorting keeps all items
-in-insert_by : (z x : RawToken) (ys : List RawToken) → IsIn z (x ∷ ys) → IsIn z (insert_by destination position_cmp x ys)
+in-insert_by : (z x : RawToken) (ys : List RawToken) → IsIn z (x ∷ ys)
+    → IsIn z (insert_by destination position_cmp x ys)
 in-insert_by z x [] is = is
 in-insert_by z x (y ∷ ys) is =
-    elim (is_before (destination y) (destination x)) as (λ b. IsIn z (cond b (y ∷ insert_by destination position_cmp x ys) (x ∷ y ∷ ys))) [
+    elim (is_before (destination y) (destination x))
+    as (λ b. IsIn z (cond b (y ∷ insert_by destination position_cmp x ys) (x ∷ y ∷ ys))) [
       | true ↦ after is (in-insert_by z x ys)
       | false ↦ is
     ]
   where
-    after : IsIn z (x ∷ y ∷ ys) → (IsIn z (x ∷ ys) → IsIn z (insert_by destination position_cmp x ys)) → IsIn z (y ∷ insert_by destination position_cmp x ys)
+    after : IsIn z (x ∷ y ∷ ys) → (IsIn z (x ∷ ys) → IsIn z (insert_by destination position_cmp x ys))
+        → IsIn z (y ∷ insert_by destination position_cmp x ys)
     after (inl e) put = inr (put (inl e))
     after (inr (inl e)) put = inl e
     after (inr (inr later)) put = inr (put (inr later))
@@ -64,7 +70,8 @@ in-sorted z (x ∷ xs) (inr is) = in-insert_by z x (sorted_by destination positi
 -- Searches.
 
 module _ {X : Type 0} (t : X → Bool) where
-  pub find-only : (x : X) (xs : List X) → AllByRecursion (λ y. t y ≡ true → y ≡ x) xs → IsIn x xs → t x ≡ true → find t xs ≡ Some x
+  pub find-only : (x : X) (xs : List X) → AllByRecursion (λ y. t y ≡ true → y ≡ x) xs → IsIn x xs → t x ≡ true
+      → find t xs ≡ Some x
   find-only x [] only is passes = absurd is
   find-only x (y ∷ ys) only is passes =
       elim (cases_Bool (t y)) [
@@ -111,11 +118,13 @@ module _ {X : Type 0} (t : X → Bool) where
       here true is none = cc
       here false is none = is
 
-      either : (o : Option X) → (o ≡ None → AllByRecursion (λ z. t z ≡ false) ys) → option_or o (cond (t y) (Some y) None) ≡ None → AllByRecursion (λ z. t z ≡ false) (y ∷ ys)
+      either : (o : Option X) → (o ≡ None → AllByRecursion (λ z. t z ≡ false) ys)
+          → option_or o (cond (t y) (Some y) None) ≡ None → AllByRecursion (λ z. t z ≡ false) (y ∷ ys)
       either None later none = (here (t y) refl none, later refl)
       either (Some z) later none = cc
 
-  pub last-passes : (P : X → Type 0) (xs : List X) → AllByRecursion P xs → IfSome (find_last t xs) (λ z. P z × (t z ≡ true))
+  pub last-passes : (P : X → Type 0) (xs : List X) → AllByRecursion P xs
+      → IfSome (find_last t xs) (λ z. P z × (t z ≡ true))
   last-passes P [] all = tt
   last-passes P (y ∷ ys) all = either (find_last t ys) (last-passes P ys all.1)
     where
@@ -123,41 +132,46 @@ module _ {X : Type 0} (t : X → Bool) where
       here true e = (all.0, e)
       here false e = tt
 
-      either : (o : Option X) → IfSome o (λ z. P z × (t z ≡ true)) → IfSome (option_or o (cond (t y) (Some y) None)) (λ z. P z × (t z ≡ true))
+      either : (o : Option X) → IfSome o (λ z. P z × (t z ≡ true))
+          → IfSome (option_or o (cond (t y) (Some y) None)) (λ z. P z × (t z ≡ true))
       either None none = here (t y) refl
       either (Some z) some = some
-
-cases_Option : {X : Type 0} (o : Option X) → (o ≡ None) ⊎ ((x : X) × (o ≡ Some x))
-cases_Option None = inl refl
-cases_Option (Some x) = inr (x, refl)
 
 module _ (q : ℕ × ℕ) where
   -- let `x` be before `q`, and let no token of `ys` be before `x`. If each token of `ys` that is before `q` equals `x`,
   -- then `x` is the last token of `x ∷ ys` that is before `q`
   last-here : (x : RawToken) (ys : List RawToken)
       → AllByRecursion (λ y. is_before (destination y) (destination x) ≡ false) ys
-      → AllByRecursion (λ y. is_before (destination y) q ≡ true → is_before (destination y) (destination x) ≡ false → y ≡ x) ys
+      → AllByRecursion (λ y. is_before (destination y) q ≡ true
+      → is_before (destination y) (destination x) ≡ false → y ≡ x) ys
       → is_before (destination x) q ≡ true
-      → option_or (find_last (λ y. is_before (destination y) q) ys) (cond (is_before (destination x) q) (Some x) None) ≡ Some x
+      → option_or (find_last (λ y. is_before (destination y) q) ys) (cond (is_before (destination x) q) (Some x) None)
+      ≡ Some x
   last-here x ys above only passes =
       rw passes (found (find_last (λ y. is_before (destination y) q) ys)
-      (last-passes (λ y. is_before (destination y) q) (λ y. (is_before (destination y) q ≡ true → is_before (destination y) (destination x) ≡ false → y ≡ x) × (is_before (destination y) (destination x) ≡ false)) ys
-      (All-both (λ y. is_before (destination y) q ≡ true → is_before (destination y) (destination x) ≡ false → y ≡ x) (λ y. is_before (destination y) (destination x) ≡ false) ys only above)))
+      (last-passes (λ y. is_before (destination y) q) (λ y. (is_before (destination y) q ≡ true → is_before
+      (destination y) (destination x) ≡ false → y ≡ x) × (is_before (destination y) (destination x) ≡ false)) ys
+      (All-both (λ y. is_before (destination y) q ≡ true → is_before (destination y) (destination x) ≡ false → y ≡ x)
+      (λ y. is_before (destination y) (destination x) ≡ false) ys only above)))
     where
       found : (o : Option RawToken)
-          → IfSome o (λ z. ((is_before (destination z) q ≡ true → is_before (destination z) (destination x) ≡ false → z ≡ x) × (is_before (destination z) (destination x) ≡ false)) × (is_before (destination z) q ≡ true))
+          → IfSome o (λ z. ((is_before (destination z) q ≡ true → is_before (destination z) (destination x) ≡ false
+          → z ≡ x) × (is_before (destination z) (destination x) ≡ false)) × (is_before (destination z) q ≡ true))
           → option_or o (Some x) ≡ Some x
       found None some = refl
       found (Some z) some = ap Some (some.0.0 some.1 some.0.1)
 
   pub last-only : (x : RawToken) (xs : List RawToken) → Rises (λ a b. is_before (destination a) (destination b)) xs
-      → AllByRecursion (λ y. is_before (destination y) q ≡ true → is_before (destination y) (destination x) ≡ false → y ≡ x) xs
+      → AllByRecursion (λ y. is_before (destination y) q ≡ true
+      → is_before (destination y) (destination x) ≡ false → y ≡ x) xs
       → IsIn x xs → is_before (destination x) q ≡ true → find_last (λ y. is_before (destination y) q) xs ≡ Some x
   last-only x [] r only is passes = absurd is
   last-only x (y ∷ ys) r only (inr is) passes = rw (last-only x ys r.1 only.1 is passes) refl
   last-only x (y ∷ ys) r only (inl e) passes =
-      subst (λ w. option_or (find_last (λ y'. is_before (destination y') q) ys) (cond (is_before (destination w) q) (Some w) None) ≡ Some x) (sym e)
-      (last-here x ys (subst (λ w. AllByRecursion (λ y'. is_before (destination y') (destination w) ≡ false) ys) e r.0) only.1 passes)
+      subst (λ w. option_or (find_last (λ y'. is_before (destination y') q) ys) (cond (is_before (destination w) q)
+      (Some w) None) ≡ Some x) (sym e)
+      (last-here x ys
+      (subst (λ w. AllByRecursion (λ y'. is_before (destination y') (destination w) ≡ false) ys) e r.0) only.1 passes)
 
   at_or_before : (p : ℕ × ℕ) → is_before q p ≡ false → is_eq (position_cmp p q) ≡ false → is_before p q ≡ true
   at_or_before p reached apart = grind (arith, nat_tests)
@@ -172,29 +186,37 @@ module _ (q : ℕ × ℕ) where
   -- both included, `x` is the token closest to `q`
   pub closest-only : (x : RawToken) (xs : List RawToken) → Rises (λ a b. is_before (destination a) (destination b)) xs
       → IsIn x xs → is_before q (destination x) ≡ false
-      → AllByRecursion (λ y. is_before (destination y) (destination x) ≡ false → is_before q (destination y) ≡ false → y ≡ x) xs
+      → AllByRecursion (λ y. is_before (destination y) (destination x) ≡ false
+      → is_before q (destination y) ≡ false → y ≡ x) xs
       → closest_item destination position_cmp xs q ≡ Some x
   closest-only x xs r is reached only =
       elim (cases_Bool (is_eq (position_cmp (destination x) q))) [
         | inl at ↦
             let hit : find (λ y. is_eq (position_cmp (destination y) q)) xs ≡ Some x =
             find-only (λ y. is_eq (position_cmp (destination y) q)) x xs
-            (All-weaker (λ y. is_before (destination y) (destination x) ≡ false → is_before q (destination y) ≡ false → y ≡ x) (λ y. is_eq (position_cmp (destination y) q) ≡ true → y ≡ x)
-            (λ y one at_y. one (before-chain (destination y) q (destination x) (at-neither (destination y) at_y).0 (at-neither (destination x) at).1) (at-neither (destination y) at_y).1) xs only)
+            (All-weaker (λ y. is_before (destination y) (destination x) ≡ false → is_before q (destination y) ≡ false
+            → y ≡ x) (λ y. is_eq (position_cmp (destination y) q) ≡ true → y ≡ x)
+            (λ y one at_y. one (before-chain (destination y) q (destination x) (at-neither (destination y) at_y).0
+            (at-neither (destination x) at).1) (at-neither (destination y) at_y).1) xs only)
             is at in
             rw hit refl
         | inr apart ↦
             let before : is_before (destination x) q ≡ true = at_or_before (destination x) reached apart in
             let miss : find (λ y. is_eq (position_cmp (destination y) q)) xs ≡ None =
             find-fails (λ y. is_eq (position_cmp (destination y) q)) xs
-            (All-weaker (λ y. is_before (destination y) (destination x) ≡ false → is_before q (destination y) ≡ false → y ≡ x) (λ y. is_eq (position_cmp (destination y) q) ≡ false)
+            (All-weaker (λ y. is_before (destination y) (destination x) ≡ false → is_before q (destination y) ≡ false
+            → y ≡ x) (λ y. is_eq (position_cmp (destination y) q) ≡ false)
             (λ y one. false_from_ne_true (is_eq (position_cmp (destination y) q)) (λ at_y.
-            let same : y ≡ x = one (after_earlier (destination y) (destination x) q before (at-neither (destination y) at_y).0) (at-neither (destination y) at_y).1 in
-            let here : is_eq (position_cmp (destination x) q) ≡ true = subst (λ w. is_eq (position_cmp (destination w) q) ≡ true) same at_y in
+            let same : y ≡ x = one (after_earlier (destination y) (destination x) q before
+            (at-neither (destination y) at_y).0) (at-neither (destination y) at_y).1 in
+            let here : is_eq (position_cmp (destination x) q) ≡ true =
+            subst (λ w. is_eq (position_cmp (destination w) q) ≡ true) same at_y in
             true≢false (sym here ∙ apart))) xs only) in
             let last : find_last (λ y. is_before (destination y) q) xs ≡ Some x =
             last-only x xs r
-            (All-weaker (λ y. is_before (destination y) (destination x) ≡ false → is_before q (destination y) ≡ false → y ≡ x) (λ y. is_before (destination y) q ≡ true → is_before (destination y) (destination x) ≡ false → y ≡ x)
+            (All-weaker (λ y. is_before (destination y) (destination x) ≡ false
+            → is_before q (destination y) ≡ false → y ≡ x) (λ y. is_before (destination y) q ≡ true
+            → is_before (destination y) (destination x) ≡ false → y ≡ x)
             (λ y one before_y after_x. one after_x (not_both_ways (destination y) q before_y)) xs only)
             is before in
             rw (miss, last) refl
@@ -204,7 +226,8 @@ module _ (q : ℕ × ℕ) where
   pub record IsGreatest (t : RawToken) (xs : List RawToken) : Type 0 where
     pub one : IsIn t xs
     pub reached : is_before q (destination t) ≡ false
-    pub others : AllByRecursion (λ y. is_before q (destination y) ≡ false → is_before (destination t) (destination y) ≡ false) xs
+    pub others : AllByRecursion (λ y. is_before q (destination y) ≡ false
+        → is_before (destination t) (destination y) ≡ false) xs
 
   last-greatest : (t : RawToken) (xs : List RawToken) → Rises (λ a b. is_before (destination a) (destination b)) xs
       → AllByRecursion (λ y. is_eq (position_cmp (destination y) q) ≡ false) xs
@@ -220,12 +243,19 @@ module _ (q : ℕ × ℕ) where
                   let same : y ≡ t = cc in
                   record {
                     one = inl same;
-                    reached = subst (λ w. is_before q (destination w) ≡ false) same (not_both_ways (destination y) q before);
+                    reached =
+                        subst (λ w. is_before q (destination w) ≡ false) same (not_both_ways (destination y) q before);
                     others = (
-                      λ reached. subst (λ w. is_before (destination w) (destination y) ≡ false) same (not_before_itself (destination y)),
-                      All-weaker (λ u. (is_eq (position_cmp (destination u) q) ≡ false) × (is_before (destination u) q ≡ false)) (λ u. is_before q (destination u) ≡ false → is_before (destination t) (destination u) ≡ false)
-                          (λ u fails reached. let before_u : is_before (destination u) q ≡ true = at_or_before (destination u) reached fails.0 in absurd (false≢true (sym fails.1 ∙ before_u)))
-                          ys (All-both (λ u. is_eq (position_cmp (destination u) q) ≡ false) (λ u. is_before (destination u) q ≡ false) ys apart.1 fail),
+                      λ reached. subst (λ w. is_before (destination w) (destination y) ≡ false) same
+                          (not_before_itself (destination y)),
+                      All-weaker
+                          (λ u. (is_eq (position_cmp (destination u) q) ≡ false)
+                          × (is_before (destination u) q ≡ false))
+                          (λ u. is_before q (destination u) ≡ false → is_before (destination t) (destination u) ≡ false)
+                          (λ u fails reached. let before_u : is_before (destination u) q ≡ true =
+                          at_or_before (destination u) reached fails.0 in absurd (false≢true (sym fails.1 ∙ before_u)))
+                          ys (All-both (λ u. is_eq (position_cmp (destination u) q) ≡ false)
+                          (λ u. is_before (destination u) q ≡ false) ys apart.1 fail),
                     );
                   }
               | inr not_before ↦ let here : None ≡ Some t = rw (none, not_before) at e in cc
@@ -236,15 +266,20 @@ module _ (q : ℕ × ℕ) where
             record {
               one = inr later.one;
               reached = later.reached;
-              others = (λ reached. All-in (λ u. is_before (destination u) (destination y) ≡ false) t ys r.0 later.one, later.others);
+              others = (
+                λ reached. All-in (λ u. is_before (destination u) (destination y) ≡ false) t ys r.0 later.one,
+                later.others,
+              );
             }
       ]
 
-  pub closest-greatest : (t : RawToken) (xs : List RawToken) → Rises (λ a b. is_before (destination a) (destination b)) xs
+  pub closest-greatest : (t : RawToken) (xs : List RawToken)
+      → Rises (λ a b. is_before (destination a) (destination b)) xs
       → closest_item destination position_cmp xs q ≡ Some t → IsGreatest t xs
   closest-greatest t xs r e =
       elim (cases_Option (find (λ y. is_eq (position_cmp (destination y) q)) xs)) [
-        | inl none ↦ last-greatest t xs r (find-none (λ y. is_eq (position_cmp (destination y) q)) xs none) (rw none at e)
+        | inl none ↦
+            last-greatest t xs r (find-none (λ y. is_eq (position_cmp (destination y) q)) xs none) (rw none at e)
         | inr some ↦
             let here : Some some.0 ≡ Some t = rw some.1 at e in
             let found = find-passes (λ y. is_eq (position_cmp (destination y) q)) t xs (some.1 ∙ here) in
@@ -252,6 +287,7 @@ module _ (q : ℕ × ℕ) where
             record {
               one = found.0;
               reached = at.1;
-              others = All-of (λ y. is_before q (destination y) ≡ false → is_before (destination t) (destination y) ≡ false) (λ y reached. before-chain (destination t) q (destination y) at.0 reached) xs;
+              others = All-of (λ y. is_before q (destination y) ≡ false → is_before (destination t) (destination y)
+                  ≡ false) (λ y reached. before-chain (destination t) q (destination y) at.0 reached) xs;
             }
       ]

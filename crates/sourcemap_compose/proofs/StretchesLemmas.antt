@@ -1,5 +1,6 @@
 -- The order of positions, and the stretches of a sorted list: no stretch starts before an earlier stretch ends.
-use Rattle.std.proofs.Common.{◌≡◌, refl, sym, ap, subst, ◌∙◌, ℕ, zero, suc, ◌+◌, ◌≤◌, List, [], ◌∷◌, length, drop, Bool, true, false, Some, None, Option, slice_get, IsSortedByKey, arith, inl, inr, add-one}
+use Rattle.std.proofs.Common.{◌≡◌, refl, sym, ap, subst, ◌∙◌, ℕ, zero, suc, ◌+◌, ◌≤◌, List, [], ◌∷◌, length, drop, Bool}
+use Rattle.std.proofs.Common.{true, false, Some, None, Option, slice_get, IsSortedByKey, arith, inl, inr, add-one}
 use Rattle.std.specs.List.{AllByRecursion}
 use Rattle.std.specs.Ordering.{is_lt}
 use Rattle.std.proofs.lemmas.Bool.{cases_Bool}
@@ -63,23 +64,28 @@ module _ (position : RawToken → ℕ × ℕ) where
   length-stretches (t ∷ ts) = ap suc (length-stretches ts)
 
   pub stretches-at : (tokens : List RawToken) (i : ℕ) (t : RawToken) → slice_get tokens i ≡ Some t
-      → slice_get (stretches position tokens) i ≡ Some (record { token = t; start = position t; end = end_before position t (slice_get tokens (suc i)) })
+      → slice_get (stretches position tokens) i
+      ≡ Some (record { token = t; start = position t; end = end_before position t (slice_get tokens (suc i)) })
   stretches-at [] i t e = cc
-  stretches-at (u ∷ us) zero t e = let same : u ≡ t = cc in ap (λ w. Some (record { token = w; start = position w; end = end_before position w (slice_get us 0) })) same
+  stretches-at (u ∷ us) zero t e = let same : u ≡ t = cc in
+      ap (λ w. Some (record { token = w; start = position w; end = end_before position w (slice_get us 0) })) same
   stretches-at (u ∷ us) (suc i) t e = stretches-at us i t e
 
   pub stretch-is : (tokens : List RawToken) (i : ℕ) (t : RawToken) (next : Option RawToken) (start end : ℕ × ℕ)
-      → slice_get tokens i ≡ Some t → slice_get tokens (i + 1) ≡ next → start ≡ position t → end ≡ end_before position t next
+      → slice_get tokens i ≡ Some t → slice_get tokens (i + 1) ≡ next → start ≡ position t
+      → end ≡ end_before position t next
       → slice_get (stretches position tokens) i ≡ Some (record { token = t; start = start; end = end })
   stretch-is tokens i t next start end here follows starts ends =
       let follows' : slice_get tokens (suc i) ≡ next = rw add-one at follows in
       let from : position t ≡ start = sym starts in
-      let to : end_before position t (slice_get tokens (suc i)) ≡ end = ap (end_before position t) follows' ∙ sym ends in
+      let to : end_before position t (slice_get tokens (suc i)) ≡ end =
+      ap (end_before position t) follows' ∙ sym ends in
       stretches-at tokens i t here ∙ λ k. Some (record { token = t; start = from k; end = to k })
 
   -- Order.
 
-  starts : (P : ℕ × ℕ → Type 0) (tokens : List RawToken) → AllByRecursion (λ t. P (position t)) tokens → AllByRecursion (λ (s : Stretch). P s.start) (stretches position tokens)
+  starts : (P : ℕ × ℕ → Type 0) (tokens : List RawToken) → AllByRecursion (λ t. P (position t)) tokens
+      → AllByRecursion (λ (s : Stretch). P s.start) (stretches position tokens)
   starts P [] all = tt
   starts P (t ∷ ts) all = (all.0, starts P ts all.1)
 
@@ -87,7 +93,8 @@ module _ (position : RawToken → ℕ × ℕ) where
       → AllByRecursion (λ u. is_before (position u) (position next) ≡ false) tokens
       → AllByRecursion (λ u. is_before (position u) (earlier (position next) (line_end (position t))) ≡ false) tokens
   after_end t next [] all = tt
-  after_end t next (u ∷ us) all = (earlier-first (position next) (line_end (position t)) (position u) all.0, after_end t next us all.1)
+  after_end t next (u ∷ us) all =
+      (earlier-first (position next) (line_end (position t)) (position u) all.0, after_end t next us all.1)
 
   -- no stretch starts before an earlier one ends
   pub Rises-stretches : (tokens : List RawToken) → Rises (λ a b. is_lt (position_cmp (position a) (position b))) tokens
@@ -95,20 +102,25 @@ module _ (position : RawToken → ℕ × ℕ) where
   Rises-stretches [] r = tt
   Rises-stretches (t ∷ []) r = (tt, tt)
   Rises-stretches (t ∷ next ∷ rest) r = (
-    starts (λ p. is_before p (earlier (position next) (line_end (position t))) ≡ false) (next ∷ rest)
-        (earlier-first (position next) (line_end (position t)) (position next) (not_before_itself (position next)), after_end t next rest r.1.0),
+    starts (λ p. is_before p (earlier (position next) (line_end (position t))) ≡ false) (next ∷ rest) (
+      earlier-first (position next) (line_end (position t)) (position next) (not_before_itself (position next)),
+      after_end t next rest r.1.0,
+    ),
     Rises-stretches (next ∷ rest) r.1,
   )
 
-  pub stretches_follow : (tokens : List RawToken) → IsSortedByKey position position_cmp tokens → Rises (λ (u s : Stretch). is_before u.start s.end) (stretches position tokens)
-  stretches_follow tokens up = Rises-stretches tokens (Rises-from_sorted (λ a b. is_lt (position_cmp (position a) (position b))) (ranks_by position_cmp_total position) tokens up)
+  pub stretches_follow : (tokens : List RawToken) → IsSortedByKey position position_cmp tokens
+      → Rises (λ (u s : Stretch). is_before u.start s.end) (stretches position tokens)
+  stretches_follow tokens up = Rises-stretches tokens (Rises-from_sorted
+      (λ a b. is_lt (position_cmp (position a) (position b))) (ranks_by position_cmp_total position) tokens up)
 
   -- `s` starts at the position of its token, and ends at or before the end of the line of `s.start`
   pub record IsSound (s : Stretch) : Type 0 where
     pub start : s.start ≡ position s.token
     pub end : is_before (line_end s.start) s.end ≡ false
 
-  end_sound : (t : RawToken) (next : Option RawToken) → is_before (line_end (position t)) (end_before position t next) ≡ false
+  end_sound : (t : RawToken) (next : Option RawToken)
+      → is_before (line_end (position t)) (end_before position t next) ≡ false
   end_sound t None = not_before_itself (line_end (position t))
   end_sound t (Some next) = earlier-second (position next) (line_end (position t))
 
@@ -137,7 +149,8 @@ pub record IsAt {X : Type 0} (lt : X → X → Bool) (xs : List X) (i : ℕ) (x 
   pub here : drop i xs ≡ x ∷ drop (i + 1) xs
   pub later : AllByRecursion (λ y. lt y x ≡ false) (drop (i + 1) xs)
 
-pub at_index : {X : Type 0} (lt : X → X → Bool) (xs : List X) (i : ℕ) (x : X) → Rises lt xs → slice_get xs i ≡ Some x → IsAt lt xs i x
+pub at_index : {X : Type 0} (lt : X → X → Bool) (xs : List X) (i : ℕ) (x : X) → Rises lt xs → slice_get xs i ≡ Some x
+    → IsAt lt xs i x
 at_index lt xs i x r e =
     let here : drop i xs ≡ x ∷ drop (suc i) xs = drop-at xs i x e in
     let rest : Rises lt (x ∷ drop (suc i) xs) = subst (Rises lt) here (Rises-drop lt i xs r) in
@@ -156,4 +169,5 @@ module _ (position : RawToken → ℕ × ℕ) (tokens : List RawToken) (i : ℕ)
 
   pub stretch_index : IsSortedByKey position position_cmp tokens → slice_get (stretches position tokens) i ≡ Some s
       → IsAt (λ (u s : Stretch). is_before u.start s.end) (stretches position tokens) i s
-  stretch_index up here = at_index (λ (u s : Stretch). is_before u.start s.end) (stretches position tokens) i s (stretches_follow position tokens up) here
+  stretch_index up here = at_index (λ (u s : Stretch). is_before u.start s.end) (stretches position tokens) i s
+      (stretches_follow position tokens up) here

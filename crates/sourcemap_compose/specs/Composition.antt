@@ -1,5 +1,6 @@
 -- Composition of the tokens of two maps.
-use Rattle.std.specs.Prelude.{◌≡◌, ℕ, ◌≤◌, ◌+◌, ◌-◌, min, Bool, true, ◌&&◌, not, cond, nat_lt, ◌==◌, if◌then◌else◌, List, [], ◌∷◌, Result, Ok, Err}
+use Rattle.std.specs.Prelude.{◌≡◌, ℕ, ◌≤◌, ◌+◌, ◌-◌, min, Bool, true, ◌&&◌, not, cond, nat_lt, ◌==◌, if◌then◌else◌}
+use Rattle.std.specs.Prelude.{List, [], ◌∷◌, Result, Ok, Err}
 use Rattle.std.specs.List.{flat_map, list_any}
 use Rattle.sourcemap_errors.specs.Answer.{UnlessMemory}
 use Rattle.sourcemap_errors.specs.declared.errors.Error.{Error}
@@ -57,9 +58,11 @@ overflows_column token = nat_lt 4294967295 token.dst_col
 -- the adjusted tokens of the original, sorted by generated position, or the error `IncompatibleSourceMap` if a
 -- generated column overflows
 abbrev pub composition : (original adjustment : List RawToken) → Result (List RawToken) Error
-composition original adjustment = sorted_unless_overflowing (composed_all (stretches_by Adjustment adjustment) (stretches_by Original original)) where
-  sorted_unless_overflowing : List RawToken → Result (List RawToken) Error
-  sorted_unless_overflowing tokens = cond (list_any overflows_column tokens) (Err IncompatibleSourceMap) (Ok (in_order tokens))
+composition original adjustment =
+    sorted_unless_overflowing (composed_all (stretches_by Adjustment adjustment) (stretches_by Original original)) where
+      sorted_unless_overflowing : List RawToken → Result (List RawToken) Error
+      sorted_unless_overflowing tokens =
+          cond (list_any overflows_column tokens) (Err IncompatibleSourceMap) (Ok (in_order tokens))
 
 -- the column of `later_start a o` is at least the original column of the token of `a`, and at least the column of the
 -- start of `o`. This holds if `a` is a stretch of the adjustment, `o` is a stretch of the original, and they overlap

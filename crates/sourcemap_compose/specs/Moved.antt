@@ -1,7 +1,8 @@
 -- The original position that a list of tokens gives to a generated position. Also `IsMovedAlone`, a premise of the law
 -- `moved_positions_answer_as_before`. The law: if the adjustment moves position `q` to position `p`, the composition
 -- gives `p` the original position that the original map gives `q`.
-use Rattle.std.specs.Prelude.{◌≡◌, ℕ, ◌+◌, ◌-◌, min, Bool, ◌&&◌, ◌==◌, true, false, if◌then◌else◌, List, Option, Some, option_map, slice_get}
+use Rattle.std.specs.Prelude.{◌≡◌, ℕ, ◌+◌, ◌-◌, min, Bool, ◌&&◌, ◌==◌, true, false, if◌then◌else◌, List, Option, Some}
+use Rattle.std.specs.Prelude.{option_map, slice_get}
 use Rattle.std.specs.List.{Contains}
 use Rattle.sourcemap_tokens.specs.Search.{closest_item}
 use Rattle.sourcemap_tokens.specs.Tokens.{destination, position_cmp}

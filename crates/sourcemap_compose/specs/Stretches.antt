@@ -39,7 +39,11 @@ end_before position token (Some next) = earlier (position next) (line_end (posit
 -- not including, its end
 abbrev pub stretches : (RawToken → ℕ × ℕ) → List RawToken → List Stretch
 stretches position [] = []
-stretches position (token ∷ rest) = record { token = token; start = position token; end = end_before position token (slice_get rest 0) } ∷ stretches position rest
+stretches position (token ∷ rest) = record {
+  token = token;
+  start = position token;
+  end = end_before position token (slice_get rest 0);
+} ∷ stretches position rest
 
 -- the stretches of the tokens of the original, or of the adjustment; the list of tokens may be in any order
 abbrev pub stretches_by : Side → List RawToken → List Stretch

@@ -1,11 +1,14 @@
 //! Composition of the tokens of two maps.
-ghost use Rattle.std.specs.Prelude.{◌≡◌, ◌≤◌, ◌+◌, ◌++◌, IfErr, IfOk, IsSortedByKey, OnOk, Err, Ok, cond, length, false, true};
+ghost use Rattle.std.specs.Prelude.{◌≡◌, ◌≤◌, ◌+◌, ◌++◌, IfErr, IfOk, IsSortedByKey, OnOk, Err, Ok, cond, length};
+ghost use Rattle.std.specs.Prelude.{false, true};
 ghost use Rattle.std.specs.List.{list_any};
 ghost use Rattle.sourcemap_errors.specs.Answer.{Gives};
 ghost use Rattle.sourcemap_errors.specs.declared.errors.Error.TheVariants.{IncompatibleSourceMap};
 ghost use Rattle.sourcemap_tokens.specs.Tokens.{AreInOrder, destination, position_cmp};
 ghost use Rattle.sourcemap_compose.specs.Stretches.{source, stretches};
-ghost use Rattle.sourcemap_compose.specs.Composition.{StartsOnBothLines, FailsIf, shifted_column, composed, composed_all, composition, later_start, overlap, pair, overflows_column};
+ghost use Rattle.sourcemap_compose.specs.Composition.{StartsOnBothLines, FailsIf, shifted_column, composed};
+ghost use Rattle.sourcemap_compose.specs.Composition.{composed_all, composition, later_start, overlap, pair};
+ghost use Rattle.sourcemap_compose.specs.Composition.{overflows_column};
 
 use crate::block_sort::sort_stably;
 use crate::stretches::{Side, Stretch, copy_or, is_before, sorted_copy, stretch_at};

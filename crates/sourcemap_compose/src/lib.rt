@@ -1,5 +1,5 @@
-//! Composition of the tokens of two maps, where the generated text of one is the source text of the
-//! other.
+//! Composes the tokens of two maps, where the generated text of one is the source text of the other;
+//! knows nothing of the texts.
 #![tactic(auto)]
 
 mod block_sort;

@@ -22,4 +22,4 @@ pub use Rattle.sourcemap_file_urls.specs.RelativePaths
 pub use Rattle.sourcemap_source_views.specs.Columns
 pub use Rattle.sourcemap_source_views.specs.Identifiers
 pub use Rattle.sourcemap_source_views.specs.Lines
-pub use Rattle.sourcemap_bundle_bytes.specs.Bundle
+pub use Rattle.sourcemap_bundles.specs.Bundle

@@ -1,4 +1,4 @@
-//! Facade of what needs no JSON and no map type: re-exports the modules below from other crates.
+//! A facade of what needs neither JSON nor a type of maps; knows nothing of either.
 #![tactic(auto)]
 
 pub mod compose;
@@ -8,7 +8,7 @@ pub mod places;
 pub mod utils;
 pub mod vlq;
 
-pub use sourcemap_bundle_bytes::bundle;
+pub use sourcemap_bundles::bundle;
 pub use sourcemap_errors::errors;
 pub use sourcemap_interning::interner;
 pub use sourcemap_line_index::{line_index, probe};

@@ -19,4 +19,5 @@ pub Gives-only : {X Y : Type 0} (view : X → Y) (Answers : Result Y Error → T
     → (result : Result X Error) → IsAnswer view Answers result
     → (answer : Result Y Error) → Answers answer → Gives view result answer
 Gives-only view Answers same (Ok x) returned answer due = same answer (Ok (view x)) due returned
-Gives-only view Answers same (Err e) returned answer due = UnlessMemory-weaker e (λ h. same answer (Err e) due h) returned
+Gives-only view Answers same (Err e) returned answer due =
+    UnlessMemory-weaker e (λ h. same answer (Err e) due h) returned

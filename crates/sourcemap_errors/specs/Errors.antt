@@ -11,7 +11,14 @@ use Rattle.sourcemap_errors.specs.declared.errors.Base64Fault.{Base64Fault}
 use Rattle.sourcemap_errors.specs.declared.errors.JsonFault.{JsonFault}
 use Rattle.sourcemap_errors.specs.declared.errors.JsonFault.TheVariants.{Parse, Shape}
 use Rattle.sourcemap_errors.specs.declared.errors.Error.{Error}
-use Rattle.sourcemap_errors.specs.declared.errors.Error.TheVariants.{Io, Utf8, Scroll, BadJson, VlqLeftover, VlqNoValues, VlqOverflow, BadSegmentSize, BadSourceReference, BadNameReference, IncompatibleSourceMap, InvalidDataUrl, CannotFlatten, InvalidRamBundleMagic, InvalidRamBundleIndex, InvalidRamBundleEntry, NotARamBundle, InvalidRangeMappingIndex, InvalidBase64, OutOfMemory}
+use Rattle.sourcemap_errors.specs.declared.errors.Error.TheVariants.{Io, Utf8, Scroll, BadJson, VlqLeftover}
+use Rattle.sourcemap_errors.specs.declared.errors.Error.TheVariants.{VlqNoValues, VlqOverflow, BadSegmentSize}
+use Rattle.sourcemap_errors.specs.declared.errors.Error.TheVariants.{BadSourceReference, BadNameReference}
+use Rattle.sourcemap_errors.specs.declared.errors.Error.TheVariants.{IncompatibleSourceMap, InvalidDataUrl}
+use Rattle.sourcemap_errors.specs.declared.errors.Error.TheVariants.{CannotFlatten, InvalidRamBundleMagic}
+use Rattle.sourcemap_errors.specs.declared.errors.Error.TheVariants.{InvalidRamBundleIndex, InvalidRamBundleEntry}
+use Rattle.sourcemap_errors.specs.declared.errors.Error.TheVariants.{NotARamBundle, InvalidRangeMappingIndex}
+use Rattle.sourcemap_errors.specs.declared.errors.Error.TheVariants.{InvalidBase64, OutOfMemory}
 
 abbrev pub range_fault_text : RangeFault → List ℕ
 range_fault_text error = decimal error.start ++ codes "+" ++ decimal error.size ++ codes " past " ++ decimal error.len

@@ -1,6 +1,7 @@
 //! The errors that this library returns, and the text that each displays.
 ghost use Rattle.std.specs.Prelude.{◌≡◌};
-ghost use Rattle.sourcemap_errors.specs.declared.errors.Error.TheVariants.{BadJson, InvalidRangeMappingIndex, OutOfMemory, Scroll, Utf8};
+ghost use Rattle.sourcemap_errors.specs.declared.errors.Error.TheVariants.{BadJson, InvalidRangeMappingIndex};
+ghost use Rattle.sourcemap_errors.specs.declared.errors.Error.TheVariants.{OutOfMemory, Scroll, Utf8};
 
 use std::alloc::{AllocError, AllocFailed};
 use std::{fmt, io, str};

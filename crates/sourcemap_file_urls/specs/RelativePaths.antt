@@ -1,5 +1,6 @@
 -- The relative path from one file to another, by the parts of both paths.
-use Rattle.std.specs.Prelude.{ℕ, ◌-◌, ◌==◌, Bool, not, ◌&&◌, ◌||◌, if◌then◌else◌, List, [], ◌∷◌, ◌++◌, length, take, filter, flat_map, codes, bytes_eq}
+use Rattle.std.specs.Prelude.{ℕ, ◌-◌, ◌==◌, Bool, not, ◌&&◌, ◌||◌, if◌then◌else◌, List, [], ◌∷◌, ◌++◌, length, take}
+use Rattle.std.specs.Prelude.{filter, flat_map, codes, bytes_eq}
 use Rattle.std.specs.List.{slice_split, join_with_byte}
 
 -- `/` or `\`

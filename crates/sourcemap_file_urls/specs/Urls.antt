@@ -24,4 +24,5 @@ UrlOf text answer = ReadsAs (length text) (parse_url None text) answer
 
 -- the result is the URL of a reference resolved against a base, or another result that `ReadsAs` allows
 abbrev pub JoinedUrl : Parts → List ℕ → Result (Option Parts) Error → Type 0
-JoinedUrl base reference answer = ReadsAs (length (serialize base) + length reference) (parse_url (Some base) reference) answer
+JoinedUrl base reference answer =
+    ReadsAs (length (serialize base) + length reference) (parse_url (Some base) reference) answer

@@ -1,4 +1,5 @@
-//! Paths of files: as `file` URLs and back, and relative to another file.
+//! Paths of files as `file` URLs and back, and relative to another file; knows nothing of maps and
+//! reads no file.
 #![tactic(auto)]
 
 pub mod places;

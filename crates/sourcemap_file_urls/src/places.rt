@@ -1,8 +1,11 @@
 //! Absolute paths of files as URLs, and back.
-ghost use Rattle.std.specs.Prelude.{◌≡◌, Ok, option_map, string_bytes, OnOk, IfErr, codes, if◌then◌else◌, [], ◌∷◌, ◌++◌};
+ghost use Rattle.std.specs.Prelude.{◌≡◌, ◌<◌, ℕ, not, Ok, option_map, string_bytes, OnOk, IfErr, codes, [], ◌∷◌, ◌++◌};
+ghost use Rattle.std.specs.Prelude.{if◌then◌else◌};
 ghost use Rattle.sourcemap_errors.specs.Answer.{Gives, IsAnswer};
 ghost use Rattle.sourcemap_file_urls.specs.Places as spec;
-ghost use Rattle.sourcemap_file_urls.specs.Places.{PathUrl, NamesPath, path_of, text_of, escaped};
+ghost use Rattle.sourcemap_file_urls.specs.Places.{PathUrl, NamesPath, path_of, text_of, escaped, is_unreserved};
+ghost use Rattle.sourcemap_file_urls.specs.declared.places.TheConstants.{ESCAPED};
+ghost use Rattle.percent_encoding.specs.AsciiSet.{should_percent_encode};
 ghost use Rattle.percent_encoding.specs.Percent as percent;
 ghost use Rattle.sourcemap_errors.specs.declared.errors.Error.TheVariants.{OutOfMemory};
 
@@ -37,6 +40,13 @@ pub fn path_url(alloc: Global, path: &str, folder: bool) -> Result<Option<Url>>
     let text = url_text(alloc, path, folder)?;
     urls::parse(alloc, text.as_str())
 }
+
+/// A law: in a component of a path exactly the bytes that are no letter, no digit and none of `-`,
+/// `.`, `_` and `~` are escaped.
+pub fn unreserved_bytes_alone_are_kept()
+    ensures { (byte : ℕ) → byte < 256
+        → should_percent_encode ESCAPED byte ≡ not (is_unreserved byte) }
+{}
 
 /// Returns the path of a `file` URL without host, with its escapes decoded. Returns `None` for any
 /// other URL, or if the decoded path is not UTF-8. The only error is `OutOfMemory`.

@@ -1,10 +1,13 @@
 //! The relative path from one file to another.
-ghost use Rattle.std.specs.Prelude.{◌≡◌, ◌<◌, ◌++◌, Ok, OnOk, IfErr, IfSome, MatchOption, [], ◌∷◌, length, string_bytes, true};
+ghost use Rattle.std.specs.Prelude.{◌≡◌, ◌<◌, ◌++◌, Ok, OnOk, IfErr, IfSome, MatchOption, [], ◌∷◌, length};
+ghost use Rattle.std.specs.Prelude.{string_bytes, true};
 ghost use Rattle.std.specs.List.{position_or_len, before_first, after_first, join_with_byte, list_all};
 ghost use Rattle.sourcemap_errors.specs.Answer.{Gives};
 ghost use Rattle.sourcemap_errors.specs.declared.errors.Error.TheVariants.{OutOfMemory};
-ghost use Rattle.sourcemap_file_urls.specs.RelativePaths.{is_separator as separates, is_nonempty, parts, folder_parts, after_common, steps_up, relative_path, followed, is_plain};
+ghost use Rattle.sourcemap_file_urls.specs.RelativePaths.{is_separator as separates, is_nonempty, parts, folder_parts};
+ghost use Rattle.sourcemap_file_urls.specs.RelativePaths.{after_common, steps_up, relative_path, followed, is_plain};
 
+use memchr::memchr2;
 use sourcemap_errors::errors::Result;
 use std::alloc::Global;
 
@@ -142,19 +145,9 @@ fn split_first_part(path: &str) -> (&str, &str)
     (&path[..end], &path[end + 1..])
 }
 
+#[tactic(auto, using(crate::proofs::RelativePathsLemmas::separator_found))]
 fn first_separator(path: &[u8]) -> usize
     ensures { result ≡ position_or_len separates path.now }
 {
-    for (at, byte) in path.iter().enumerate() {
-        if is_separator(*byte) {
-            return at;
-        }
-    }
-    path.len()
-}
-
-fn is_separator(byte: u8) -> bool
-    ensures { result ≡ separates byte }
-{
-    byte == b'/' || byte == b'\\'
+    memchr2(b'/', b'\\', path).unwrap_or(path.len())
 }

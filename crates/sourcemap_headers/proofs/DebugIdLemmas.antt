@@ -9,4 +9,7 @@ none_of (Some x) h = absurd (h (x, refl))
 
 pub not_parsed : (text : List ℕ) → ((id : List ℕ) × (parsed text ≡ Some id) → ⊥) → None ≡ debug_id_of text
 not_parsed text h =
-    elim ((length text == 32) || (length text == 36)) as (λ b. None ≡ (if b then parsed text else None)) [ true ↦ none_of (parsed text) h | false ↦ refl ]
+    elim ((length text == 32) || (length text == 36)) as (λ b. None ≡ (if b then parsed text else None)) [
+      | true ↦ none_of (parsed text) h
+      | false ↦ refl
+    ]

@@ -1,6 +1,7 @@
 -- Data URLs of source maps. Such a URL starts with `data:application/json`. Then `;charset=utf-8` or `;charset=utf8`
 -- may follow. The rest is `;base64,` and base64 text.
-use Rattle.std.specs.Prelude.{◌≡◌, ℕ, List, ◌++◌, drop, length, codes, nat_eq, Option, Some, None, option_and_then, unwrap_or, if◌then◌else◌, Result, Ok, Err}
+use Rattle.std.specs.Prelude.{◌≡◌, ℕ, List, ◌++◌, drop, length, codes, nat_eq, Option, Some, None, option_and_then}
+use Rattle.std.specs.Prelude.{unwrap_or, if◌then◌else◌, Result, Ok, Err}
 use Rattle.std.specs.List.{starts_with}
 use Rattle.std.specs.Option.{option_or}
 use Rattle.base64.specs.Engines.{standard}
@@ -14,11 +15,13 @@ after_front front text = if starts_with nat_eq text front then Some (drop (lengt
 
 -- if the text starts with `;charset=utf-8` or `;charset=utf8`, the rest of the text; otherwise the whole text
 abbrev pub without_charset : List ℕ → List ℕ
-without_charset text = unwrap_or (option_or (after_front (codes ";charset=utf-8") text) (after_front (codes ";charset=utf8") text)) text
+without_charset text =
+    unwrap_or (option_or (after_front (codes ";charset=utf-8") text) (after_front (codes ";charset=utf8") text)) text
 
 -- the base64 text after `;base64,`; `None` if the URL does not begin as a data URL of a source map
 abbrev pub body_of : List ℕ → Option (List ℕ)
-body_of url = option_and_then (λ rest. after_front (codes ";base64,") (without_charset rest)) (after_front (codes "data:application/json") url)
+body_of url = option_and_then (λ rest. after_front (codes ";base64,") (without_charset rest)) (after_front
+    (codes "data:application/json") url)
 
 -- each number in `bytes` is below 256, and the base64 text of `url` equals the encoding of `bytes` in standard base64
 -- with padding

@@ -1,12 +1,15 @@
 -- `StripHeaderReader` drops a junk header. In each state of the reader, `remaining_in` gives the bytes that later reads
 -- return.
-use Rattle.std.specs.Prelude.{◌≡◌, ℕ, List, [], drop, take, length, Result, Ok, ◌++◌, ◌≤◌, Option, Some, None, option_map, option_and_then, Bool, true, false, ◌&&◌, if◌then◌else◌, IsTrue, IfOk, OnOk, IfErr, IfSome, IsSome}
+use Rattle.std.specs.Prelude.{◌≡◌, ℕ, List, [], drop, take, length, Result, Ok, ◌++◌, ◌≤◌, Option, Some, None}
+use Rattle.std.specs.Prelude.{option_map, option_and_then, Bool, true, false, ◌&&◌, if◌then◌else◌, IsTrue, IfOk, OnOk}
+use Rattle.std.specs.Prelude.{IfErr, IfSome, IsSome}
 use Rattle.std.specs.Io.KnownBytes.{IsAtEnd}
 use Rattle.std.specs.IoError.{error_kind}
 use Rattle.std.specs.declared.io.Error.{Error as IoError}
 use Rattle.std.specs.declared.io.ErrorKind.TheVariants.{InvalidData}
 use Rattle.sourcemap_headers.specs.declared.header_reader.HeaderState.{HeaderState}
-use Rattle.sourcemap_headers.specs.declared.header_reader.HeaderState.TheVariants.{Start, InHeader, AfterHeader, Invalid}
+use Rattle.sourcemap_headers.specs.declared.header_reader.HeaderState.TheVariants.{Start, InHeader, AfterHeader}
+use Rattle.sourcemap_headers.specs.declared.header_reader.HeaderState.TheVariants.{Invalid}
 use Rattle.sourcemap_headers.specs.declared.header_reader.Skipped.{Skipped}
 use Rattle.sourcemap_headers.specs.declared.header_reader.Skipped.TheVariants.{StillJunk, Ends, IsInvalid}
 use Rattle.sourcemap_headers.specs.declared.header_reader.StripHeaderReader.{StripHeaderReader}
@@ -87,7 +90,8 @@ HasInvalidHeader remaining r = (xs : List ℕ) × (remaining r.reader ≡ Some x
 -- what holds after one read of the inner reader. `old` and `new` are the reader before and after the read, and `buf` is
 -- the buffer after the read. `result` is `Ok (Some n)` if the first `n` bytes of `buf` are output, and `Ok None` if the
 -- inner reader returned only junk
-pub record IsChunkRead {R : Type 0} (remaining : R → Option (List ℕ)) (old new : StripHeaderReader R) (result : Result (Option ℕ) IoError) (buf : List ℕ) : Type 0 where
+pub record IsChunkRead {R : Type 0} (remaining : R → Option (List ℕ)) (old new : StripHeaderReader R)
+    (result : Result (Option ℕ) IoError) (buf : List ℕ) : Type 0 where
   pub bound : IfOk result (λ count. IfSome count (λ n. n ≤ length buf))
   pub outputs : Outputs remaining old new (output result buf)
   pub end : IfOk result (λ count. count ≡ Some 0 → IsAtEnd (remaining_of remaining new))

@@ -2,7 +2,8 @@
 ghost use Rattle.std.specs.Prelude.{◌≡◌, ℕ, List, Result as Answer, codes, IfOk, IsOkUnless, option_map, string_bytes};
 ghost use Rattle.sourcemap_errors.specs.declared.errors.Error.{Error as SourceMapError};
 ghost use Rattle.sourcemap_errors.specs.Answer.{IsAnswer};
-ghost use Rattle.sourcemap_headers.specs.DataUrl.{after_front, without_charset, body_of, data_url_of, DataUrlAnswer, Holds};
+ghost use Rattle.sourcemap_headers.specs.DataUrl.{after_front, without_charset, body_of, data_url_of, DataUrlAnswer};
+ghost use Rattle.sourcemap_headers.specs.DataUrl.{Holds};
 
 use base64::DecodeAllocError;
 use base64::engine::general_purpose::STANDARD;

@@ -1,6 +1,8 @@
 //! A reader that drops a junk header, whatever the sizes of the reads.
-ghost use Rattle.std.specs.Prelude.{◌≡◌, ℕ, List, [], ◌++◌, IsTrue, ◌<◌, length, Some, None, Ok, false, IsErr, IfErr, OnOk, option_and_then};
-ghost use Rattle.sourcemap_headers.specs.HeaderReader.{remaining_in, remaining_after, read_after_header, IsWithin, IsInHeader};
+ghost use Rattle.std.specs.Prelude.{◌≡◌, ℕ, List, [], ◌++◌, IsTrue, ◌<◌, length, Some, None, Ok, false, IsErr, IfErr};
+ghost use Rattle.std.specs.Prelude.{OnOk, option_and_then};
+ghost use Rattle.sourcemap_headers.specs.HeaderReader.{remaining_in, remaining_after, read_after_header, IsWithin};
+ghost use Rattle.sourcemap_headers.specs.HeaderReader.{IsInHeader};
 ghost use Rattle.std.specs.declared.io.ErrorKind.TheVariants.{InvalidData};
 ghost use Rattle.sourcemap_headers.specs.declared.header_reader.HeaderState.TheVariants.{AfterHeader, Invalid};
 ghost use Rattle.sourcemap_headers.specs.declared.header_reader.Skipped.TheVariants.{Ends};
@@ -105,7 +107,8 @@ pub struct StripHeaderReader<R> {
 }
 
 impl<R: Read + Drop> StripHeaderReader<R> {
-    ghost use Rattle.sourcemap_headers.specs.HeaderReader.{has_failed, remaining_of, HasInvalidHeader, IsChunkRead, ContainsInvalidHeader};
+    ghost use Rattle.sourcemap_headers.specs.HeaderReader.{has_failed, remaining_of, HasInvalidHeader, IsChunkRead};
+    ghost use Rattle.sourcemap_headers.specs.HeaderReader.{ContainsInvalidHeader};
     ghost use Rattle.std.specs.IoError.{error_kind};
     ghost use Rattle.std.specs.Io.{ReadsAtMost};
     ghost use Rattle.std.specs.Io.KnownBytes.{ReadConsumes};
@@ -195,7 +198,8 @@ impl<R: Read + Drop> Read for StripHeaderReader<R> {
     ghost use Rattle.std.specs.Io.{ReadsAtMost};
     ghost use Rattle.std.specs.Io.KnownBytes.{ReadConsumes};
     ghost use Rattle.std.specs.IoError.{error_kind};
-    ghost use Rattle.sourcemap_headers.specs.HeaderReader.{has_failed, remaining_of, HasInvalidHeader, ContainsInvalidHeader};
+    ghost use Rattle.sourcemap_headers.specs.HeaderReader.{has_failed, remaining_of, HasInvalidHeader};
+    ghost use Rattle.sourcemap_headers.specs.HeaderReader.{ContainsInvalidHeader};
 
     ghost remaining = { remaining_of R.remaining };
 

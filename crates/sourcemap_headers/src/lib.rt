@@ -1,4 +1,4 @@
-//! Junk headers, data URLs and debug ids of source maps.
+//! Junk headers, data URLs and debug ids of source maps; knows nothing of the JSON behind them.
 #![tactic(auto)]
 
 pub mod data_url;

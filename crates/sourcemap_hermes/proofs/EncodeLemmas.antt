@@ -32,17 +32,28 @@ flat-scoped (indexed r sections) entries = refl
 back-scoped : (h : HermesValue) (r : Fields) → IsWellFormed h → ReadsBack (RecordDecodes r) (RestoresRegular h.map)
     → ReadsBack (HermesDecodes (with_scopes r h.scopes.entries)) (Restores h)
 back-scoped h r well (back, decodes, restores) =
-    let m : HermesValue = record { map = back; scopes = h.scopes } in
-    (m, (well.few, record_alike (with_scopes r h.scopes.entries) r.x_facebook_sources (Ok back) decodes, refl, well.of_entries), (restores, refl))
+    let m : HermesValue = record { map = back; scopes = h.scopes } in (
+      m,
+      (
+        well.few,
+        record_alike (with_scopes r h.scopes.entries) r.x_facebook_sources (Ok back) decodes,
+        refl,
+        well.of_entries,
+      ),
+      (restores, refl),
+    )
 
-answer-scoped : (h : HermesValue) (t : Tree) → RegularAnswer h.map (Ok t) → RecordAnswer h (Ok (scoped t h.scopes.entries))
+answer-scoped : (h : HermesValue) (t : Tree) → RegularAnswer h.map (Ok t)
+    → RecordAnswer h (Ok (scoped t h.scopes.entries))
 answer-scoped h t (is, fine, back) = (
   (t, is, refl),
   fine-scoped t h.scopes.entries fine,
-  λ well. subst (λ r. ReadsBack (HermesDecodes r) (Restores h)) (sym (flat-scoped t h.scopes.entries)) (back-scoped h (flat t) well (back well.map)),
+  λ well. subst (λ r. ReadsBack (HermesDecodes r) (Restores h)) (sym (flat-scoped t h.scopes.entries))
+      (back-scoped h (flat t) well (back well.map)),
 )
 
-pub scoped_answer : (h : HermesValue) (t s : Tree) (entries : List ScopeEntry) → s ≡ scoped t entries → entries ≡ h.scopes.entries
+pub scoped_answer : (h : HermesValue) (t s : Tree) (entries : List ScopeEntry) → s ≡ scoped t entries
+    → entries ≡ h.scopes.entries
     → RegularAnswer h.map (Ok t) → RecordAnswer h (Ok s)
 scoped_answer h t s entries is same k =
     subst (λ s. RecordAnswer h (Ok s)) (sym (is ∙ ap (scoped t) same)) (answer-scoped h t k)

@@ -1,6 +1,7 @@
 -- If a Hermes map has at most 4294967295 sources and at most 4294967295 names, rewriting the map twice with default
 -- options gives the same map as rewriting the map once.
-use Rattle.std.proofs.Common.{◌≡◌, refl, sym, ap, subst, ◌∙◌, ℕ, ◌+◌, suc, ◌≤◌, List, [], ◌∷◌, ◌++◌, append_assoc, length, map, Some, None, Option, arith, slice_get}
+use Rattle.std.proofs.Common.{◌≡◌, refl, sym, ap, subst, ◌∙◌, ℕ, ◌+◌, suc, ◌≤◌, List, [], ◌∷◌, ◌++◌, append_assoc}
+use Rattle.std.proofs.Common.{length, map, Some, None, Option, arith, slice_get}
 use Rattle.std.proofs.lemmas.List.{length-map}
 use Rattle.sourcemap_interning.specs.Interner.{id_of}
 use Rattle.sourcemap_texts.specs.Prefixes.{without_prefix}
@@ -32,7 +33,8 @@ length_more (x ∷ pre) y = let more = length_more pre y in omega (arith, more)
 one_less : (m n : ℕ) → suc m ≡ suc n → m ≡ n
 one_less m n e = cc
 
-select-own : {X : Type 0} (pre ys : List (Option X)) (texts : List (List ℕ)) (index : List ℕ → ℕ) → length texts ≡ length ys
+select-own : {X : Type 0} (pre ys : List (Option X)) (texts : List (List ℕ)) (index : List ℕ → ℕ)
+    → length texts ≡ length ys
     → ((k : ℕ) (text : List ℕ) → slice_get texts k ≡ Some text → index text ≡ length pre + k)
     → map (item_at (pre ++ ys)) (map index texts) ≡ ys
 select-own pre [] [] index many own = refl
@@ -70,26 +72,34 @@ module _ (m : MapValue) (few_sources : length m.sources ≤ 4294967295) (few_nam
 
   resolved_new : resolved_sources new ≡ texts_in_use (resolved_sources new) ids
   unfolding new ids
-  resolved_new = map-resolved_against_nothing [] (map_rewritten no_removal m).sources refl ∙ cut_nothing (used_sources m) ∙ sym kept_new
+  resolved_new = map-resolved_against_nothing [] (map_rewritten no_removal m).sources refl
+      ∙ cut_nothing (used_sources m) ∙ sym kept_new
 
-  own_index : (k : ℕ) (text : List ℕ) → slice_get (texts_in_use (resolved_sources new) ids) k ≡ Some text → first_of (resolved_sources new) ids text ≡ k
+  own_index : (k : ℕ) (text : List ℕ) → slice_get (texts_in_use (resolved_sources new) ids) k ≡ Some text
+      → first_of (resolved_sources new) ids text ≡ k
   own_index k text at =
-      let named = subst (λ texts. slice_get texts (first_of (resolved_sources new) ids text) ≡ Some text) resolved_new (first_names (resolved_sources new) ids k text at) in
-      one (distinct-texts_in_use (resolved_sources new) ids text (first_of (resolved_sources new) ids text) named) (distinct-texts_in_use (resolved_sources new) ids text k at)
+      let named = subst (λ texts. slice_get texts (first_of (resolved_sources new) ids text)
+      ≡ Some text) resolved_new (first_names (resolved_sources new) ids k text at) in
+      one (distinct-texts_in_use (resolved_sources new) ids text (first_of (resolved_sources new) ids text) named)
+      (distinct-texts_in_use (resolved_sources new) ids text k at)
     where
-      one : {i j : ℕ} → id_of text (texts_in_use (resolved_sources new) ids) ≡ Some i → id_of text (texts_in_use (resolved_sources new) ids) ≡ Some j → i ≡ j
+      one : {i j : ℕ} → id_of text (texts_in_use (resolved_sources new) ids) ≡ Some i
+          → id_of text (texts_in_use (resolved_sources new) ids) ≡ Some j → i ≡ j
       one e f = cc
 
-  select-again : {X : Type 0} (items : List (Option X)) → items_at (items_at items (first_ids m)) (first_ids (map_rewritten no_removal m)) ≡ items_at items (first_ids m)
+  select-again : {X : Type 0} (items : List (Option X))
+      → items_at (items_at items (first_ids m)) (first_ids (map_rewritten no_removal m)) ≡ items_at items (first_ids m)
   unfolding new ids
   select-again items =
-      select-own [] (items_at items (first_ids m)) (texts_in_use (resolved_sources new) ids) (first_of (resolved_sources new) ids) as_many
+      select-own [] (items_at items (first_ids m)) (texts_in_use (resolved_sources new) ids)
+      (first_of (resolved_sources new) ids) as_many
       (λ k text at. let own = own_index k text at in omega (arith, own))
     where
       as_many : length (texts_in_use (resolved_sources new) ids) ≡ length (items_at items (first_ids m))
       as_many =
           ap length (kept_new ∙ sym (sources_used m no_removal))
-          ∙ sym (length-map (texts_in_use (resolved_sources m) (map (λ t. t.src_id) m.tokens)) (first_of (resolved_sources m) (map (λ t. t.src_id) m.tokens)))
+          ∙ sym (length-map (texts_in_use (resolved_sources m) (map (λ t. t.src_id) m.tokens))
+          (first_of (resolved_sources m) (map (λ t. t.src_id) m.tokens)))
           ∙ sym (length-map (first_ids m) (item_at items))
 
 pub hermes-twice : (h : HermesValue) → length h.map.sources ≤ 4294967295 → length h.map.names ≤ 4294967295

@@ -16,8 +16,10 @@ pub without_loading : (options : RewriteOptions) (h new : HermesValue) → optio
 without_loading options h new none (map, scopes) =
     λ i. record { map = map_without_loading options h.map new.map none map i; scopes = scopes i }
 
-pub Gives-rewritten : {X : Type 0} (view : X → HermesValue) (options : RewriteOptions) (h : HermesValue) (result : Result X Error)
+pub Gives-rewritten : {X : Type 0} (view : X → HermesValue) (options : RewriteOptions) (h : HermesValue)
+    (result : Result X Error)
     → options.load_local_source_contents ≡ false → IsAnswer view (Rewrites options h) result
     → Gives view result (Ok (rewritten (removal_of options) h))
 Gives-rewritten view options h (Ok x) none is = ap Ok (sym (without_loading options h (view x) none is))
-Gives-rewritten view options h (Err e) none is = UnlessMemory-weaker e (λ lacks. absurd (lacks_none options e none lacks)) is
+Gives-rewritten view options h (Err e) none is =
+    UnlessMemory-weaker e (λ lacks. absurd (lacks_none options e none lacks)) is

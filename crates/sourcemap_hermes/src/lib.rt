@@ -1,4 +1,5 @@
-//! Hermes maps: regular maps with the functions of their sources.
+//! Hermes maps, which are regular maps with the functions of their sources; knows nothing of index
+//! maps.
 #![tactic(auto)]
 
 mod clone;

@@ -14,15 +14,19 @@ use Rattle.sourcemap_hermes_scopes.specs.FunctionMap.{offset_position, closest_o
 -- index as `closest_offset offsets p`. If `found` is `None`, `closest_offset offsets p` is `None` too
 pub name_found : (offsets : List HermesScopeOffset) (p : ℕ × ℕ) (found : Option (ℕ × HermesScopeOffset))
     → found ≡ closest offset_position position_cmp offsets (p.0 + 1, p.1)
-    → option_map (λ (e : ℕ × HermesScopeOffset). e.1.name_index) found ≡ option_map (λ (o : HermesScopeOffset). o.name_index) (closest_offset offsets p)
+    → option_map (λ (e : ℕ × HermesScopeOffset). e.1.name_index) found
+    ≡ option_map (λ (o : HermesScopeOffset). o.name_index) (closest_offset offsets p)
 name_found offsets p found is =
-    both found ∙ ap (λ e. option_map (λ (o : HermesScopeOffset). o.name_index) (option_map (λ (e : ℕ × HermesScopeOffset). e.1) e)) is
-    ∙ ap (option_map (λ (o : HermesScopeOffset). o.name_index)) (item-closest offset_position position_cmp offsets (p.0 + 1, p.1))
+    name_of_item found ∙ ap (λ e. option_map (λ (o : HermesScopeOffset). o.name_index)
+    (option_map (λ (e : ℕ × HermesScopeOffset). e.1) e)) is
+    ∙ ap (option_map (λ (o : HermesScopeOffset). o.name_index))
+    (item-closest offset_position position_cmp offsets (p.0 + 1, p.1))
   where
-    both : (found : Option (ℕ × HermesScopeOffset))
-        → option_map (λ (e : ℕ × HermesScopeOffset). e.1.name_index) found ≡ option_map (λ (o : HermesScopeOffset). o.name_index) (option_map (λ (e : ℕ × HermesScopeOffset). e.1) found)
-    both None = refl
-    both (Some e) = refl
+    name_of_item : (found : Option (ℕ × HermesScopeOffset))
+        → option_map (λ (e : ℕ × HermesScopeOffset). e.1.name_index) found
+        ≡ option_map (λ (o : HermesScopeOffset). o.name_index) (option_map (λ (e : ℕ × HermesScopeOffset). e.1) found)
+    name_of_item None = refl
+    name_of_item (Some e) = refl
 
 offset_decides : (a b : HermesScopeOffset) → Decides (same_offset a b) (a ≡ b)
 offset_decides a b =

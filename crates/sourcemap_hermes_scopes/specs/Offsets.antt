@@ -29,7 +29,8 @@ line_offsets before here (s ∷ later) =
 -- segments of earlier lines
 abbrev pub offsets_of_lines : List Segment → List (List Segment) → List HermesScopeOffset
 offsets_of_lines before [] = []
-offsets_of_lines before (line ∷ decoded_lines) = line_offsets before [] line ++ offsets_of_lines (before ++ line) decoded_lines
+offsets_of_lines before (line ∷ decoded_lines) =
+    line_offsets before [] line ++ offsets_of_lines (before ++ line) decoded_lines
 
 -- Texts and what they decode to.
 
@@ -46,7 +47,8 @@ SegmentsRead ((c ∷ cs) ∷ parts) (s ∷ segments) =
 abbrev pub ScopeLinesRead : List (List ℕ) → List (List Segment) → Type 0
 ScopeLinesRead [] decoded_lines = decoded_lines ≡ []
 ScopeLinesRead (line ∷ lines) [] = ⊥
-ScopeLinesRead (line ∷ lines) (segments ∷ decoded_lines) = SegmentsRead (parts_of line) segments × ScopeLinesRead lines decoded_lines
+ScopeLinesRead (line ∷ lines) (segments ∷ decoded_lines) =
+    SegmentsRead (parts_of line) segments × ScopeLinesRead lines decoded_lines
 
 -- a part that is not empty and that decodes to an error (`HasError`)
 abbrev pub IsUnreadable : List ℕ → Type 0
@@ -55,5 +57,6 @@ IsUnreadable part = (part ≢ []) × ((e : Error) × HasError part e)
 -- a text of scope mappings decodes to these offsets, or to `None` if a part of a line is invalid
 abbrev pub StandsFor : List ℕ → Option (List HermesScopeOffset) → Type 0
 StandsFor text (Some offsets) =
-    (decoded_lines : List (List Segment)) × ScopeLinesRead (lines_of text) decoded_lines × (offsets ≡ offsets_of_lines [] decoded_lines)
+    (decoded_lines : List (List Segment)) × ScopeLinesRead (lines_of text) decoded_lines
+    × (offsets ≡ offsets_of_lines [] decoded_lines)
 StandsFor text None = Any (λ line. Any IsUnreadable (parts_of line)) (lines_of text)

@@ -14,7 +14,8 @@ IsLastOffset before here last = last ≡ segment_offset here (before ++ here)
 -- `before` and `here` are as in `IsLastOffset`. The next parts of the line are `parts`, which decode to `segments`.
 -- `new` is `old` with the offsets of `segments` appended. The next segment of the line after `segments` is relative to
 -- `last`
-pub record AddsOffsets (before here : List Segment) (parts : List (List ℕ)) (old new : List HermesScopeOffset) (last : HermesScopeOffset) : Type 0 where
+pub record AddsOffsets (before here : List Segment) (parts : List (List ℕ)) (old new : List HermesScopeOffset)
+    (last : HermesScopeOffset) : Type 0 where
   pub segments : List Segment
   pub read : SegmentsRead parts segments
   pub offsets : new ≡ old ++ line_offsets before here segments

@@ -1,6 +1,7 @@
 -- The scopes of sources, as a JSON record has them under `x_facebook_sources`. The function names, the function maps
 -- that scopes encode, and the equality of scopes.
-use Rattle.std.specs.Prelude.{◌≡◌, ℕ, List, [], map, slice_get, Bool, Option, Some, None, option_map, option_and_then, Vec}
+use Rattle.std.specs.Prelude.{◌≡◌, ℕ, List, [], map, slice_get, Bool, Option, Some, None, option_map, option_and_then}
+use Rattle.std.specs.Prelude.{Vec}
 use Rattle.std.specs.Option.{option_eq, option_map_or}
 use Rattle.std.specs.Ordering.{on, eq_of_both}
 use Rattle.std.specs.Cmp.Lexicographic.{pointwise}

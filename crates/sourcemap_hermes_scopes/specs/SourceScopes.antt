@@ -41,7 +41,8 @@ name_index scopes id p =
 -- the name of the function that contains the original position `p` in the source with this id. Line and column of `p`
 -- count from 0. `None` if `name_index` is `None`, or if the name index is past the end of the names of the source
 abbrev pub scope_at : SourceScopesValue → ℕ → ℕ × ℕ → Option (List ℕ)
-scope_at scopes id p = option_and_then (λ index. slice_get (names_of (item_at scopes.entries id)) index) (name_index scopes id p)
+scope_at scopes id p =
+    option_and_then (λ index. slice_get (names_of (item_at scopes.entries id)) index) (name_index scopes id p)
 
 -- the scopes of the sources with these ids, in this order; `None` for an id without scopes
 abbrev pub picked_scopes : SourceScopesValue → List ℕ → SourceScopesValue

@@ -8,7 +8,8 @@ ghost use Rattle.std.specs.Option.{option_eq};
 ghost use Rattle.sourcemap_errors.specs.Answer.{Gives};
 ghost use Rattle.sourcemap_errors.specs.declared.errors.Error.TheVariants.{OutOfMemory};
 ghost use Rattle.sourcemap_hermes_scopes.specs.Offsets.{StandsFor};
-ghost use Rattle.sourcemap_hermes_scopes.specs.FunctionMap.{AreOffsetsInOrder, closest_offset, offset_name, offset_position, same_offsets, same_offsets_equiv};
+ghost use Rattle.sourcemap_hermes_scopes.specs.FunctionMap.{AreOffsetsInOrder, closest_offset, offset_name};
+ghost use Rattle.sourcemap_hermes_scopes.specs.FunctionMap.{offset_position, same_offsets, same_offsets_equiv};
 
 use crate::offsets::{HermesScopeOffset, read_offsets};
 use sourcemap_errors::errors::{Error, Result};

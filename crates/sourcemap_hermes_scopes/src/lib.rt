@@ -1,5 +1,5 @@
-//! The scopes of the sources of Hermes maps: where each function starts, and which function
-//! contains an original position.
+//! The scopes of the sources of Hermes maps, with the function at an original position; knows
+//! nothing of a whole map.
 #![tactic(auto)]
 
 pub mod function_map;

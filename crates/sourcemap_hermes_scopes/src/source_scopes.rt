@@ -1,6 +1,7 @@
 //! The scopes of the sources of a Hermes map, as the JSON record has them, with their function
 //! maps.
-ghost use Rattle.std.specs.Prelude.{◌≡◌, ◌≤◌, ℕ, List, length, Some, Ok, IfOk, IsOkUnless, nat_eq, option_map, slice_get};
+ghost use Rattle.std.specs.Prelude.{◌≡◌, ◌≤◌, ℕ, List, length, Some, Ok, IfOk, IsOkUnless, nat_eq, option_map};
+ghost use Rattle.std.specs.Prelude.{slice_get};
 ghost use Rattle.std.specs.Bool.{Decides};
 ghost use Rattle.std.specs.Cmp.{partial_equiv_from_equiv};
 ghost use Rattle.std.specs.Cmp.Lexicographic.{pointwise};
@@ -11,7 +12,9 @@ ghost use Rattle.sourcemap_errors.specs.declared.errors.Error.TheVariants.{OutOf
 ghost use Rattle.sourcemap_hermes_scopes.specs.FunctionMap.{same_offsets};
 ghost use Rattle.sourcemap_tokens.specs.Items.{item_at};
 ghost use Rattle.sourcemap_hermes_scopes.specs.ScopeLists.{entries_in, names_of};
-ghost use Rattle.sourcemap_hermes_scopes.specs.SourceScopes.{SourceScopesValue, AreFewScopes, AreOfEntries, IsInOrderAt, name_index, picked_scopes, same_source_scopes, same_source_scopes_equiv, scope_at};
+ghost use Rattle.sourcemap_hermes_scopes.specs.SourceScopes.{SourceScopesValue, AreFewScopes, AreOfEntries};
+ghost use Rattle.sourcemap_hermes_scopes.specs.SourceScopes.{IsInOrderAt, name_index, picked_scopes};
+ghost use Rattle.sourcemap_hermes_scopes.specs.SourceScopes.{same_source_scopes, same_source_scopes_equiv, scope_at};
 
 use crate::function_map::{HermesFunctionMap, copy_function_maps, same_function_maps};
 use crate::picks::take_items;

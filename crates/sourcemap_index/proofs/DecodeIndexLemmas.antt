@@ -43,7 +43,8 @@ abbrev pub sections_at : Option Tree → ℕ
 sections_at None = 0
 sections_at (Some t) = sections_below t
 
-pub among_with : (s : Section) (rest : Sections) → sections_among (section_with s.head s.map rest) ≡ 1 + sections_at s.map + sections_among rest
+pub among_with : (s : Section) (rest : Sections)
+    → sections_among (section_with s.head s.map rest) ≡ 1 + sections_at s.map + sections_among rest
 among_with s rest = by_case s.map
   where
     by_case : (m : Option Tree) → sections_among (section_with s.head m rest) ≡ 1 + sections_at m + sections_among rest
@@ -68,28 +69,39 @@ prepend done (Err e) = Err e
 -- let the section `s` decode to `v`, and let decoding the sections `rest` give `a`. If `a` is a list, decoding the list
 -- of `s` and `rest` gives `a` with `v` at the front. If `a` is an error, decoding the list of `s` and `rest` gives this
 -- error
-pub one_more : (s : Section) (rest : Sections) (v : MapSection) (a : Result (List MapSection) Error) → SectionDecodes s (Ok v) → SectionsDecode rest a
+pub section_prepended : (s : Section) (rest : Sections) (v : MapSection) (a : Result (List MapSection) Error)
+    → SectionDecodes s (Ok v) → SectionsDecode rest a
     → SectionsDecode (section_with s.head s.map rest) (prepend (v ∷ []) a)
-one_more s rest v a = by_case s.map a
+section_prepended s rest v a = by_case s.map a
   where
-    by_case : (m : Option Tree) (a : Result (List MapSection) Error) → SectionDecodes (record { head = s.head; map = m }) (Ok v) → SectionsDecode rest a
+    by_case : (m : Option Tree) (a : Result (List MapSection) Error)
+        → SectionDecodes (record { head = s.head; map = m }) (Ok v) → SectionsDecode rest a
         → SectionsDecode (section_with s.head m rest) (prepend (v ∷ []) a)
-    by_case None (Ok ss) h k = inl (ss, k, (let same : v ≡ record { head = s.head; map = None } = cc in ap (λ v. Ok (v ∷ ss)) same))
+    by_case None (Ok ss) h k =
+        inl (ss, k, (let same : v ≡ record { head = s.head; map = None } = cc in ap (λ v. Ok (v ∷ ss)) same))
     by_case None (Err e) h k = inr k
-    by_case (Some t) (Ok ss) (inl (m, f, n)) k = inl (m, f, inl (ss, k, (let same : v ≡ record { head = s.head; map = Some m } = cc in ap (λ v. Ok (v ∷ ss)) same)))
+    by_case (Some t) (Ok ss) (inl (m, f, n)) k =
+        inl (
+          m,
+          f,
+          inl (ss, k, (let same : v ≡ record { head = s.head; map = Some m } = cc in ap (λ v. Ok (v ∷ ss)) same)),
+        )
     by_case (Some t) (Err e) (inl (m, f, n)) k = inl (m, f, inr k)
     by_case (Some t) a (inr h) k = absurd h
 
 -- if decoding `s` gives the error `e`, then decoding the list of `s` and `rest` gives `e`
-pub one_refused : (s : Section) (rest : Sections) (e : Error) → SectionDecodes s (Err e) → SectionsDecode (section_with s.head s.map rest) (Err e)
+pub one_refused : (s : Section) (rest : Sections) (e : Error) → SectionDecodes s (Err e)
+    → SectionsDecode (section_with s.head s.map rest) (Err e)
 one_refused s rest e = by_case s.map
   where
-    by_case : (m : Option Tree) → SectionDecodes (record { head = s.head; map = m }) (Err e) → SectionsDecode (section_with s.head m rest) (Err e)
+    by_case : (m : Option Tree) → SectionDecodes (record { head = s.head; map = m }) (Err e)
+        → SectionsDecode (section_with s.head m rest) (Err e)
     by_case None h = cc
     by_case (Some t) (inl (m, f, n)) = cc
     by_case (Some t) (inr h) = inr h
 
-pub prepend-more : (done : List MapSection) (v : MapSection) (a : Result (List MapSection) Error) → prepend done (prepend (v ∷ []) a) ≡ prepend (done ++ v ∷ []) a
+pub prepend-more : (done : List MapSection) (v : MapSection) (a : Result (List MapSection) Error)
+    → prepend done (prepend (v ∷ []) a) ≡ prepend (done ++ v ∷ []) a
 prepend-more done v (Ok ss) = ap Ok (sym (append_assoc done (v ∷ []) ss))
 prepend-more done v (Err e) = refl
 
@@ -97,27 +109,33 @@ prepend-more done v (Err e) = refl
 
 -- a record without sections is decoded to a Hermes map if it has scopes of its sources, otherwise to a regular map
 module _ (fields : Fields) where
-  hermes_made : (scopes : Option (List ScopeEntry)) (h : HermesValue) → DecodesWith fields scopes (Ok h) → LeafDecodes fields scopes (Ok (leaf (hermes h)))
+  hermes_made : (scopes : Option (List ScopeEntry)) (h : HermesValue) → DecodesWith fields scopes (Ok h)
+      → LeafDecodes fields scopes (Ok (leaf (hermes h)))
   hermes_made None h k = absurd cc
   hermes_made (Some entries) h k = inl (h, k, refl)
 
-  hermes_error : (scopes : Option (List ScopeEntry)) (e : Error) → is_some scopes ≡ true → DecodesWith fields scopes (Err e) → LeafDecodes fields scopes (Err e)
+  hermes_error : (scopes : Option (List ScopeEntry)) (e : Error) → is_some scopes ≡ true
+      → DecodesWith fields scopes (Err e) → LeafDecodes fields scopes (Err e)
   hermes_error None e there k = cc
   hermes_error (Some entries) e there k = inr k
 
-  regular_made : (scopes : Option (List ScopeEntry)) (m : MapValue) → is_some scopes ≡ false → RecordDecodes fields (Ok m) → LeafDecodes fields scopes (Ok (leaf (regular m)))
+  regular_made : (scopes : Option (List ScopeEntry)) (m : MapValue) → is_some scopes ≡ false
+      → RecordDecodes fields (Ok m) → LeafDecodes fields scopes (Ok (leaf (regular m)))
   regular_made None m there h = inl (m, h, refl)
   regular_made (Some entries) m there h = cc
 
-  regular_error : (scopes : Option (List ScopeEntry)) (e : Error) → is_some scopes ≡ false → RecordDecodes fields (Err e) → LeafDecodes fields scopes (Err e)
+  regular_error : (scopes : Option (List ScopeEntry)) (e : Error) → is_some scopes ≡ false
+      → RecordDecodes fields (Err e) → LeafDecodes fields scopes (Err e)
   regular_error None e there h = inr h
   regular_error (Some entries) e there h = cc
 
-  pub hermes_refused : (e : Error) → is_some fields.x_facebook_sources ≡ true → UnlessMemory e (HermesDecodes fields (Err e))
+  pub hermes_refused : (e : Error) → is_some fields.x_facebook_sources ≡ true
+      → UnlessMemory e (HermesDecodes fields (Err e))
       → UnlessMemory e (LeafDecodes fields fields.x_facebook_sources (Err e))
   hermes_refused e there h = UnlessMemory-weaker e (hermes_error fields.x_facebook_sources e there) h
 
-  pub regular_refused : (e : Error) → is_some fields.x_facebook_sources ≡ false → UnlessMemory e (RecordDecodes fields (Err e))
+  pub regular_refused : (e : Error) → is_some fields.x_facebook_sources ≡ false
+      → UnlessMemory e (RecordDecodes fields (Err e))
       → UnlessMemory e (LeafDecodes fields fields.x_facebook_sources (Err e))
   regular_refused e none h = UnlessMemory-weaker e (regular_error fields.x_facebook_sources e none) h
 
@@ -126,37 +144,49 @@ is_some-map f None = refl
 is_some-map f (Some x) = refl
 
 -- the tree of a record has scopes exactly if the record has scopes
-pub scopes_there : (r : RawSourceMap) → is_some (flat (tree r)).x_facebook_sources ≡ is_some (out-RawSourceMap r).x_facebook_sources
-scopes_there r = ap (λ (fields : Fields). is_some fields.x_facebook_sources) (flat-tree r) ∙ is_some-map _ (out-RawSourceMap r).x_facebook_sources
+pub scopes_there : (r : RawSourceMap)
+    → is_some (flat (tree r)).x_facebook_sources ≡ is_some (out-RawSourceMap r).x_facebook_sources
+scopes_there r = ap (λ (fields : Fields). is_some fields.x_facebook_sources) (flat-tree r)
+    ∙ is_some-map _ (out-RawSourceMap r).x_facebook_sources
 
-pub index_decodes : (fields : Fields) (ss : Sections) (v : IndexValue) → PartsDecode fields ss (Ok v) → TreeDecodes (indexed fields ss) (Ok (index_tree v))
+pub index_decodes : (fields : Fields) (ss : Sections) (v : IndexValue) → PartsDecode fields ss (Ok v)
+    → TreeDecodes (indexed fields ss) (Ok (index_tree v))
 index_decodes fields ss v = by_case (nat_lt 4294967295 (count ss))
   where
-    by_case : (b : Bool) → MatchBool b (◌≡◌ {A = Result IndexValue Error} (Ok v) (Err IncompatibleSourceMap)) (Then (λ a. SectionsDecode ss a) (λ ss a. a ≡ Ok (index_in fields ss)) (Ok v))
-        → MatchBool b (◌≡◌ {A = Result MapTree Error} (Ok (index_tree v)) (Err IncompatibleSourceMap)) (Then (λ a. SectionsDecode ss a) (λ ss a. a ≡ Ok (index_tree (index_in fields ss))) (Ok (index_tree v)))
+    by_case : (b : Bool) → MatchBool b (◌≡◌ {A = Result IndexValue Error} (Ok v) (Err IncompatibleSourceMap))
+        (Then (λ a. SectionsDecode ss a) (λ ss a. a ≡ Ok (index_in fields ss)) (Ok v))
+        → MatchBool b (◌≡◌ {A = Result MapTree Error} (Ok (index_tree v)) (Err IncompatibleSourceMap))
+        (Then (λ a. SectionsDecode ss a) (λ ss a. a ≡ Ok (index_tree (index_in fields ss))) (Ok (index_tree v)))
     by_case true h = cc
-    by_case false (inl (xs, f, n)) = inl (xs, f, (let same : v ≡ index_in fields xs = cc in ap (λ v. Ok (index_tree v)) same))
+    by_case false (inl (xs, f, n)) =
+        inl (xs, f, (let same : v ≡ index_in fields xs = cc in ap (λ v. Ok (index_tree v)) same))
     by_case false (inr h) = absurd h
 
-index_error : (fields : Fields) (ss : Sections) (e : Error) → PartsDecode fields ss (Err e) → TreeDecodes (indexed fields ss) (Err e)
+index_error : (fields : Fields) (ss : Sections) (e : Error) → PartsDecode fields ss (Err e)
+    → TreeDecodes (indexed fields ss) (Err e)
 index_error fields ss e h = by_case (nat_lt 4294967295 (count ss)) h
   where
-    by_case : (b : Bool) → MatchBool b (◌≡◌ {A = Result IndexValue Error} (Err e) (Err IncompatibleSourceMap)) (Then (λ a. SectionsDecode ss a) (λ ss a. a ≡ Ok (index_in fields ss)) (Err e))
-        → MatchBool b (◌≡◌ {A = Result MapTree Error} (Err e) (Err IncompatibleSourceMap)) (Then (λ a. SectionsDecode ss a) (λ ss a. a ≡ Ok (index_tree (index_in fields ss))) (Err e))
+    by_case : (b : Bool) → MatchBool b (◌≡◌ {A = Result IndexValue Error} (Err e) (Err IncompatibleSourceMap))
+        (Then (λ a. SectionsDecode ss a) (λ ss a. a ≡ Ok (index_in fields ss)) (Err e))
+        → MatchBool b (◌≡◌ {A = Result MapTree Error} (Err e) (Err IncompatibleSourceMap))
+        (Then (λ a. SectionsDecode ss a) (λ ss a. a ≡ Ok (index_tree (index_in fields ss))) (Err e))
     by_case true h = let same : e ≡ IncompatibleSourceMap = cc in ap Err same
     by_case false (inl (xs, f, n)) = cc
     by_case false (inr h) = inr h
 
-pub index_refused : (fields : Fields) (ss : Sections) (e : Error) → UnlessMemory e (PartsDecode fields ss (Err e)) → UnlessMemory e (TreeDecodes (indexed fields ss) (Err e))
+pub index_refused : (fields : Fields) (ss : Sections) (e : Error) → UnlessMemory e (PartsDecode fields ss (Err e))
+    → UnlessMemory e (TreeDecodes (indexed fields ss) (Err e))
 index_refused fields ss e h = UnlessMemory-weaker e (index_error fields ss e) h
 
 -- ---- out of memory
 
-never_refused : {X Y : Type 0} (x : X) (y : Y) (e : Error) → ◌≡◌ {A = Result X Error} (Ok x) (Err e) → ◌≡◌ {A = Result Y Error} (Ok y) (Err e)
+never_refused : {X Y : Type 0} (x : X) (y : Y) (e : Error) → ◌≡◌ {A = Result X Error} (Ok x) (Err e)
+    → ◌≡◌ {A = Result Y Error} (Ok y) (Err e)
 never_refused x y e h = cc
 
 -- `Ok x` is no error, so the premise holds only if `e` is `OutOfMemory`. Then the conclusion holds too
-pub still_due : {X Y : Type 0} (x : X) (y : Y) (e : Error) → UnlessMemory e (◌≡◌ {A = Result X Error} (Ok x) (Err e)) → UnlessMemory e (◌≡◌ {A = Result Y Error} (Ok y) (Err e))
+pub still_due : {X Y : Type 0} (x : X) (y : Y) (e : Error) → UnlessMemory e (◌≡◌ {A = Result X Error} (Ok x) (Err e))
+    → UnlessMemory e (◌≡◌ {A = Result Y Error} (Ok y) (Err e))
 still_due x y e h = UnlessMemory-weaker e (never_refused x y e) h
 
 -- ---- the steps of the decoder
@@ -167,59 +197,79 @@ short ss few = rw (count-from ss) (grind (arith, nat_tests))
 long : (ss : List Section) → 4294967295 < length ss → nat_lt 4294967295 (count (sections_from ss)) ≡ true
 long ss many = rw (count-from ss) (grind (arith, nat_tests))
 
-pub too_many : (fields : Fields) (ss : List Section) → 4294967295 < length ss → PartsDecode fields (sections_from ss) (Err IncompatibleSourceMap)
+pub too_many : (fields : Fields) (ss : List Section) → 4294967295 < length ss
+    → PartsDecode fields (sections_from ss) (Err IncompatibleSourceMap)
 too_many fields ss many =
-    subst (λ b. MatchBool b (◌≡◌ {A = Result IndexValue Error} (Err IncompatibleSourceMap) (Err IncompatibleSourceMap)) (Then (λ a. SectionsDecode (sections_from ss) a) (λ ss a. a ≡ Ok (index_in fields ss)) (Err IncompatibleSourceMap)))
+    subst (λ b. MatchBool b (◌≡◌ {A = Result IndexValue Error} (Err IncompatibleSourceMap) (Err IncompatibleSourceMap))
+    (Then (λ a. SectionsDecode (sections_from ss) a) (λ ss a. a ≡ Ok (index_in fields ss))
+    (Err IncompatibleSourceMap)))
     (sym (long ss many)) refl
 
-pub parts_refused : (fields : Fields) (ss : List Section) (e : Error) → length ss ≤ 4294967295 → UnlessMemory e (SectionsDecode (sections_from ss) (Err e))
+pub parts_refused : (fields : Fields) (ss : List Section) (e : Error) → length ss ≤ 4294967295
+    → UnlessMemory e (SectionsDecode (sections_from ss) (Err e))
     → UnlessMemory e (PartsDecode fields (sections_from ss) (Err e))
 parts_refused fields ss e few h = UnlessMemory-weaker e (λ h.
-    subst (λ b. MatchBool b (◌≡◌ {A = Result IndexValue Error} (Err e) (Err IncompatibleSourceMap)) (Then (λ a. SectionsDecode (sections_from ss) a) (λ ss a. a ≡ Ok (index_in fields ss)) (Err e)))
+    subst (λ b. MatchBool b (◌≡◌ {A = Result IndexValue Error} (Err e) (Err IncompatibleSourceMap))
+    (Then (λ a. SectionsDecode (sections_from ss) a) (λ ss a. a ≡ Ok (index_in fields ss)) (Err e)))
     (sym (short ss few)) (inr h)) h
 
-parts_made : (fields : Fields) (ss : List Section) (decoded : List MapSection) (v : IndexValue) → length ss ≤ 4294967295 → SectionsDecode (sections_from ss) (Ok decoded)
+parts_made : (fields : Fields) (ss : List Section) (decoded : List MapSection) (v : IndexValue) → length ss ≤ 4294967295
+    → SectionsDecode (sections_from ss) (Ok decoded)
     → v ≡ index_in fields decoded → PartsDecode fields (sections_from ss) (Ok v)
 parts_made fields ss decoded v few h is =
-    subst (λ b. MatchBool b (◌≡◌ {A = Result IndexValue Error} (Ok v) (Err IncompatibleSourceMap)) (Then (λ a. SectionsDecode (sections_from ss) a) (λ ss a. a ≡ Ok (index_in fields ss)) (Ok v)))
+    subst (λ b. MatchBool b (◌≡◌ {A = Result IndexValue Error} (Ok v) (Err IncompatibleSourceMap))
+    (Then (λ a. SectionsDecode (sections_from ss) a) (λ ss a. a ≡ Ok (index_in fields ss)) (Ok v)))
     (sym (short ss few)) (inl (decoded, h, ap Ok is))
 
-pub parts_decoded : (fields : Fields) (ss : List Section) (decoded sorted : List MapSection) (r : Result SourceMapIndex Error) → length ss ≤ 4294967295
-    → SectionsDecode (sections_from ss) (Ok decoded) → sorted ≡ by_offset decoded → Gives index_value r (Ok (index_with (index_parts fields) sorted))
+pub parts_decoded : (fields : Fields) (ss : List Section) (decoded sorted : List MapSection)
+    (r : Result SourceMapIndex Error) → length ss ≤ 4294967295
+    → SectionsDecode (sections_from ss) (Ok decoded) → sorted ≡ by_offset decoded
+    → Gives index_value r (Ok (index_with (index_parts fields) sorted))
     → IsAnswer index_value (PartsDecode fields (sections_from ss)) r
 parts_decoded fields ss decoded sorted (Ok i) few h up made =
     let same : index_with (index_parts fields) sorted ≡ index_value i = cc in
     parts_made fields ss decoded (index_value i) few h (sym same ∙ ap (index_with (index_parts fields)) up)
 parts_decoded fields ss decoded sorted (Err e) few h up made =
-    UnlessMemory-weaker e (λ (h : ◌≡◌ {A = Result IndexValue Error} (Ok (index_with (index_parts fields) sorted)) (Err e)). cc) made
+    UnlessMemory-weaker e
+    (λ (h : ◌≡◌ {A = Result IndexValue Error} (Ok (index_with (index_parts fields) sorted)) (Err e)). cc) made
 
 -- let the record `r` have no sections. Then `TreeDecodes` allows each result for `r` that `LeafDecodes` allows. In the
 -- premise on `LeafDecodes`, the field `sections` may have any value `left`, because `LeafDecodes` ignores this field
-plain_tree : (r : RawSourceMap) → (out-RawSourceMap r).sections ≡ None → tree r ≡ plain (fields_view (out-RawSourceMap r))
-plain_tree r none = tree-out r ∙ ap (λ v. tree_with (fields_view (out-RawSourceMap r)) (option_map (λ v. sections_from (map section v.items)) v)) none
+plain_tree : (r : RawSourceMap) → (out-RawSourceMap r).sections ≡ None
+    → tree r ≡ plain (fields_view (out-RawSourceMap r))
+plain_tree r none = tree-out r ∙ ap
+    (λ v. tree_with (fields_view (out-RawSourceMap r)) (option_map (λ v. sections_from (map section v.items)) v)) none
 
-pub plain_answer : (r : RawSourceMap) (left : Option (Vec RawSection Global)) (result : Result DecodedMap Error) → (out-RawSourceMap r).sections ≡ None
-    → (let fields : Fields = flat (tree (roll-RawSourceMap (record (out-RawSourceMap r) { sections = left }))) in IsAnswer map_tree (LeafDecodes fields fields.x_facebook_sources) result)
+pub plain_answer : (r : RawSourceMap) (left : Option (Vec RawSection Global)) (result : Result DecodedMap Error)
+    → (out-RawSourceMap r).sections ≡ None
+    → (let fields : Fields = flat (tree (roll-RawSourceMap (record (out-RawSourceMap r) { sections = left }))) in
+    IsAnswer map_tree (LeafDecodes fields fields.x_facebook_sources) result)
     → IsAnswer map_tree (TreeDecodes (tree r)) result
 plain_answer r left result none h =
     subst (λ t. IsAnswer map_tree (TreeDecodes t) result) (sym (plain_tree r none))
-    (whole result (subst (λ (fields : Fields). IsAnswer map_tree (LeafDecodes fields fields.x_facebook_sources) result) (flat-roll (record (out-RawSourceMap r) { sections = left })) h))
+    (whole result (subst (λ (fields : Fields). IsAnswer map_tree (LeafDecodes fields fields.x_facebook_sources) result)
+    (flat-roll (record (out-RawSourceMap r) { sections = left })) h))
   where
-    whole : (result : Result DecodedMap Error) → (let fields : Fields = fields_view (out-RawSourceMap r) in IsAnswer map_tree (LeafDecodes fields fields.x_facebook_sources) result)
+    whole : (result : Result DecodedMap Error)
+        → (let fields : Fields = fields_view (out-RawSourceMap r) in
+        IsAnswer map_tree (LeafDecodes fields fields.x_facebook_sources) result)
         → IsAnswer map_tree (TreeDecodes (plain (fields_view (out-RawSourceMap r)))) result
     whole (Ok m) h = h
     whole (Err e) h = h
 
 -- what is decoded is well-formed
-pub well_formed_answer : (t : Tree) (r : Result DecodedMap Error) → IsAnswer map_tree (TreeDecodes t) r → IfOk r (λ m. IsWellFormed (map_tree m))
+pub well_formed_answer : (t : Tree) (r : Result DecodedMap Error) → IsAnswer map_tree (TreeDecodes t) r
+    → IfOk r (λ m. IsWellFormed (map_tree m))
 well_formed_answer t (Ok m) h = decoded_well t (map_tree m) h
 well_formed_answer t (Err e) h = tt
 
 -- ---- records that are decoded only as index maps
 
-pub index_well_formed : (t : Tree) (r : Result SourceMapIndex Error) → IsAnswer index_value (IndexDecodes t) r → IfOk r (λ i. IsWellFormed (index_tree (index_value i)))
+pub index_well_formed : (t : Tree) (r : Result SourceMapIndex Error) → IsAnswer index_value (IndexDecodes t) r
+    → IfOk r (λ i. IsWellFormed (index_tree (index_value i)))
 index_well_formed (plain fields) (Ok i) h = cc
-index_well_formed (indexed fields ss) (Ok i) h = decoded_well (indexed fields ss) (index_tree (index_value i)) (index_decodes fields ss (index_value i) h)
+index_well_formed (indexed fields ss) (Ok i) h =
+    decoded_well (indexed fields ss) (index_tree (index_value i)) (index_decodes fields ss (index_value i) h)
 index_well_formed t (Err e) h = tt
 
 same_sections : (a b : IndexValue) → index_tree a ≡ index_tree b → a.sections ≡ b.sections
@@ -239,8 +289,10 @@ index_decodes_once (indexed fields ss) (Ok v) (Ok w) h k =
     let trees = tree_decodes_once (indexed fields ss) _ _ (index_decodes fields ss v h) (index_decodes fields ss w k) in
     let same : index_tree v ≡ index_tree w = cc in
     ap Ok (same_index v w same)
-index_decodes_once (indexed fields ss) (Ok v) (Err f) h k = let trees = tree_decodes_once (indexed fields ss) _ _ (index_decodes fields ss v h) (index_error fields ss f k) in cc
-index_decodes_once (indexed fields ss) (Err e) (Ok w) h k = let trees = tree_decodes_once (indexed fields ss) _ _ (index_error fields ss e h) (index_decodes fields ss w k) in cc
+index_decodes_once (indexed fields ss) (Ok v) (Err f) h k = let trees =
+    tree_decodes_once (indexed fields ss) _ _ (index_decodes fields ss v h) (index_error fields ss f k) in cc
+index_decodes_once (indexed fields ss) (Err e) (Ok w) h k = let trees =
+    tree_decodes_once (indexed fields ss) _ _ (index_error fields ss e h) (index_decodes fields ss w k) in cc
 index_decodes_once (indexed fields ss) (Err e) (Err f) h k =
     let trees = tree_decodes_once (indexed fields ss) _ _ (index_error fields ss e h) (index_error fields ss f k) in
     let same : e ≡ f = cc in

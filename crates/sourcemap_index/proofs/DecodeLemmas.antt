@@ -20,7 +20,8 @@ use Rattle.sourcemap_index.specs.declared.family.DecodedMap.{DecodedMap}
 pub value_decodes_once : (d : Data) (a b : Result MapTree Error) → ValueDecodes d a → ValueDecodes d b → a ≡ b
 value_decodes_once = value_once TreeDecodes tree_decodes_once
 
-pub bytes_decode_once : (bytes : List ℕ) (a b : Result MapTree Error) → BytesDecode bytes a → BytesDecode bytes b → AreSame a b
+pub bytes_decode_once : (bytes : List ℕ) (a b : Result MapTree Error) → BytesDecode bytes a → BytesDecode bytes b
+    → AreSame a b
 bytes_decode_once = bytes_once TreeDecodes tree_decodes_once
 
 pub url_decodes_once : (url : List ℕ) (a b : Result MapTree Error) → UrlDecodes url a → UrlDecodes url b → AreSame a b
@@ -32,7 +33,8 @@ of_no_record None e answer so is = let same : e ≡ BadJson Shape = cc in so ∙
 of_no_record (Some t) e answer so is = cc
 
 -- if reading the JSON value `d` as a record gives the error `e`, then decoding `d` as a map gives `e`
-pub error_of_value : (d : Data) (e : Error) → UnlessMemory e (due (record_of d) ≡ Err e) → UnlessMemory e (ValueDecodes d (Err e))
+pub error_of_value : (d : Data) (e : Error) → UnlessMemory e (due (record_of d) ≡ Err e)
+    → UnlessMemory e (ValueDecodes d (Err e))
 error_of_value d e h = UnlessMemory-weaker e (of_no_record (record_of d) e (Err e) refl) h
 
 -- a JSON value has only one result: if `ValueDecodes` allows `r` and `due`, then `r` is `due`, or memory ran out

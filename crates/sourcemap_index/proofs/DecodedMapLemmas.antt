@@ -19,7 +19,8 @@ module _ {X Y : Type 0} (view : X → Y) where
   -- let `Answers` allow a value that satisfies `IsRestored`. Let `r`, mapped by `view`, equal each value that `Answers`
   -- allows, or let `r` be the error `OutOfMemory`. Then `r`, mapped by `view`, satisfies `IsRestored`, or `r` is the
   -- error `OutOfMemory`
-  pub restored : (Answers : Result Y Error → Type 0) (IsRestored : Y → Type 0) (r : Result X Error) → ReadsBack Answers IsRestored
+  pub restored : (Answers : Result Y Error → Type 0) (IsRestored : Y → Type 0) (r : Result X Error)
+      → ReadsBack Answers IsRestored
       → ((back : Y) → Answers (Ok back) → IsAnswer view (AreSame (Ok back)) r)
       → MatchResult r (λ x. IsRestored (view x)) (λ e. UnlessMemory e ⊥)
   restored Answers IsRestored (Ok x) back only = subst IsRestored (only back.0 back.1) back.2
@@ -33,7 +34,8 @@ but_for_memory P (Err e) h = memory_alone e ⊥ (λ never. never) h
 
 -- let the value in `r` satisfy `P`, or let `r` be the error `OutOfMemory`. Then the value in `r` satisfies `P`, or `r`
 -- is the error `OutOfMemory`, or `r` is an error that satisfies `Q`
-pub but_for : {X : Type 0} (P : X → Type 0) (Q : Error → Type 0) (r : Result X Error) → MatchResult r P (λ e. UnlessMemory e ⊥)
+pub but_for : {X : Type 0} (P : X → Type 0) (Q : Error → Type 0) (r : Result X Error)
+    → MatchResult r P (λ e. UnlessMemory e ⊥)
     → MatchResult r P (λ e. UnlessMemory e (Q e))
 but_for P Q (Ok x) h = h
 but_for P Q (Err e) h = UnlessMemory-weaker e (λ never. absurd never) h

@@ -11,22 +11,29 @@ use Rattle.sourcemap_index_model.proofs.EqualityLemmas.{trees_decide, sections_d
 use Rattle.sourcemap_index_model.proofs.MapTreeLemmas.{section_list-from}
 use Rattle.sourcemap_index.specs.Equality.{same_index, same_section}
 
-none_same : (head : SectionHead) (m : Option MapTree) (rest : MapSections) → same_sections no_sections (section_with head m rest) ≡ false
+none_same : (head : SectionHead) (m : Option MapTree) (rest : MapSections)
+    → same_sections no_sections (section_with head m rest) ≡ false
 none_same head None rest = refl
 none_same head (Some t) rest = refl
 
-same_none : (head : SectionHead) (m : Option MapTree) (rest : MapSections) → same_sections (section_with head m rest) no_sections ≡ false
+same_none : (head : SectionHead) (m : Option MapTree) (rest : MapSections)
+    → same_sections (section_with head m rest) no_sections ≡ false
 same_none head None rest = refl
 same_none head (Some t) rest = refl
 
 both_same : (p q : SectionHead) (m n : Option MapTree) (rest rest' : MapSections)
-    → same_sections (section_with p m rest) (section_with q n rest') ≡ (same_section_head p q && option_eq same_tree m n) && same_sections rest rest'
+    → same_sections (section_with p m rest) (section_with q n rest')
+    ≡ (same_section_head p q && option_eq same_tree m n) && same_sections rest rest'
 both_same p q None None rest rest' = sym (and_assoc (same_section_head p q) true (same_sections rest rest'))
-both_same p q None (Some u) rest rest' = sym (ap (λ b. b && same_sections rest rest') (and-false (same_section_head p q)))
-both_same p q (Some t) None rest rest' = sym (ap (λ b. b && same_sections rest rest') (and-false (same_section_head p q)))
-both_same p q (Some t) (Some u) rest rest' = sym (and_assoc (same_section_head p q) (same_tree t u) (same_sections rest rest'))
+both_same p q None (Some u) rest rest' =
+    sym (ap (λ b. b && same_sections rest rest') (and-false (same_section_head p q)))
+both_same p q (Some t) None rest rest' =
+    sym (ap (λ b. b && same_sections rest rest') (and-false (same_section_head p q)))
+both_same p q (Some t) (Some u) rest rest' =
+    sym (and_assoc (same_section_head p q) (same_tree t u) (same_sections rest rest'))
 
-sections_same : (ss ts : List MapSection) → same_sections (sections_from ss) (sections_from ts) ≡ pointwise same_section ss ts
+sections_same : (ss ts : List MapSection)
+    → same_sections (sections_from ss) (sections_from ts) ≡ pointwise same_section ss ts
 sections_same [] [] = refl
 sections_same [] (t ∷ ts) = none_same t.head t.map (sections_from ts)
 sections_same (s ∷ ss) [] = same_none s.head s.map (sections_from ss)

@@ -30,11 +30,13 @@ regular_inside : (a b : MapValue) → leaf (regular a) ≡ leaf (regular b) → 
 regular_inside a b is = cc
 
 regular_leaf : (fields : Fields) (scopes : Option (List ScopeEntry)) (m : MapValue)
-    → MatchBool (is_none scopes) (RecordDecodes fields (Ok m)) (Ok m ≡ Err IncompatibleSourceMap) → LeafDecodes fields scopes (Ok (leaf (regular m)))
+    → MatchBool (is_none scopes) (RecordDecodes fields (Ok m)) (Ok m ≡ Err IncompatibleSourceMap)
+    → LeafDecodes fields scopes (Ok (leaf (regular m)))
 regular_leaf fields None m h = inl (m, h, refl)
 regular_leaf fields (Some entries) m h = absurd cc
 
-leaf_regular : (fields : Fields) (scopes : Option (List ScopeEntry)) (m : MapValue) → LeafDecodes fields scopes (Ok (leaf (regular m)))
+leaf_regular : (fields : Fields) (scopes : Option (List ScopeEntry)) (m : MapValue)
+    → LeafDecodes fields scopes (Ok (leaf (regular m)))
     → MatchBool (is_none scopes) (RecordDecodes fields (Ok m)) (Ok m ≡ Err IncompatibleSourceMap)
 leaf_regular fields None m (inl (n, h, is)) =
     let same : leaf (regular m) ≡ leaf (regular n) = cc in
@@ -49,18 +51,21 @@ any_of_regular (indexed fields sections) m h = absurd cc
 
 pub regular_of_any : (t : Tree) (m : MapValue) → TreeDecodes t (Ok (leaf (regular m))) → RegularDecodes t (Ok m)
 regular_of_any (plain fields) m h = leaf_regular fields fields.x_facebook_sources m h
-regular_of_any (indexed fields sections) m h = absurd (no_index (nat_lt 4294967295 (count sections)) fields sections (regular m) h)
+regular_of_any (indexed fields sections) m h =
+    absurd (no_index (nat_lt 4294967295 (count sections)) fields sections (regular m) h)
 
 -- Hermes maps.
 
 hermes_inside : (a b : HermesValue) → leaf (hermes a) ≡ leaf (hermes b) → a ≡ b
 hermes_inside a b is = cc
 
-hermes_leaf : (fields : Fields) (scopes : Option (List ScopeEntry)) (h : HermesValue) → DecodesWith fields scopes (Ok h) → LeafDecodes fields scopes (Ok (leaf (hermes h)))
+hermes_leaf : (fields : Fields) (scopes : Option (List ScopeEntry)) (h : HermesValue) → DecodesWith fields scopes (Ok h)
+    → LeafDecodes fields scopes (Ok (leaf (hermes h)))
 hermes_leaf fields None h k = absurd cc
 hermes_leaf fields (Some entries) h k = inl (h, k, refl)
 
-leaf_hermes : (fields : Fields) (scopes : Option (List ScopeEntry)) (h : HermesValue) → LeafDecodes fields scopes (Ok (leaf (hermes h))) → DecodesWith fields scopes (Ok h)
+leaf_hermes : (fields : Fields) (scopes : Option (List ScopeEntry)) (h : HermesValue)
+    → LeafDecodes fields scopes (Ok (leaf (hermes h))) → DecodesWith fields scopes (Ok h)
 leaf_hermes fields None h (inl (n, k, is)) = absurd cc
 leaf_hermes fields None h (inr k) = absurd k
 leaf_hermes fields (Some entries) h (inl (n, k, is)) =
@@ -74,7 +79,8 @@ any_of_hermes (indexed fields sections) h k = absurd cc
 
 pub hermes_of_any : (t : Tree) (h : HermesValue) → TreeDecodes t (Ok (leaf (hermes h))) → RecordDecodesAsHermes t (Ok h)
 hermes_of_any (plain fields) h k = leaf_hermes fields fields.x_facebook_sources h k
-hermes_of_any (indexed fields sections) h k = absurd (no_index (nat_lt 4294967295 (count sections)) fields sections (hermes h) k)
+hermes_of_any (indexed fields sections) h k =
+    absurd (no_index (nat_lt 4294967295 (count sections)) fields sections (hermes h) k)
 
 -- By the premises, a record decodes to `x` as a map of any kind exactly if it decodes to `x` by `Decodes`. The same
 -- then holds for JSON values, bytes and data URLs.
@@ -87,7 +93,8 @@ module _ {X : Type 0} (kind : X → LeafMap) (Decodes : Tree → Result X Error 
   value_any None x h = absurd cc
   value_any (Some t) x h = as_any t x h
 
-  value_own : (found : Option Tree) (x : X) → MatchOption found (Ok (leaf (kind x)) ≡ Err (BadJson Shape)) (λ t. TreeDecodes t (Ok (leaf (kind x))))
+  value_own : (found : Option Tree) (x : X)
+      → MatchOption found (Ok (leaf (kind x)) ≡ Err (BadJson Shape)) (λ t. TreeDecodes t (Ok (leaf (kind x))))
       → MatchOption found (Ok x ≡ Err (BadJson Shape)) (λ t. Decodes t (Ok x))
   value_own None x h = absurd cc
   value_own (Some t) x h = as_own t x h
@@ -103,7 +110,8 @@ module _ {X : Type 0} (kind : X → LeafMap) (Decodes : Tree → Result X Error 
   bytes_own bytes x (inl (d, holds, h)) = inl (d, holds, (values_of d x).1 h)
   bytes_own bytes x (inr h) = absurd h
 
-  pub bytes_of : (bytes : List ℕ) (x : X) → BytesHaveResult Decodes bytes (Ok x) ↔ BytesDecode bytes (Ok (leaf (kind x)))
+  pub bytes_of : (bytes : List ℕ) (x : X)
+      → BytesHaveResult Decodes bytes (Ok x) ↔ BytesDecode bytes (Ok (leaf (kind x)))
   bytes_of bytes x = (bytes_any bytes x, bytes_own bytes x)
 
   url_any : (url : List ℕ) (x : X) → UrlHasResult Decodes url (Ok x) → UrlDecodes url (Ok (leaf (kind x)))

@@ -2,6 +2,7 @@ pub mod EqualityLemmas
 pub mod DecodeIndexLemmas
 pub mod DecodeLemmas
 pub mod DecodedMapLemmas
+mod EmbeddedLemmas
 pub mod EncodeLemmas
 pub mod FamilyLemmas
 pub mod FlattenLemmas

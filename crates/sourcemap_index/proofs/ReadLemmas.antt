@@ -11,7 +11,8 @@ use Rattle.sourcemap_index_model.specs.WellFormed.{HasTokensInOrder, IsWellForme
 use Rattle.sourcemap_index_model.proofs.WellFormedLemmas.{decoded_in_order, decoded_well}
 use Rattle.sourcemap_index.specs.Decode.{BytesDecode, UrlDecodes, ValueDecodes}
 
-record_read : (found : Option Tree) (t : MapTree) → MatchOption found (Ok t ≡ Err (BadJson Shape)) (λ r. TreeDecodes r (Ok t))
+record_read : (found : Option Tree) (t : MapTree)
+    → MatchOption found (Ok t ≡ Err (BadJson Shape)) (λ r. TreeDecodes r (Ok t))
     → IsWellFormed t × HasTokensInOrder t
 record_read None t h = absurd cc
 record_read (Some r) t h = (decoded_well r t h, decoded_in_order r t h)

@@ -18,25 +18,32 @@ use Rattle.sourcemap_index.specs.DecodedMap.{IsShallow, IsTextOf}
 use Rattle.sourcemap_index.proofs.WrittenValueLemmas.{whole_value}
 
 pub text_compact : (t : MapTree) (text : List ℕ) → IsEncoded (RecordAnswer t) text → IsTextOf t text
-text_compact t text (r, (of, fine, back), is) = (written r, (r, of, refl), is.compact (whole_value t (written r) (r, of, refl)))
+text_compact t text (r, (of, fine, back), is) =
+    (written r, (r, of, refl), is.compact (whole_value t (written r) (r, of, refl)))
 
 -- the text of a record begins with a brace, so it has no junk header
 no_header : (r : Tree) (text : List ℕ) → text ≡ compact_text (written r) → after_header text ≡ Some text
 no_header (plain fields) text is = ap after_header is ∙ ap Some (sym is)
 no_header (indexed fields sections) text is = ap after_header is ∙ ap Some (sym is)
 
-pub text_back : (t : MapTree) (text : List ℕ) → IsEncoded (RecordAnswer t) text → IsWellFormed t → IsShallow t → ReadsBack (BytesDecode text) (Restores t)
+pub text_back : (t : MapTree) (text : List ℕ) → IsEncoded (RecordAnswer t) text → IsWellFormed t → IsShallow t
+    → ReadsBack (BytesDecode text) (Restores t)
 text_back t text (r, (of, fine, back), is) well shallow =
     let one = back well in (
       one.0,
       inl (
         written r,
-        (text, no_header r text (is.compact (whole_value t (written r) (r, of, refl))), is.reads_back (shallow (written r) (r, of, refl))),
+        (
+          text,
+          no_header r text (is.compact (whole_value t (written r) (r, of, refl))),
+          is.reads_back (shallow (written r) (r, of, refl)),
+        ),
         value_of_record TreeDecodes (written r) r (record-back r fine.0 fine.1) (Ok one.0) one.1,
       ),
       one.2,
     )
 
-pub url_back : (t : MapTree) (text url : List ℕ) → IsEncoded (RecordAnswer t) text → Holds url text → IsWellFormed t → IsShallow t → ReadsBack (UrlDecodes url) (Restores t)
+pub url_back : (t : MapTree) (text url : List ℕ) → IsEncoded (RecordAnswer t) text → Holds url text → IsWellFormed t
+    → IsShallow t → ReadsBack (UrlDecodes url) (Restores t)
 url_back t text url encoded holds well shallow =
     let back = text_back t text encoded well shallow in (back.0, inl (text, holds, back.1), back.2)

@@ -10,7 +10,8 @@ use Rattle.sourcemap_index.specs.declared.family.SourceMapIndex.{SourceMapIndex}
 use Rattle.sourcemap_index.specs.declared.family.SourceMapSection.{SourceMapSection}
 
 -- an index map of these parts, without a debug id
-abbrev pub index_made : Option (List ℕ) → List MapSection → Option (List (Option ℕ)) → Option (List (List ℕ)) → IndexValue
+abbrev pub index_made : Option (List ℕ) → List MapSection → Option (List (Option ℕ)) → Option (List (List ℕ))
+    → IndexValue
 index_made file sections offsets paths = record {
   parts = record { file = file; debug_id = None; x_facebook_offsets = offsets; x_metro_module_paths = paths };
   sections = sections;

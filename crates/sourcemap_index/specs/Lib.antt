@@ -1,5 +1,6 @@
 pub mod Decode
 pub mod DecodedMap
+pub mod Embedded
 pub mod Encode
 pub mod Equality
 pub mod Family

@@ -1,5 +1,5 @@
-//! Flattening of an index map: sections are concatenated to one map, which has each source and each
-//! name once.
+//! Flattening: maps are concatenated, each at its offset, to one map that has each source and each
+//! name once. This crate knows nothing of the types of index maps and of their sections.
 #![tactic(auto)]
 
 mod entries;

@@ -29,7 +29,8 @@ follow_offset span (next ∷ later) h = (h.0, tt, h.2)
 
 pub follow_own : (span : Span) (later : List Span) → AreApart (span ∷ later) → AllByRecursion (Follow later) span.1
 follow_own span [] h = All-of (Follow []) (λ q. tt) span.1
-follow_own span (next ∷ later) h = All-weaker (λ q. IsBefore q next.0) (Follow (next ∷ later)) (λ q before. (before, tt, h.2)) span.1 h.1
+follow_own span (next ∷ later) h =
+    All-weaker (λ q. IsBefore q next.0) (Follow (next ∷ later)) (λ q before. (before, tt, h.2)) span.1 h.1
 
 pub apart_later : (span : Span) (later : List Span) → AreApart (span ∷ later) → AreApart later
 apart_later span [] h = tt
@@ -56,7 +57,8 @@ lookups_offsets no_sections = refl
 lookups_offsets (hollow head rest) = ap (λ os. offset_of head ∷ os) (lookups_offsets rest)
 lookups_offsets (filled head t rest) = ap (λ os. offset_of head ∷ os) (lookups_offsets rest)
 
-pub lookups_follow : (p : ℕ × ℕ) (ss : MapSections) → Follow (spans ss) p → AllByRecursion (λ (s : SectionLookup). IsBefore p s.0) (lookups ss)
+pub lookups_follow : (p : ℕ × ℕ) (ss : MapSections) → Follow (spans ss) p
+    → AllByRecursion (λ (s : SectionLookup). IsBefore p s.0) (lookups ss)
 lookups_follow p ss h =
     All-unmapped (IsBefore p) (λ (s : SectionLookup). s.0) (lookups ss)
     (subst (AllByRecursion (IsBefore p)) (sym (lookups_offsets ss)) (offsets_follow p (spans ss) h))
@@ -88,14 +90,20 @@ orderly_in_order t h = each_level-weaker (λ m h. tt) apart_in_order t h
 abbrev pub Entry : Type 0
 Entry = (ℕ × ℕ) × Meaning
 
-entries_after : (p o : ℕ × ℕ) → IsBefore p o → (es : List Entry) → AllByRecursion (λ (e : Entry). IsBefore o e.0) es → AllByRecursion (λ (e : Entry). IsBefore p e.0) es
-entries_after p o before es all = All-weaker (λ (e : Entry). IsBefore o e.0) (λ (e : Entry). IsBefore p e.0) (λ e after. before_before p o e.0 before after) es all
+entries_after : (p o : ℕ × ℕ) → IsBefore p o → (es : List Entry) → AllByRecursion (λ (e : Entry). IsBefore o e.0) es
+    → AllByRecursion (λ (e : Entry). IsBefore p e.0) es
+entries_after p o before es all = All-weaker (λ (e : Entry). IsBefore o e.0) (λ (e : Entry). IsBefore p e.0)
+    (λ e after. before_before p o e.0 before after) es all
 
-pub entries_follow : (p : ℕ × ℕ) (ss : MapSections) → Follow (spans ss) p → AllByRecursion (λ (e : Entry). IsBefore p e.0) (flat_lists ss)
+pub entries_follow : (p : ℕ × ℕ) (ss : MapSections) → Follow (spans ss) p
+    → AllByRecursion (λ (e : Entry). IsBefore p e.0) (flat_lists ss)
 entries_follow p no_sections h = tt
-entries_follow p (hollow head rest) h = entries_after p (offset_of head) h.0 (flat_lists rest) (entries_follow (offset_of head) rest h.2)
+entries_follow p (hollow head rest) h =
+    entries_after p (offset_of head) h.0 (flat_lists rest) (entries_follow (offset_of head) rest h.2)
 entries_follow p (filled head t rest) h =
     All-append (λ (e : Entry). IsBefore p e.0) (map (absolute_entry (offset_of head)) (flat_list t)) (flat_lists rest)
     (All-map (λ (e : Entry). IsBefore p e.0) (absolute_entry (offset_of head)) (flat_list t)
-    (All-of (λ (e : Entry). IsBefore p (absolute_position (offset_of head) e.0)) (λ e. before_absolute p (offset_of head) e.0 h.0) (flat_list t)))
-    (entries_after p (offset_of head) h.0 (flat_lists rest) (entries_follow (offset_of head) rest (follow_offset _ (spans rest) h.2)))
+    (All-of (λ (e : Entry). IsBefore p (absolute_position (offset_of head) e.0))
+    (λ e. before_absolute p (offset_of head) e.0 h.0) (flat_list t)))
+    (entries_after p (offset_of head) h.0 (flat_lists rest)
+    (entries_follow (offset_of head) rest (follow_offset _ (spans rest) h.2)))

@@ -41,7 +41,10 @@ heads_decide a b =
     decides_both (decides_both (unsigned_Decides a.line b.line) (unsigned_Decides a.column b.column))
     (options_decide texts_decide a.url b.url) in (
       λ h. let p = all.0 h in λ i. record { line = p.0.0 i; column = p.0.1 i; url = p.1 i },
-      λ h. all.1 ((ap (λ (p : SectionHead). p.line) h, ap (λ (p : SectionHead). p.column) h), ap (λ (p : SectionHead). p.url) h),
+      λ h. all.1 (
+        (ap (λ (p : SectionHead). p.line) h, ap (λ (p : SectionHead). p.column) h),
+        ap (λ (p : SectionHead). p.url) h,
+      ),
     )
 
 leaves_decide : (a b : LeafMap) → Decides (same_leaf a b) (a ≡ b)
@@ -81,7 +84,8 @@ mutual
   sections_decide (filled head t rest) no_sections = (λ h. cc, λ h. cc)
   sections_decide (filled head t rest) (hollow head' rest') = (λ h. cc, λ h. cc)
   sections_decide (filled head t rest) (filled head' t' rest') =
-      let all = decides_both (heads_decide head head') (decides_both (trees_decide t t') (sections_decide rest rest')) in (
+      let all =
+      decides_both (heads_decide head head') (decides_both (trees_decide t t') (sections_decide rest rest')) in (
         λ h. let p = all.0 h in λ i. filled (p.0 i) (p.1.0 i) (p.1.1 i),
         λ h. let e : head ≡ head' = cc in let f : t ≡ t' = cc in let g : rest ≡ rest' = cc in all.1 (e, (f, g)),
       )
@@ -89,6 +93,7 @@ mutual
 pub same_tree_equiv : IsEquivalence same_tree
 same_tree_equiv = record {
   refl = λ s. (trees_decide s s).1 refl;
-  symm = λ s t. same_from_decides (same_tree s t) (same_tree t s) (trees_decide s t) ((λ h. sym ((trees_decide t s).0 h)), (λ h. (trees_decide t s).1 (sym h)));
+  symm = λ s t. same_from_decides (same_tree s t) (same_tree t s) (trees_decide s t)
+      ((λ h. sym ((trees_decide t s).0 h)), (λ h. (trees_decide t s).1 (sym h)));
   congr = λ s t u h. let same : s ≡ t = (trees_decide s t).0 h in λ i. same_tree (same i) u;
 }

@@ -32,28 +32,33 @@ pub before_absolute : (p o q : ℕ × ℕ) → IsBefore p o → IsBefore p (abso
 before_absolute (a, b) (c, d) (e, f) h = grind (arith, nat_tests)
 
 -- moving by an offset keeps the order
-pub absolute_lt : (o p q : ℕ × ℕ) → is_lt (position_cmp (absolute_position o p) (absolute_position o q)) ≡ is_lt (position_cmp p q)
+pub absolute_lt : (o p q : ℕ × ℕ)
+    → is_lt (position_cmp (absolute_position o p) (absolute_position o q)) ≡ is_lt (position_cmp p q)
 absolute_lt (a, b) (c, d) (e, f) = grind (arith, nat_tests)
 
-pub absolute_eq : (o p q : ℕ × ℕ) → is_eq (position_cmp (absolute_position o p) (absolute_position o q)) ≡ is_eq (position_cmp p q)
+pub absolute_eq : (o p q : ℕ × ℕ)
+    → is_eq (position_cmp (absolute_position o p) (absolute_position o q)) ≡ is_eq (position_cmp p q)
 absolute_eq (a, b) (c, d) (e, f) = grind (arith, nat_tests)
 
 -- a line at or after the line of the offset, made relative and then absolute again, is unchanged
 absolute_line : (a c : ℕ) → a ≤ c → c - a + a ≡ c
 absolute_line a c h = omega arith
 
-absolute_column : (a b c d : ℕ) → is_lt (position_cmp (c, d) (a, b)) ≡ false → (if c - a == 0 then (if c == a then d - b else d) + b else (if c == a then d - b else d)) ≡ d
+absolute_column : (a b c d : ℕ) → is_lt (position_cmp (c, d) (a, b)) ≡ false
+    → (if c - a == 0 then (if c == a then d - b else d) + b else (if c == a then d - b else d)) ≡ d
 absolute_column a b c d h = grind (arith, nat_tests)
 
 line_reached : (a b c d : ℕ) → is_lt (position_cmp (c, d) (a, b)) ≡ false → a ≤ c
 line_reached a b c d h = grind (arith, nat_tests)
 
-pub absolute_relative : (o p : ℕ × ℕ) → is_lt (position_cmp p o) ≡ false → absolute_position o (relative_position o p) ≡ p
+pub absolute_relative : (o p : ℕ × ℕ) → is_lt (position_cmp p o) ≡ false
+    → absolute_position o (relative_position o p) ≡ p
 absolute_relative (a, b) (c, d) h = λ i. (absolute_line a c (line_reached a b c d h) i, absolute_column a b c d h i)
 
 -- let `p` be a position in the index map that is not before the offset `o` of a section, and let `q` be a position
 -- relative to `o`. The column distance from `q` to `p` is the same in the index map as relative to `o`. The distance
 -- counts as 0 if `q` is on another line or is after `p`
 pub distance_from_section : (o p q : ℕ × ℕ) → is_lt (position_cmp p o) ≡ false
-    → (if (absolute_position o q).0 == p.0 then p.1 - (absolute_position o q).1 else 0) ≡ (if q.0 == (relative_position o p).0 then (relative_position o p).1 - q.1 else 0)
+    → (if (absolute_position o q).0 == p.0 then p.1 - (absolute_position o q).1 else 0)
+    ≡ (if q.0 == (relative_position o p).0 then (relative_position o p).1 - q.1 else 0)
 distance_from_section (a, b) (c, d) (e, f) h = grind (arith, nat_tests)

@@ -27,14 +27,18 @@ well_formed_in_order t h = each_level-weaker (λ m h. tt) (λ ss h. h.1) t h
 
 record_well : (r : Fields) (m : MapValue) → RecordDecodes r (Ok m) → IsWellFormedRegular m
 record_well r m (bounds, (decoded_lines, reads, is), same) =
-    let tokens = AllWithin-sorted (list_or_empty r.mappings) (list_or_empty r.range_mappings) (record { sources = length (list_or_empty r.sources); names = length (list_or_empty r.names) })
+    let tokens = AllWithin-sorted (list_or_empty r.mappings) (list_or_empty r.range_mappings)
+    (record { sources = length (list_or_empty r.sources); names = length (list_or_empty r.names) })
     (tokens_of_lines 0 [] decoded_lines) decoded_lines reads refl bounds.names in
-    let sources : length m.sources ≡ length (list_or_empty r.sources) = ap (λ (m : MapValue). length m.sources) same ∙ length-map (list_or_empty r.sources) source_read in
-    let names : length m.names ≡ length (list_or_empty r.names) = ap (λ (m : MapValue). length m.names) same ∙ length-map (list_or_empty r.names) name_read in
+    let sources : length m.sources ≡ length (list_or_empty r.sources) =
+    ap (λ (m : MapValue). length m.sources) same ∙ length-map (list_or_empty r.sources) source_read in
+    let names : length m.names ≡ length (list_or_empty r.names) =
+    ap (λ (m : MapValue). length m.names) same ∙ length-map (list_or_empty r.names) name_read in
     rw (sources, names, is) tokens
 
 record_in_order : (r : Fields) (m : MapValue) → RecordDecodes r (Ok m) → AreInOrder m.tokens
-record_in_order r m (bounds, (decoded_lines, reads, is), same) = subst AreInOrder (sym is) (AreInOrder-in_order (tokens_of_lines 0 [] decoded_lines))
+record_in_order r m (bounds, (decoded_lines, reads, is), same) =
+    subst AreInOrder (sym is) (AreInOrder-in_order (tokens_of_lines 0 [] decoded_lines))
 
 -- what is true of decoded maps. `IsReadLeaf`: the regular map or Hermes map `l` is well-formed, and its tokens are
 -- sorted by generated position. `IsRead`: each regular map and each Hermes map in `t` satisfies `IsReadLeaf`, and the
@@ -52,14 +56,22 @@ leaf_well r None t (inl (m, f, n)) =
 leaf_well r None t (inr h) = absurd h
 leaf_well r (Some entries) t (inl (h, (few, f, as_read, of_entries), n)) =
     let same : t ≡ leaf (hermes h) = cc in
-    subst IsRead (sym same) (record { map = record_well r h.map f; few = subst AreFewScopes (sym as_read) few; of_entries = of_entries }, record_in_order r h.map f)
+    subst IsRead (sym same) (
+      record {
+        map = record_well r h.map f;
+        few = subst AreFewScopes (sym as_read) few;
+        of_entries = of_entries;
+      },
+      record_in_order r h.map f,
+    )
 leaf_well r (Some entries) t (inr h) = absurd h
 
 -- there are `many` sections, and the map of each section that has a map satisfies `IsRead`
 abbrev AreWell : ℕ → List MapSection → Type 0
 AreWell many ss = (length ss ≡ many) × AllByRecursion (InSection IsReadLeaf AreWellFormedSections) ss
 
-index_well : (fields : Fields) (many : ℕ) (ss : List MapSection) → many ≤ 4294967295 → AreWell many ss → IsRead (index_of fields ss)
+index_well : (fields : Fields) (many : ℕ) (ss : List MapSection) → many ≤ 4294967295 → AreWell many ss
+    → IsRead (index_of fields ss)
 index_well fields many ss few well =
     let sorted : section_list (sections_from (by_offset ss)) ≡ by_offset ss = section_list-from (by_offset ss) in
     let as_many : length (by_offset ss) ≡ length ss = length-sorted_by section_offset position_cmp_total ss in (
@@ -71,9 +83,11 @@ index_well fields many ss few well =
 pub not_above : (n : ℕ) → nat_lt 4294967295 n ≡ false → n ≤ 4294967295
 not_above n e = grind (arith, nat_tests)
 
-few_well : (fields : Fields) (many : ℕ) (Sections : Result (List MapSection) Error → Type 0) → ((ss : List MapSection) → Sections (Ok ss) → AreWell many ss)
+few_well : (fields : Fields) (many : ℕ) (Sections : Result (List MapSection) Error → Type 0)
+    → ((ss : List MapSection) → Sections (Ok ss) → AreWell many ss)
     → (b : Bool) → nat_lt 4294967295 many ≡ b → (t : MapTree)
-    → MatchBool b (Ok t ≡ Err IncompatibleSourceMap) (Then Sections (λ ss a. a ≡ Ok (index_of fields ss)) (Ok t)) → IsRead t
+    → MatchBool b (Ok t ≡ Err IncompatibleSourceMap) (Then Sections (λ ss a. a ≡ Ok (index_of fields ss)) (Ok t))
+    → IsRead t
 few_well fields many Sections each true e t h = cc
 few_well fields many Sections each false e t (inl (ss, f, n)) =
     let same : t ≡ index_of fields ss = cc in
@@ -84,7 +98,8 @@ mutual
   decoded : (r : Tree) (t : MapTree) → TreeDecodes r (Ok t) → IsRead t
   decoded (plain fields) t h = leaf_well fields fields.x_facebook_sources t h
   decoded (indexed fields sections) t h =
-      few_well fields (count sections) (λ a. SectionsDecode sections a) (λ ss f. sections_well sections ss f) (nat_lt 4294967295 (count sections)) refl t h
+      few_well fields (count sections) (λ a. SectionsDecode sections a) (λ ss f. sections_well sections ss f)
+      (nat_lt 4294967295 (count sections)) refl t h
 
   sections_well : (ss : Sections) (out : List MapSection) → SectionsDecode ss (Ok out) → AreWell (count ss) out
   sections_well no_more out h = let same : out ≡ [] = cc in subst (AreWell 0) (sym same) (refl, tt)

@@ -42,7 +42,8 @@ abbrev mutual
   AreWrittenBy IsOf (hollow head rest) written =
       (more : Sections) × (written ≡ bare head more) × AreWrittenBy IsOf rest more
   AreWrittenBy IsOf (filled head t rest) written =
-      (r : Tree) × (more : Sections) × (written ≡ mapped head r more) × IsWrittenBy IsOf t r × AreWrittenBy IsOf rest more
+      (r : Tree) × (more : Sections) × (written ≡ mapped head r more) × IsWrittenBy IsOf t r
+      × AreWrittenBy IsOf rest more
 
 abbrev pub IsLeafRecord : LeafMap → Tree → Type 0
 IsLeafRecord (regular m) r = IsRecordOfRegular m r

@@ -38,7 +38,8 @@ source_entries m = map (λ source. (source.1, contents_of m source.0)) (enumerat
 abbrev pub contents_in : List Piece → List ℕ → Option (List ℕ)
 contents_in pieces text =
     option_and_then (λ source. source.1)
-    (find_last (λ source. bytes_eq source.0 text && is_some source.1) (flat_map (λ piece. source_entries piece.1) pieces))
+    (find_last (λ source. bytes_eq source.0 text && is_some source.1)
+    (flat_map (λ piece. source_entries piece.1) pieces))
 
 -- the token `t` of `piece`, with the generated position, source id and name id of `t` in the concatenation
 abbrev pub token_in : List Piece → Piece → RawToken → RawToken

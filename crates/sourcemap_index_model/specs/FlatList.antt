@@ -32,7 +32,8 @@ abbrev mutual
 abbrev pub spans : MapSections → List ((ℕ × ℕ) × List (ℕ × ℕ))
 spans no_sections = []
 spans (hollow head rest) = (offset_of head, []) ∷ spans rest
-spans (filled head t rest) = (offset_of head, map (λ entry. absolute_position (offset_of head) entry.0) (flat_list t)) ∷ spans rest
+spans (filled head t rest) =
+    (offset_of head, map (λ entry. absolute_position (offset_of head) entry.0) (flat_list t)) ∷ spans rest
 
 abbrev pub IsBefore : (p q : ℕ × ℕ) → Type 0
 IsBefore p q = is_lt (position_cmp p q) ≡ true

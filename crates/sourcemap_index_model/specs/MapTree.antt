@@ -78,4 +78,5 @@ abbrev mutual
   pub InEachSection : (LeafMap → Type 0) → (MapSections → Type 0) → MapSections → Type 0
   InEachSection OfMap OfSections no_sections = Unit {0}
   InEachSection OfMap OfSections (hollow head rest) = InEachSection OfMap OfSections rest
-  InEachSection OfMap OfSections (filled head t rest) = AtEachLevel OfMap OfSections t × InEachSection OfMap OfSections rest
+  InEachSection OfMap OfSections (filled head t rest) =
+      AtEachLevel OfMap OfSections t × InEachSection OfMap OfSections rest

@@ -1,33 +1,41 @@
 -- The result of a search, and the table after one more text.
-use Rattle.std.proofs.Common.{◌≡◌, ◌≢◌, refl, sym, ap, subst, ◌∙◌, ℕ, zero, suc, ◌+◌, ◌<◌, List, [], ◌∷◌, ◌++◌, length, false, cond, Some, None, Option, Result, Ok, Err, OnOk, OnErr, arith, inl, inr, ◌⊎◌, slice_get, slice_set, take}
+use Rattle.std.proofs.Common.{◌≡◌, ◌≢◌, refl, sym, ap, subst, ◌∙◌, ℕ, zero, suc, ◌+◌, ◌<◌, List, [], ◌∷◌, ◌++◌, length}
+use Rattle.std.proofs.Common.{false, cond, Some, None, Option, Result, Ok, Err, OnOk, OnErr, arith, inl, inr, ◌⊎◌}
+use Rattle.std.proofs.Common.{slice_get, slice_set, take}
 use Rattle.std.specs.Str.{bytes_eq}
 use Rattle.std.proofs.lemmas.Bool.{cases_Bool, cases_eq}
 use Rattle.std.proofs.lemmas.List.{length_push, length-set}
 use Rattle.std.proofs.lemmas.Option.{slice_get_within}
 use Rattle.std.proofs.lemmas.Slice.Eq.{bytes_eq-Decides}
 use Rattle.sourcemap_interning.specs.Interner.{AreDistinct, id_of}
-use Rattle.sourcemap_interning.specs.Slots.{ArePassed, AreRight, IsBlocked, IsIndex, IsPassed, IsProbed, IsRight, hash_of, start_of}
+use Rattle.sourcemap_interning.specs.Slots.{ArePassed, AreRight, IsBlocked, IsIndex, IsPassed, IsProbed, IsRight}
+use Rattle.sourcemap_interning.specs.Slots.{hash_of, start_of}
 use Rattle.sourcemap_interning.specs.declared.slots.Probe.{Probe}
 use Rattle.sourcemap_interning.specs.declared.slots.Probe.TheVariants.{Free, Full, Taken}
 use Rattle.sourcemap_interning.specs.declared.slots.Slot.{Slot}
-use Rattle.sourcemap_interning.proofs.InternerLemmas.{AreDistinct-append, bytes_eq-refl, slice_get-append, slice_get-id_of}
-use Rattle.sourcemap_interning.proofs.ItemLemmas.{slice_get-set_same, slice_get-set_other, slice_get-pushed, slice_get-last}
+use Rattle.sourcemap_interning.proofs.InternerLemmas.{AreDistinct-append, bytes_eq-refl, slice_get-append}
+use Rattle.sourcemap_interning.proofs.InternerLemmas.{slice_get-id_of}
+use Rattle.sourcemap_interning.proofs.ItemLemmas.{slice_get-set_same, slice_get-set_other, slice_get-pushed}
+use Rattle.sourcemap_interning.proofs.ItemLemmas.{slice_get-last}
 
-none_has : (texts : List (List ℕ)) (text : List ℕ) → ((n : ℕ) → slice_get texts n ≡ Some text → ⊥) → id_of text texts ≡ None
+none_has : (texts : List (List ℕ)) (text : List ℕ) → ((n : ℕ) → slice_get texts n ≡ Some text → ⊥)
+    → id_of text texts ≡ None
 none_has texts text never = by_case (id_of text texts) refl
   where
     by_case : (o : Option ℕ) → id_of text texts ≡ o → id_of text texts ≡ None
     by_case None e = e
     by_case (Some n) e = absurd (never n (slice_get-id_of text texts n e))
 
-one_slot : (slots : List Slot) (slot_index : ℕ) (a b : Slot) → slice_get slots slot_index ≡ Some a → slice_get slots slot_index ≡ Some b → a ≡ b
+one_slot : (slots : List Slot) (slot_index : ℕ) (a b : Slot) → slice_get slots slot_index ≡ Some a
+    → slice_get slots slot_index ≡ Some b → a ≡ b
 one_slot slots slot_index a b e f = cc
 
 -- a search ends in one way
 module _ (slots : List Slot) (hash start : ℕ) where
   -- the slot has no number, or has the hash
   abbrev IsEnd : ℕ → Type 0
-  IsEnd k = (slot : Slot) × (slice_get slots (start + k) ≡ Some slot) × ((slot.number ≡ 4294967295) ⊎ (slot.hash ≡ hash))
+  IsEnd k =
+      (slot : Slot) × (slice_get slots (start + k) ≡ Some slot) × ((slot.number ≡ 4294967295) ⊎ (slot.hash ≡ hash))
 
   passed_or_end : (k : ℕ) → IsPassed slots hash (start + k) → IsEnd k → ⊥
   passed_or_end k passed end =
@@ -50,7 +58,10 @@ module _ (slots : List Slot) (hash start : ℕ) where
       less_or_more zero zero h = absurd (h refl)
       less_or_more zero (suc b) h = inl (omega arith)
       less_or_more (suc a) zero h = inr (omega arith)
-      less_or_more (suc a) (suc b) h = elim (less_or_more a b (λ e. h (ap suc e))) [ inl l ↦ inl (omega (arith, l)) | inr l ↦ inr (omega (arith, l)) ]
+      less_or_more (suc a) (suc b) h = elim (less_or_more a b (λ e. h (ap suc e))) [
+        | inl l ↦ inl (omega (arith, l))
+        | inr l ↦ inr (omega (arith, l))
+      ]
 
   free_end : (i : ℕ) (free : IsProbed slots hash start (Free i)) → IsEnd free.0
   free_end i free = (free.4, free.5, inl free.6)
@@ -61,7 +72,8 @@ module _ (slots : List Slot) (hash start : ℕ) where
   free_or_taken : (i n : ℕ) → IsProbed slots hash start (Free i) → IsProbed slots hash start (Taken n) → ⊥
   free_or_taken i n free taken =
       let same : free.0 ≡ taken.0 = same_end free.0 taken.0 free.2 taken.2 (free_end i free) (taken_end n taken) in
-      let slot : free.4 ≡ taken.4 = one_slot slots (start + taken.0) free.4 taken.4 (subst (λ k. slice_get slots (start + k) ≡ Some free.4) same free.5) taken.5 in
+      let slot : free.4 ≡ taken.4 = one_slot slots (start
+      + taken.0) free.4 taken.4 (subst (λ k. slice_get slots (start + k) ≡ Some free.4) same free.5) taken.5 in
       taken.3 (sym taken.6 ∙ ap (λ (s : Slot). s.number) (sym slot) ∙ free.6)
 
   free_or_full : (i : ℕ) → IsProbed slots hash start (Free i) → IsProbed slots hash start Full → ⊥
@@ -73,28 +85,36 @@ module _ (slots : List Slot) (hash start : ℕ) where
   pub one_number : (m n : ℕ) → IsProbed slots hash start (Taken m) → IsProbed slots hash start (Taken n) → m ≡ n
   one_number m n a b =
       let same : a.0 ≡ b.0 = same_end a.0 b.0 a.2 b.2 (taken_end m a) (taken_end n b) in
-      let slot : a.4 ≡ b.4 = one_slot slots (start + b.0) a.4 b.4 (subst (λ k. slice_get slots (start + k) ≡ Some a.4) same a.5) b.5 in
+      let slot : a.4 ≡ b.4 =
+      one_slot slots (start + b.0) a.4 b.4 (subst (λ k. slice_get slots (start + k) ≡ Some a.4) same a.5) b.5 in
       sym a.6 ∙ ap (λ (s : Slot). s.number) slot ∙ b.6
 
   free_or_blocked : (i : ℕ) → IsProbed slots hash start (Free i) → IsBlocked slots hash start → ⊥
-  free_or_blocked i free blocked = elim blocked [ inl full ↦ free_or_full i free full | inr taken ↦ free_or_taken i taken.0 free taken.1 ]
+  free_or_blocked i free blocked = elim blocked [
+    | inl full ↦ free_or_full i free full
+    | inr taken ↦ free_or_taken i taken.0 free taken.1
+  ]
 
   -- a search that ends at no slot
-  pub none_taken : (p : Probe) → IsProbed slots hash start p → ((i : ℕ) → p ≡ Free i → ⊥) → ((n : ℕ) → p ≡ Taken n → ⊥) → (n : ℕ) → IsProbed slots hash start (Taken n) → ⊥
+  pub none_taken : (p : Probe) → IsProbed slots hash start p → ((i : ℕ) → p ≡ Free i → ⊥) → ((n : ℕ) → p ≡ Taken n → ⊥)
+      → (n : ℕ) → IsProbed slots hash start (Taken n) → ⊥
   none_taken (Free i) probed not_free not_taken n taken = not_free i refl
   none_taken (Taken m) probed not_free not_taken n taken = not_taken m refl
   none_taken Full probed not_free not_taken n taken = taken_or_full n taken probed
 
-module _ (texts : List (List ℕ)) (mask : ℕ) (slots : List Slot) (others : List ℕ → Option ℕ) (is : IsIndex texts mask slots others) (text : List ℕ) where
+module _ (texts : List (List ℕ)) (mask : ℕ) (slots : List Slot) (others : List ℕ → Option ℕ)
+    (is : IsIndex texts mask slots others) (text : List ℕ) where
   -- a search that ends at a free slot finds no text
-  pub none-free : (i : ℕ) → IsProbed slots (hash_of text) (start_of mask (hash_of text)) (Free i) → id_of text texts ≡ None
+  pub none-free : (i : ℕ) → IsProbed slots (hash_of text) (start_of mask (hash_of text)) (Free i)
+      → id_of text texts ≡ None
   none-free i free = none_has texts text (λ n named. elim (is.found n text named) [
     | inl taken ↦ free_or_taken slots (hash_of text) (start_of mask (hash_of text)) i n free taken
     | inr other ↦ free_or_blocked slots (hash_of text) (start_of mask (hash_of text)) i free other.0
   ])
 
   -- a search that ends at no slot of the text goes on in `others`
-  pub others-next : ((n : ℕ) → IsProbed slots (hash_of text) (start_of mask (hash_of text)) (Taken n) → slice_get texts n ≡ Some text → ⊥) → id_of text texts ≡ others text
+  pub others-next : ((n : ℕ) → IsProbed slots (hash_of text) (start_of mask (hash_of text)) (Taken n)
+      → slice_get texts n ≡ Some text → ⊥) → id_of text texts ≡ others text
   others-next not_taken = by_case (others text) refl
     where
       by_case : (o : Option ℕ) → others text ≡ o → id_of text texts ≡ o
@@ -126,7 +146,8 @@ module _ (texts : List (List ℕ)) (mask : ℕ) (slots : List Slot) (others : Li
         | inl same ↦
             let alike : text ≡ t = (bytes_eq-Decides text t).0 same in
             let is_last : n ≡ length texts = next n (subst (λ u. others' u ≡ Some n) (sym alike) e) in
-            subst (λ m. slice_get (texts ++ text ∷ []) m ≡ Some t) (sym is_last) (slice_get-last texts text ∙ ap Some alike)
+            subst (λ m. slice_get (texts ++ text ∷ []) m ≡ Some t) (sym is_last)
+            (slice_get-last texts text ∙ ap Some alike)
         | inr apart ↦ slice_get-pushed texts text t n (is.others_right n t (sym (kept t apart) ∙ e))
       ]
 
@@ -137,11 +158,14 @@ module _ (texts : List (List ℕ)) (mask : ℕ) (slots : List Slot) (others : Li
         abbrev after : List Slot
         after = slice_set slots (start_of mask (hash_of text) + free.0) new_slot
 
-        stays : (p : ℕ) (slot : Slot) → slice_get slots p ≡ Some slot → slot.number ≢ 4294967295 → slice_get after p ≡ Some slot
+        stays : (p : ℕ) (slot : Slot) → slice_get slots p ≡ Some slot → slot.number ≢ 4294967295
+            → slice_get after p ≡ Some slot
         stays p slot at taken = elim (cases_eq p (start_of mask (hash_of text) + free.0)) [
           | inl same ↦
-              let here : slice_get slots (start_of mask (hash_of text) + free.0) ≡ Some slot = subst (λ q. slice_get slots q ≡ Some slot) same at in
-              absurd (taken (ap (λ (s : Slot). s.number) (one_slot slots (start_of mask (hash_of text) + free.0) slot free.4 here free.5) ∙ free.6))
+              let here : slice_get slots (start_of mask (hash_of text) + free.0) ≡ Some slot =
+              subst (λ q. slice_get slots q ≡ Some slot) same at in
+              absurd (taken (ap (λ (s : Slot). s.number) (one_slot slots
+              (start_of mask (hash_of text) + free.0) slot free.4 here free.5) ∙ free.6))
           | inr apart ↦ slice_get-set_other slots (start_of mask (hash_of text) + free.0) p new_slot apart ∙ at
         ]
 
@@ -183,18 +207,26 @@ module _ (texts : List (List ℕ)) (mask : ℕ) (slots : List Slot) (others : Li
             right' : AreRight (texts ++ text ∷ []) after
             right' p slot at taken = elim (cases_eq p (start_of mask (hash_of text) + free.0)) [
               | inl same ↦
-                  let here : slice_get after p ≡ Some new_slot = subst (λ q. slice_get after q ≡ Some new_slot) (sym same)
-                  (slice_get-set_same slots (start_of mask (hash_of text) + free.0) new_slot (slice_get_within slots (start_of mask (hash_of text) + free.0) free.4 free.5)) in
-                  subst (IsRight (texts ++ text ∷ [])) (one_slot after p new_slot slot here at) (text, slice_get-last texts text, refl)
-              | inr apart ↦ right_more slot (is.right p slot (sym (slice_get-set_other slots (start_of mask (hash_of text) + free.0) p new_slot apart) ∙ at) taken)
+                  let here : slice_get after p ≡ Some new_slot =
+                  subst (λ q. slice_get after q ≡ Some new_slot) (sym same)
+                  (slice_get-set_same slots (start_of mask (hash_of text) + free.0) new_slot
+                  (slice_get_within slots (start_of mask (hash_of text) + free.0) free.4 free.5)) in
+                  subst (IsRight (texts ++ text ∷ [])) (one_slot after p new_slot slot here at)
+                  (text, slice_get-last texts text, refl)
+              | inr apart ↦ right_more slot (is.right p slot
+                  (sym (slice_get-set_other slots (start_of mask (hash_of text) + free.0) p new_slot apart) ∙ at) taken)
             ]
 
             found' : (n : ℕ) (t : List ℕ) → slice_get (texts ++ text ∷ []) n ≡ Some t
-                → IsProbed after (hash_of t) (start_of mask (hash_of t)) (Taken n) ⊎ (IsBlocked after (hash_of t) (start_of mask (hash_of t)) × (others' t ≡ Some n))
+                → IsProbed after (hash_of t) (start_of mask (hash_of t)) (Taken n)
+                ⊎ (IsBlocked after (hash_of t) (start_of mask (hash_of t)) × (others' t ≡ Some n))
             found' n t named = elim (slice_get-append texts text n t named) [
               | inl old ↦ elim (is.found n t old) [
                 | inl taken ↦ inl (taken_still (hash_of t) (start_of mask (hash_of t)) n taken)
-                | inr other ↦ inr (blocked_still (hash_of t) (start_of mask (hash_of t)) other.0, kept t (apart_old n t old) ∙ other.1)
+                | inr other ↦ inr (
+                  blocked_still (hash_of t) (start_of mask (hash_of t)) other.0,
+                  kept t (apart_old n t old) ∙ other.1,
+                )
               ]
               | inr last ↦
                   let some : n ≢ 4294967295 = λ e. let is_last = last.0 in omega (arith, is_last, e, below_max) in
@@ -204,7 +236,8 @@ module _ (texts : List (List ℕ)) (mask : ℕ) (slots : List Slot) (others : Li
                     passed_still (hash_of text) (start_of mask (hash_of text)) free.0 free.2,
                     some,
                     new_slot,
-                    slice_get-set_same slots (start_of mask (hash_of text) + free.0) new_slot (slice_get_within slots (start_of mask (hash_of text) + free.0) free.4 free.5),
+                    slice_get-set_same slots (start_of mask (hash_of text) + free.0) new_slot
+                        (slice_get_within slots (start_of mask (hash_of text) + free.0) free.4 free.5),
                     sym last.0,
                     refl,
                   ) in
@@ -212,7 +245,8 @@ module _ (texts : List (List ℕ)) (mask : ℕ) (slots : List Slot) (others : Li
             ]
 
       -- if its search ends at no free slot, the index stays valid when `others'` has the next number for the new `text`
-      pub index-full : IsBlocked slots (hash_of text) (start_of mask (hash_of text)) → others' text ≡ Some (length texts) → IsIndex (texts ++ text ∷ []) mask slots others'
+      pub index-full : IsBlocked slots (hash_of text) (start_of mask (hash_of text))
+          → others' text ≡ Some (length texts) → IsIndex (texts ++ text ∷ []) mask slots others'
       index-full blocked here = record {
         few = let more = length_push texts text in omega (arith, more, below_max);
         distinct = AreDistinct-append texts text is.distinct new;
@@ -223,21 +257,27 @@ module _ (texts : List (List ℕ)) (mask : ℕ) (slots : List Slot) (others : Li
       }
         where
           found' : (n : ℕ) (t : List ℕ) → slice_get (texts ++ text ∷ []) n ≡ Some t
-              → IsProbed slots (hash_of t) (start_of mask (hash_of t)) (Taken n) ⊎ (IsBlocked slots (hash_of t) (start_of mask (hash_of t)) × (others' t ≡ Some n))
+              → IsProbed slots (hash_of t) (start_of mask (hash_of t)) (Taken n)
+              ⊎ (IsBlocked slots (hash_of t) (start_of mask (hash_of t)) × (others' t ≡ Some n))
           found' n t named = elim (slice_get-append texts text n t named) [
             | inl old ↦ elim (is.found n t old) [
               | inl taken ↦ inl taken
               | inr other ↦ inr (other.0, kept t (apart_old n t old) ∙ other.1)
             ]
             | inr last ↦
-                inr (subst (λ u. IsBlocked slots (hash_of u) (start_of mask (hash_of u))) last.1 blocked, subst (λ u. others' u ≡ Some n) last.1 (here ∙ ap Some (sym last.0)))
+                inr (
+                  subst (λ u. IsBlocked slots (hash_of u) (start_of mask (hash_of u))) last.1 blocked,
+                  subst (λ u. others' u ≡ Some n) last.1 (here ∙ ap Some (sym last.0)),
+                )
           ]
 
 -- a text of a list of distinct texts does not occur before its index
-pub new-among : (texts : List (List ℕ)) (i : ℕ) (text : List ℕ) → AreDistinct texts → slice_get texts i ≡ Some text → id_of text (take i texts) ≡ None
+pub new-among : (texts : List (List ℕ)) (i : ℕ) (text : List ℕ) → AreDistinct texts → slice_get texts i ≡ Some text
+    → id_of text (take i texts) ≡ None
 new-among texts i text distinct at = none_has (take i texts) text never
   where
-    taken : {X : Type 0} (xs : List X) (i j : ℕ) (x : X) → slice_get (take i xs) j ≡ Some x → (j < i) × (slice_get xs j ≡ Some x)
+    taken : {X : Type 0} (xs : List X) (i j : ℕ) (x : X) → slice_get (take i xs) j ≡ Some x
+        → (j < i) × (slice_get xs j ≡ Some x)
     taken xs zero j x e = cc
     taken [] (suc i) j x e = cc
     taken (y ∷ xs) (suc i) zero x e = (omega arith, e)
@@ -250,14 +290,17 @@ new-among texts i text distinct at = none_has (take i texts) text never
         let same : n ≡ i = cc in
         absurd (omega (arith, same, before.0))
 
--- let the index be valid, with fewer than 4294967295 texts, and let the search for the new `text` end at no free slot. If
--- adding `text` to `others` returned `Ok`, the index with `text` is valid
-pub index-put : (texts : List (List ℕ)) (mask : ℕ) (slots : List Slot) (others : List ℕ → Option ℕ) (is : IsIndex texts mask slots others) (text : List ℕ) → length texts < 4294967295
-    → id_of text texts ≡ None → IsBlocked slots (hash_of text) (start_of mask (hash_of text)) → (others' : List ℕ → Option ℕ) → {A E : Type 0} (result : Result A E)
+-- let the index be valid, with fewer than 4294967295 texts, and let the search for the new `text` end at no free
+-- slot. If adding `text` to `others` returned `Ok`, the index with `text` is valid
+pub index-put : (texts : List (List ℕ)) (mask : ℕ) (slots : List Slot) (others : List ℕ → Option ℕ)
+    (is : IsIndex texts mask slots others) (text : List ℕ) → length texts < 4294967295
+    → id_of text texts ≡ None → IsBlocked slots (hash_of text) (start_of mask (hash_of text))
+    → (others' : List ℕ → Option ℕ) → {A E : Type 0} (result : Result A E)
     → ((t : List ℕ) → OnOk result (others' t ≡ cond (bytes_eq text t) (Some (length texts)) (others t)))
     → OnOk result (IsIndex (texts ++ text ∷ []) mask slots others')
 index-put texts mask slots others is text below_max new blocked others' (Ok x) now =
-    index-full texts mask slots others is text below_max new others' (λ t apart. now t ∙ ap (λ b. cond b (Some (length texts)) (others t)) apart) (λ n e. next n (sym here ∙ e)) blocked here
+    index-full texts mask slots others is text below_max new others' (λ t apart. now t
+    ∙ ap (λ b. cond b (Some (length texts)) (others t)) apart) (λ n e. next n (sym here ∙ e)) blocked here
   where
     here : others' text ≡ Some (length texts)
     here = now text ∙ ap (λ b. cond b (Some (length texts)) (others text)) (bytes_eq-refl text)
@@ -267,7 +310,8 @@ index-put texts mask slots others is text below_max new blocked others' (Ok x) n
 index-put texts mask slots others is text below_max new blocked others' (Err e) now = tt
 
 -- an index stays valid if the numbers of `others` stay
-pub index-kept : (texts : List (List ℕ)) (mask : ℕ) (slots : List Slot) (others others' : List ℕ → Option ℕ) → IsIndex texts mask slots others → {A E : Type 0} (result : Result A E)
+pub index-kept : (texts : List (List ℕ)) (mask : ℕ) (slots : List Slot) (others others' : List ℕ → Option ℕ)
+    → IsIndex texts mask slots others → {A E : Type 0} (result : Result A E)
     → ((t : List ℕ) → OnErr result (others' t ≡ others t)) → OnErr result (IsIndex texts mask slots others')
 index-kept texts mask slots others others' is (Ok x) now = tt
 index-kept texts mask slots others others' is (Err e) now = subst (IsIndex texts mask slots) (λ j t. sym (now t) j) is

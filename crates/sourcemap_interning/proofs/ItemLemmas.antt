@@ -1,5 +1,6 @@
 -- Items of a list by their indexes, also after one is set or appended.
-use Rattle.std.proofs.Common.{◌≡◌, ◌≢◌, refl, ap, ℕ, zero, suc, ◌+◌, ◌<◌, ◌⊎◌, inl, inr, List, [], ◌∷◌, ◌++◌, length, Some, arith, get_or, slice_get, slice_set, sym, ◌∙◌}
+use Rattle.std.proofs.Common.{◌≡◌, ◌≢◌, refl, ap, ℕ, zero, suc, ◌+◌, ◌<◌, ◌⊎◌, inl, inr, List, [], ◌∷◌, ◌++◌, length}
+use Rattle.std.proofs.Common.{Some, arith, get_or, slice_get, slice_set, sym, ◌∙◌}
 use Rattle.std.proofs.lemmas.Option.{slice_get-get_or}
 
 module _ {X : Type 0} where
@@ -32,4 +33,7 @@ pub below_or_last : (k n : ℕ) → k < n + 1 → (k < n) ⊎ (k ≡ n)
 below_or_last zero zero h = inr refl
 below_or_last zero (suc n) h = inl (omega arith)
 below_or_last (suc k) zero h = absurd (omega (arith, h))
-below_or_last (suc k) (suc n) h = elim (below_or_last k n (omega (arith, h))) [ inl l ↦ inl (omega (arith, l)) | inr e ↦ inr (ap suc e) ]
+below_or_last (suc k) (suc n) h = elim (below_or_last k n (omega (arith, h))) [
+  | inl l ↦ inl (omega (arith, l))
+  | inr e ↦ inr (ap suc e)
+]

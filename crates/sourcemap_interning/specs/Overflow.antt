@@ -23,4 +23,5 @@ number_by firsts rest texts text = option_or (matching_number texts text (firsts
 
 -- the number that an overflow has for a text; `texts` are the texts of the index
 abbrev pub number_among : {T : Type 0} → (T → List ℕ) → List (List ℕ) → Overflow T → List ℕ → Option ℕ
-number_among bytes texts overflow text = number_by (get nat_cmp overflow.firsts) (number_in_tree bytes overflow.rest) texts text
+number_among bytes texts overflow text =
+    number_by (get nat_cmp overflow.firsts) (number_in_tree bytes overflow.rest) texts text

@@ -26,16 +26,17 @@ IsPassed slots hash slot_index =
 abbrev pub ArePassed : List Slot → (hash start count : ℕ) → Type 0
 ArePassed slots hash start count = (k : ℕ) → k < count → IsPassed slots hash (start + k)
 
--- How a search for a hash ends. It reads at most 32 slots, from `start` on. It ends at the first slot that has no number
--- or has this hash: `Free` has the index of this slot, `Taken` its number. If all 32 slots exist and none is such a slot,
--- it ends with `Full`.
+-- How a search for a hash ends. It reads at most 32 slots, from `start` on. It ends at the first slot that has no
+-- number or has this hash: `Free` has the index of this slot, `Taken` its number. If all 32 slots exist and none is
+-- such a slot, it ends with `Full`.
 abbrev pub IsProbed : List Slot → (hash start : ℕ) → Probe → Type 0
 IsProbed slots hash start (Free slot_index) =
     (k : ℕ) × (k < 32) × ArePassed slots hash start k
     × (slot_index ≡ start + k) × (slot : Slot) × (slice_get slots (start + k) ≡ Some slot) × (slot.number ≡ 4294967295)
 IsProbed slots hash start (Taken number) =
     (k : ℕ) × (k < 32) × ArePassed slots hash start k
-    × (number ≢ 4294967295) × (slot : Slot) × (slice_get slots (start + k) ≡ Some slot) × (slot.number ≡ number) × (slot.hash ≡ hash)
+    × (number ≢ 4294967295) × (slot : Slot) × (slice_get slots (start + k) ≡ Some slot) × (slot.number ≡ number)
+    × (slot.hash ≡ hash)
 IsProbed slots hash start Full = ArePassed slots hash start 32
 
 -- a search for the hash ends at no free slot
@@ -49,12 +50,14 @@ IsRight texts slot = (text : List ℕ) × (slice_get texts slot.number ≡ Some 
 -- each taken slot has the number and the hash of one of the texts
 abbrev pub AreRight : List (List ℕ) → List Slot → Type 0
 AreRight texts slots =
-    (slot_index : ℕ) (slot : Slot) → slice_get slots slot_index ≡ Some slot → slot.number ≢ 4294967295 → IsRight texts slot
+    (slot_index : ℕ) (slot : Slot) → slice_get slots slot_index ≡ Some slot → slot.number ≢ 4294967295
+    → IsRight texts slot
 
 -- An index of texts. There are at most 4294967295 texts, all distinct, and `mask + 32` slots. Each taken slot has the
--- number and the hash of one of the texts. A search for a text starts at `start_of mask (hash_of text)`. For each text of `texts`, one of two cases holds. In the first case the search for
--- its hash ends at a slot with the number of the text. In the second case it ends at no free slot, and `others` has the
--- number of the text. Whenever `others` has a number for a text, `texts` has this text at this number.
+-- number and the hash of one of the texts. A search for a text starts at `start_of mask (hash_of text)`. For each
+-- text of `texts`, one of two cases holds. In the first case the search for its hash ends at a slot with the number
+-- of the text. In the second case it ends at no free slot, and `others` has the number of the text. Whenever `others`
+-- has a number for a text, `texts` has this text at this number.
 pub record IsIndex (texts : List (List ℕ)) (mask : ℕ) (slots : List Slot) (others : List ℕ → Option ℕ) : Type 0 where
   pub few : length texts ≤ 4294967295
   pub distinct : AreDistinct texts

@@ -1,5 +1,5 @@
-//! Texts get numbers in the order in which they first occur. For n texts this takes at most some
-//! n log n comparisons, even if the texts were constructed to have equal hashes.
+//! Numbers texts in the order in which they first occur, with at most some n log n comparisons for n
+//! texts, even if their hashes collide; knows nothing of maps.
 #![tactic(auto)]
 
 pub mod interner;

@@ -12,14 +12,14 @@ use std::collections::BTreeMap;
 use std::hash::{DefaultHasher, Hasher};
 
 // A text has no slot if an earlier text has the same hash, or if its 32 slots have other hashes.
-// Texts with equal hashes by `FoldHasher` are easy to construct. No way is known to construct many
-// texts that all have one SipHash. So a tree finds a text by its SipHash, and has no copy of the
-// text. A second tree, of texts, keeps the bound even if such texts are found.
+// Texts with equal hashes by `FoldHasher` are easy to construct. We know of no easy way to construct
+// many texts that all have one SipHash. So a tree finds a text by its SipHash, and has no copy of
+// the text. A second tree, of texts, keeps the bound even if such texts are found.
 #[derive(Drop)]
 pub(crate) struct Overflow<T: Text> {
-    // for each SipHash, the number of the first text that has it
+    // for each SipHash, the number of the first text without a slot that has it
     firsts: BTreeMap<u64, u32>,
-    // the numbers of all other texts: an earlier text has the same SipHash
+    // the numbers of all other texts: an earlier text without a slot has the same SipHash
     rest: BTreeMap<T, u32>,
 }
 

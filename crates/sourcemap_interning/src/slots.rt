@@ -1,6 +1,7 @@
 //! A hash table with open addressing. It finds the number of a text by the hash of the text. The
 //! texts are in a list beside the table.
-ghost use Rattle.std.specs.Prelude.{◌≡◌, ◌<◌, ◌≤◌, ◌+◌, ◌*◌, ◌++◌, ◌∷◌, ℕ, List, [], None, length, map, IfOk, IfSome, OnOk, OnErr};
+ghost use Rattle.std.specs.Prelude.{◌≡◌, ◌<◌, ◌≤◌, ◌+◌, ◌*◌, ◌++◌, ◌∷◌, ℕ, List, [], None, length, map, IfOk, IfSome};
+ghost use Rattle.std.specs.Prelude.{OnOk, OnErr};
 ghost use Rattle.sourcemap_interning.specs.Interner.{id_of};
 ghost use Rattle.sourcemap_interning.specs.Slots.{IsProbed, IsTable, hash_of, start_of};
 
@@ -65,9 +66,9 @@ impl<T: Text> NumberTable<T> {
         })
     }
 
-    // The mask of a larger table for `count` texts. `None` as long as the number of their hashes is
-    // at most half of the mask. Texts with one hash count once, since no table has slots for more of
-    // them. But a larger table has to enter all texts again. So its mask is at least a quarter of
+    // The mask of a larger table for `count` texts. `None` as long as the number of texts without
+    // the `collisions` is at most half of the mask: a collision has no slot in a larger table
+    // either. But a larger table has to enter all texts again. So its mask is at least a quarter of
     // `count`, and the table grows at most three times until the number of texts has doubled.
     pub(crate) fn larger_mask(&self, count: usize) -> Option<usize>
         requires { count ≤ 4294967295 }

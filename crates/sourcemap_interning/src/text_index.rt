@@ -1,5 +1,6 @@
 //! An index that assigns a number to each text, in the order in which the texts first occur.
-ghost use Rattle.std.specs.Prelude.{◌≡◌, ◌<◌, ◌≤◌, ◌++◌, ◌∷◌, [], None, Some, length, map, is_some, IfOk, OnOk, OnErr, IsOk, IsSome, IsOkUnless};
+ghost use Rattle.std.specs.Prelude.{◌≡◌, ◌<◌, ◌≤◌, ◌++◌, ◌∷◌, [], None, Some, length, map, is_some, IfOk, OnOk, OnErr};
+ghost use Rattle.std.specs.Prelude.{IsOk, IsSome, IsOkUnless};
 ghost use Rattle.sourcemap_interning.specs.Interner.{AreDistinct, id_of, with_text};
 ghost use Rattle.sourcemap_interning.specs.Slots.{hash_of};
 ghost use Rattle.sourcemap_errors.specs.declared.errors.Error.TheVariants.{OutOfMemory};
@@ -15,9 +16,9 @@ const FIRST_MASK: usize = 31;
 
 /// Texts that are numbered in the order in which they first occur. A search starts at the slot that
 /// the hash of the text selects. It reads at most 32 slots, and ends at the first slot that is free
-/// or has this hash. A text without a slot is found by its SipHash. If an earlier text has the same
-/// SipHash, it is found in a tree of texts. So n texts take at most some n log n comparisons, even
-/// if their hashes collide.
+/// or has this hash. A text without a slot is found by its SipHash. If an earlier text without a
+/// slot has the same SipHash, it is found in a tree of texts. So n texts take at most some n log n
+/// comparisons, even if their hashes collide.
 #[derive(Drop)]
 pub struct TextIndex<T: Text> {
     // the texts, by number

@@ -1,4 +1,4 @@
-pub use Rattle.sourcemap_detection.specs.Detection
+pub use Rattle.sourcemap_records.specs.Detection
 pub use Rattle.sourcemap_headers.specs.DataUrl
 pub use Rattle.sourcemap_headers.specs.DebugId
 pub use Rattle.sourcemap_headers.specs.Header

@@ -1,4 +1,5 @@
-//! Facade of JSON: re-exports records, junk headers, data URLs, detection and references.
+//! A facade of records, junk headers, data URLs, detection and references; knows nothing of the
+//! types of maps.
 #![tactic(auto)]
 
 pub mod decoder;

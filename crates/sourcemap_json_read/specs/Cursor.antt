@@ -8,7 +8,8 @@ use Rattle.serde_json.specs.Read.{number_of}
 use Rattle.serde_json.specs.View.{number_view}
 use Rattle.sourcemap_json_read.specs.Words.{IsWordAt}
 use Rattle.sourcemap_json_read.specs.declared.cursor.Step.{Step}
-use Rattle.sourcemap_json_read.specs.declared.cursor.Step.TheVariants.{BeginObject, EndObject, BeginArray, EndArray, Key, Text, Number, Bool, Null, End}
+use Rattle.sourcemap_json_read.specs.declared.cursor.Step.TheVariants.{BeginObject, EndObject, BeginArray, EndArray}
+use Rattle.sourcemap_json_read.specs.declared.cursor.Step.TheVariants.{Key, Text, Number, Bool, Null, End}
 use Rattle.sourcemap_json_read.specs.declared.cursor.State.{State}
 use Rattle.sourcemap_json_read.specs.declared.cursor.State.TheVariants.{Fresh, AfterValue, AfterComma}
 use Rattle.sourcemap_json_read.specs.declared.cursor.Position.{Position}
@@ -19,7 +20,10 @@ pub record Remaining : Type 0 where
   pub bytes : List ℕ
 
 abbrev pub remaining_code : Coded Remaining
-remaining_code = code_by (List token.Token × List ℕ) (coded× token.tokens_code (coded_list coded_ℕ)) (λ r. (r.tokens, r.bytes)) (λ p. record { tokens = p.0; bytes = p.1 }) (λ _. refl)
+remaining_code = code_by (List token.Token × List ℕ) (coded× token.tokens_code (coded_list coded_ℕ)) (λ r. (
+  r.tokens,
+  r.bytes,
+)) (λ p. record { tokens = p.0; bytes = p.1 }) (λ _. refl)
 
 -- the step is the first token of `old`, and `new` has the tokens after it. If the step is `End`, `old` and `new` have
 -- no tokens, and `new` has no bytes
@@ -30,7 +34,8 @@ Takes old BeginArray new = old.tokens ≡ token.begin_array ∷ new.tokens
 Takes old EndArray new = old.tokens ≡ token.end_array ∷ new.tokens
 Takes old (Key s) new = old.tokens ≡ token.key (string_bytes s) ∷ new.tokens
 Takes old (Text s) new = old.tokens ≡ token.string (string_bytes s) ∷ new.tokens
-Takes old (Number n) new = (digits : List ℕ) × (old.tokens ≡ token.number digits ∷ new.tokens) × (number_of digits ≡ Some (number_view n))
+Takes old (Number n) new =
+    (digits : List ℕ) × (old.tokens ≡ token.number digits ∷ new.tokens) × (number_of digits ≡ Some (number_view n))
 Takes old (Bool b) new = old.tokens ≡ token.boolean b ∷ new.tokens
 Takes old Null new = old.tokens ≡ token.null ∷ new.tokens
 Takes old End new = (old.tokens ≡ []) × (new.tokens ≡ []) × (new.bytes ≡ [])
@@ -54,12 +59,15 @@ IsStep text position step after = Takes (remaining_from text position) step (rem
 
 -- an opening bracket is allowed at `position`, and `after` is the position after its one byte
 abbrev pub Opens : Position → Position → Type 0
-Opens position after = (may_begin (grammar_state position.state) ≡ true) × (after ≡ record { at = position.at + 1; state = Fresh })
+Opens position after =
+    (may_begin (grammar_state position.state) ≡ true) × (after ≡ record { at = position.at + 1; state = Fresh })
 
 -- a closing bracket is allowed at `position`, and `after` is the position after its one byte
 abbrev pub Closes : Position → Position → Type 0
-Closes position after = (may_close (grammar_state position.state) ≡ true) × (after ≡ record { at = position.at + 1; state = AfterValue })
+Closes position after =
+    (may_close (grammar_state position.state) ≡ true) × (after ≡ record { at = position.at + 1; state = AfterValue })
 
 -- `word` is at `position` and is allowed there, and `after` is the position after the word
 abbrev pub PassesWord : List ℕ → Position → List ℕ → Position → Type 0
-PassesWord text position word after = (may_begin (grammar_state position.state) ≡ true) × IsWordAt text position.at word after.at × (after.state ≡ AfterValue)
+PassesWord text position word after = (may_begin (grammar_state position.state) ≡ true)
+    × IsWordAt text position.at word after.at × (after.state ≡ AfterValue)

@@ -37,4 +37,5 @@ pub record SpellsByte (text : List ℕ) (at byte : ℕ) : Type 0 where
 pub record SpellsUnit (text : List ℕ) (at unit : ℕ) : Type 0 where
   pub backslash : get_or text at 32 ≡ ascii.backslash
   pub letter : get_or text (at + 1) 32 ≡ ascii.lower_u
-  pub digits : code_unit (get_or text (at + 2) 32) (get_or text (at + 3) 32) (get_or text (at + 4) 32) (get_or text (at + 5) 32) ≡ Some unit
+  pub digits : code_unit (get_or text (at + 2) 32) (get_or text (at + 3) 32) (get_or text (at + 4) 32) (get_or text
+      (at + 5) 32) ≡ Some unit

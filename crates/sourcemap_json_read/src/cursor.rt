@@ -7,7 +7,8 @@ ghost use Rattle.json.specs.Ascii.{quote};
 ghost use Rattle.json.specs.Lex.{may_begin, may_close, tokens};
 ghost use Rattle.json.specs.Word.{head};
 ghost use Rattle.sourcemap_json_read.specs.declared.cursor.State.TheVariants.{AfterValue};
-ghost use Rattle.sourcemap_json_read.specs.Cursor.{Closes, IsStep, Opens, PassesWord, Takes, grammar_state, tokens_from};
+ghost use Rattle.sourcemap_json_read.specs.Cursor.{Closes, IsStep, Opens, PassesWord, Takes, grammar_state};
+ghost use Rattle.sourcemap_json_read.specs.Cursor.{tokens_from};
 ghost use Rattle.sourcemap_json_read.specs.Strings.{IsUtf8UpTo};
 
 use crate::bytes::{byte_at, skip_space};

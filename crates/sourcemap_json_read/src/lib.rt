@@ -1,4 +1,5 @@
-//! Reads JSON texts to JSON values, by a fast path for the forms that source maps are written in.
+//! Reads JSON texts to JSON values, with a fast path for the forms that source maps have; knows
+//! nothing of what the values mean.
 #![tactic(auto)]
 
 pub mod blocks;

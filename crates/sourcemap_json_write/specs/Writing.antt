@@ -6,7 +6,8 @@ use Rattle.json.specs.Print.{IsNumber}
 use Rattle.json.specs.Tree.{HasNumbers, ItemsHaveNumbers, MembersHaveNumbers}
 use Rattle.serde_json.specs.Data.{Num, Data, Items, Members, no_members}
 use Rattle.serde_json.specs.Read.{number_of, of_json, of_items, of_members}
-use Rattle.serde_json.specs.Written.{number_text, outline, items_outline, members_outline, compact_text, items_text, members_text}
+use Rattle.serde_json.specs.Written.{number_text, outline, items_outline, members_outline, compact_text, items_text}
+use Rattle.serde_json.specs.Written.{members_text}
 
 -- the text of a number is a JSON number, and reads back as this number
 abbrev pub IsPlainNumber : Num → Type 0
@@ -16,8 +17,10 @@ abbrev pub IsPlainValue : Data → Type 0
 IsPlainValue d = HasNumbers (outline d) × (of_json (outline d) ≡ Some d) × IsUtf8 (compact_text d)
 
 abbrev pub ArePlainItems : Items → Type 0
-ArePlainItems ds = ItemsHaveNumbers (items_outline ds) × (of_items (items_outline ds) ≡ Some ds) × ((later : Bool) → IsUtf8 (items_text later ds))
+ArePlainItems ds = ItemsHaveNumbers (items_outline ds) × (of_items (items_outline ds) ≡ Some ds) × ((later : Bool)
+    → IsUtf8 (items_text later ds))
 
 abbrev pub ArePlainMembers : Members → Type 0
 ArePlainMembers ms =
-    MembersHaveNumbers (members_outline ms) × (of_members (members_outline ms) no_members ≡ Some ms) × ((later : Bool) → IsUtf8 (members_text later ms))
+    MembersHaveNumbers (members_outline ms) × (of_members (members_outline ms) no_members ≡ Some ms)
+    × ((later : Bool) → IsUtf8 (members_text later ms))

@@ -1,4 +1,4 @@
-//! Writes JSON values as compact JSON texts.
+//! Writes JSON values as compact JSON texts; knows nothing of what the values mean.
 #![tactic(auto)]
 
 mod quoting;

@@ -1,5 +1,6 @@
 //! JSON values as compact JSON texts. `serde_json` writes the values that hold a float.
-ghost use Rattle.std.specs.Prelude.{◌≡◌, ◌≤◌, ◌++◌, ◌∷◌, [], Some, false, IfOk, OnOk, int_lt, pos, string_bytes, FitsSigned, IsUtf8};
+ghost use Rattle.std.specs.Prelude.{◌≡◌, ◌≤◌, ◌++◌, ◌∷◌, [], Some, false, IfOk, OnOk, int_lt, pos, string_bytes};
+ghost use Rattle.std.specs.Prelude.{FitsSigned, IsUtf8};
 ghost use Rattle.std.specs.Int.{w64};
 ghost use Rattle.json.specs.Ascii.{open_brace, open_bracket};
 ghost use Rattle.serde_json.specs.Data.{depth};

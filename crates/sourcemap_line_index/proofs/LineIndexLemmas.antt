@@ -1,5 +1,6 @@
 -- Binary searches: their window, and a bound for their comparisons.
-use Rattle.std.proofs.Common.{◌≡◌, sym, subst, ◌∙◌, ℕ, suc, ◌<◌, ◌≤◌, ◌+◌, ◌-◌, ◌*◌, ◌/◌, ◌^◌, arith, inl, inr, min, true, false, nat_lt, if◌then◌else◌}
+use Rattle.std.proofs.Common.{◌≡◌, sym, subst, ◌∙◌, ℕ, suc, ◌<◌, ◌≤◌, ◌+◌, ◌-◌, ◌*◌, ◌/◌, ◌^◌, arith, inl, inr, min}
+use Rattle.std.proofs.Common.{true, false, nat_lt, if◌then◌else◌}
 use Rattle.std.specs.Ordering.{nat_cmp, is_eq}
 use Rattle.std.proofs.Math.Nat.{pow-succ'}
 use Rattle.std.proofs.lemmas.Bool.{cases_eq, cases_lt}
@@ -24,7 +25,8 @@ saturated made next e = omega arith
 -- let `size` be above 0, and let `Remains most made size` hold. Let one more comparison leave `half` indices, at most
 -- half of `size`. Let `next`, the new number of comparisons, be `made + 1`, but at most 4294967295. Then the total will
 -- still be at most `most` comparisons (`Remains most next half`)
-pub Remains-half : (most made size next half : ℕ) → 0 < size → next ≡ min (made + 1) 4294967295 → half ≤ size / 2 → Remains most made size → Remains most next half
+pub Remains-half : (most made size next half : ℕ) → 0 < size → next ≡ min (made + 1) 4294967295 → half ≤ size / 2
+    → Remains most made size → Remains most next half
 Remains-half most made size next half some counted halved r =
     elim (cases_eq r.left 0) [
       | inl none ↦ let one : size < 2 ^ 0 = subst (λ k. size < 2 ^ k) none r.small in absurd (omega arith)
@@ -53,8 +55,10 @@ pub if_not_less : (a b n : ℕ) → b ≤ a → (if nat_lt a b then n else 0) �
 if_not_less a b n ge = grind (arith, nat_tests)
 
 -- the last number of the first half decides whether that half is skipped
-pub window_halved : (number : ℕ → ℕ) (key first index left end half rest skipped : ℕ) → 0 < left → half ≡ left / 2 → rest ≡ left - half → first ≤ index → Rises number first end → IsWindow number key first index left end
-    → skipped ≡ (if nat_lt (number (index + rest - 1)) key then rest else 0) → IsWindow number key first (index + skipped) half end
+pub window_halved : (number : ℕ → ℕ) (key first index left end half rest skipped : ℕ) → 0 < left → half ≡ left / 2
+    → rest ≡ left - half → first ≤ index → Rises number first end → IsWindow number key first index left end
+    → skipped ≡ (if nat_lt (number (index + rest - 1)) key then rest else 0)
+    → IsWindow number key first (index + skipped) half end
 window_halved number key first index left end half rest skipped some halved others low rises w is =
     elim (cases_lt (number (index + rest - 1)) key) [
       | inl l ↦
@@ -72,8 +76,10 @@ window_halved number key first index left end half rest skipped some halved othe
             from = λ m. elim (cases_eq half rest) [
               | inl even ↦
                   let next : index + rest - 1 + 1 ≡ index + half = omega arith in
-                  let up : number (index + rest - 1) ≤ number (index + rest - 1 + 1) = rises (index + rest - 1) (omega arith) (omega arith) in
-                  let up' : number (index + rest - 1) ≤ number (index + half) = subst (λ k. number (index + rest - 1) ≤ number k) next up in
+                  let up : number (index + rest - 1) ≤ number (index + rest - 1 + 1) =
+                  rises (index + rest - 1) (omega arith) (omega arith) in
+                  let up' : number (index + rest - 1) ≤ number (index + half) =
+                  subst (λ k. number (index + rest - 1) ≤ number k) next up in
                   omega arith
               | inr odd ↦
                   let here : index + rest - 1 ≡ index + half = omega arith in
@@ -91,10 +97,12 @@ skipped_at_most a b n skipped is =
     ]
 
 -- a saturated count does not fall
-pub raised_on : (old now next : ℕ) → min old 4294967295 ≤ now → next ≡ min (now + 1) 4294967295 → min old 4294967295 ≤ next
+pub raised_on : (old now next : ℕ) → min old 4294967295 ≤ now → next ≡ min (now + 1) 4294967295
+    → min old 4294967295 ≤ next
 raised_on old now next l e = omega arith
 
-pub raised_once : (old now next : ℕ) → min old 4294967295 ≤ now → next ≡ min (now + 1) 4294967295 → min (old + 1) 4294967295 ≤ next
+pub raised_once : (old now next : ℕ) → min old 4294967295 ≤ now → next ≡ min (now + 1) 4294967295
+    → min (old + 1) 4294967295 ≤ next
 raised_once old now next l e = omega arith
 
 -- what the result of comparing `p` with `x` says about `p` and `x`

@@ -55,12 +55,17 @@ tokens_decide = pointwise_decides raw_decides
 
 -- let `r` and `s` each be `None`, or a pair of an index and the token at this index of `tokens`. If `r` and `s` have
 -- the same index, or both are `None`, then `r` equals `s`
-one_at_index : (tokens : List RawToken) (r s : Option (ℕ × RawToken)) → option_map (λ found. found.0) r ≡ option_map (λ found. found.0) s → IfSome r (λ found. slice_get tokens found.0 ≡ Some found.1) → IfSome s (λ found. slice_get tokens found.0 ≡ Some found.1) → r ≡ s
+one_at_index : (tokens : List RawToken) (r s : Option (ℕ × RawToken))
+    → option_map (λ found. found.0) r ≡ option_map (λ found. found.0) s → IfSome r (λ found. slice_get tokens found.0
+    ≡ Some found.1) → IfSome s (λ found. slice_get tokens found.0 ≡ Some found.1) → r ≡ s
 one_at_index tokens None None e own own' = refl
 one_at_index tokens None (Some s) e own own' = cc
 one_at_index tokens (Some r) None e own own' = cc
 one_at_index tokens (Some (i, t)) (Some (j, u)) e own own' = cc
 
 -- the token at the index of the closest token is the closest token
-pub closest_from_index : (tokens : List RawToken) (p : ℕ × ℕ) (r : Option (ℕ × RawToken)) → option_map (λ found. found.0) r ≡ option_map (λ found. found.0) (closest_token tokens p) → IfSome r (λ found. slice_get tokens found.0 ≡ Some found.1) → r ≡ closest_token tokens p
-closest_from_index tokens p r e own = one_at_index tokens r (closest_token tokens p) e own (index-closest destination position_cmp tokens p)
+pub closest_from_index : (tokens : List RawToken) (p : ℕ × ℕ) (r : Option (ℕ × RawToken))
+    → option_map (λ found. found.0) r ≡ option_map (λ found. found.0) (closest_token tokens p)
+    → IfSome r (λ found. slice_get tokens found.0 ≡ Some found.1) → r ≡ closest_token tokens p
+closest_from_index tokens p r e own =
+    one_at_index tokens r (closest_token tokens p) e own (index-closest destination position_cmp tokens p)

@@ -1,5 +1,6 @@
 -- The table of the lines that hold tokens, and the number of binary digits of a natural number.
-use Rattle.std.specs.Prelude.{◌≡◌, ℕ, zero, suc, ◌<◌, ◌≤◌, ◌+◌, ◌-◌, ◌/◌, ◌==◌, if◌then◌else◌, ◌≢◌, List, [], ◌∷◌, ◌++◌, Option, Some, length, option_map, slice_get, slice_index, slice_index_or}
+use Rattle.std.specs.Prelude.{◌≡◌, ℕ, zero, suc, ◌<◌, ◌≤◌, ◌+◌, ◌-◌, ◌/◌, ◌==◌, if◌then◌else◌, ◌≢◌, List, [], ◌∷◌, ◌++◌}
+use Rattle.std.specs.Prelude.{Option, Some, length, option_map, slice_get, slice_index, slice_index_or}
 use Rattle.sourcemap_tokens.specs.Tokens.{AreInOrder}
 use Rattle.sourcemap_tokens.specs.declared.tokens.RawToken.{RawToken}
 

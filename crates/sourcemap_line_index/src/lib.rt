@@ -1,4 +1,5 @@
-//! Lookup of the closest token through a table of lines, with its comparisons counted.
+//! Finds the closest token through a table of lines and counts the comparisons; knows nothing of the
+//! map of the tokens.
 #![tactic(auto)]
 
 pub mod line_index;

@@ -1,10 +1,12 @@
 //! A table of the lines that hold tokens, and the lookup that uses it.
-ghost use Rattle.std.specs.Prelude.{◌≡◌, ℕ, ◌<◌, ◌≤◌, ◌+◌, ◌-◌, ◌*◌, ◌^◌, Ok, IfErr, IfOk, IfSome, false, length, min, option_map, slice_index, true};
+ghost use Rattle.std.specs.Prelude.{◌≡◌, ℕ, ◌<◌, ◌≤◌, ◌+◌, ◌-◌, ◌*◌, ◌^◌, Ok, IfErr, IfOk, IfSome, false, length, min};
+ghost use Rattle.std.specs.Prelude.{option_map, slice_index, true};
 ghost use Rattle.sourcemap_errors.specs.Answer.{Changes, Gives};
 ghost use Rattle.sourcemap_errors.specs.declared.errors.Error.TheVariants.{OutOfMemory};
 ghost use Rattle.sourcemap_tokens.specs.Tokens.{AreInOrder, closest_token};
 ghost use Rattle.sourcemap_tokens.specs.declared.tokens.RawToken.{RawToken};
-ghost use Rattle.sourcemap_line_index.specs.LineIndex.{BeginsLine, ContinuesLine, IsTableOf, IsSpan, Rises, binary_digits, no_rows, with_row};
+ghost use Rattle.sourcemap_line_index.specs.LineIndex.{BeginsLine, ContinuesLine, IsTableOf, IsSpan, Rises};
+ghost use Rattle.sourcemap_line_index.specs.LineIndex.{binary_digits, no_rows, with_row};
 ghost use Rattle.sourcemap_line_index.specs.Samples.{AreSamples};
 
 use crate::probe::Probe;

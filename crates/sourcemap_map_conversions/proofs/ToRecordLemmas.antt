@@ -14,6 +14,7 @@ some-text_view : (o : Option (String Global)) → is_some (text_view o) ≡ is_s
 some-text_view None = refl
 some-text_view (Some s) = refl
 
-pub list_any-text_view : (contents : List (Option (String Global))) → list_any is_some (map text_view contents) ≡ list_any is_some contents
+pub list_any-text_view : (contents : List (Option (String Global)))
+    → list_any is_some (map text_view contents) ≡ list_any is_some contents
 list_any-text_view [] = refl
 list_any-text_view (o ∷ os) = rw (some-text_view o, list_any-text_view os)

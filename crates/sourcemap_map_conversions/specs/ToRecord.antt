@@ -1,5 +1,6 @@
 -- Writing the parts of a map: the resulting record.
-use Rattle.std.specs.Prelude.{◌≡◌, ℕ, ◌<◌, ◌^◌, List, length, map, is_some, Option, Some, None, option_map, if◌then◌else◌, ◌==◌, Result, Ok, Err}
+use Rattle.std.specs.Prelude.{◌≡◌, ℕ, ◌<◌, ◌^◌, List, length, map, is_some, Option, Some, None, option_map}
+use Rattle.std.specs.Prelude.{if◌then◌else◌, ◌==◌, Result, Ok, Err}
 use Rattle.std.specs.List.{list_any}
 use Rattle.serde_json.specs.Data.{string}
 use Rattle.sourcemap_errors.specs.declared.errors.Error.{Error}
@@ -29,7 +30,8 @@ pub record AreTextsOf (names : ℕ) (tokens : List RawToken) (mappings : List �
   pub text : IsWritten names tokens mappings
   pub bits : IsRangeText tokens ranges
   pub back : (sources : ℕ) → sources < 2 ^ 32 → AllWithin sources names tokens
-      → MappingsAnswer mappings (list_or_empty ranges) (record { sources = sources; names = names }) (Ok (reduced names tokens))
+      → MappingsAnswer mappings (list_or_empty ranges) (record { sources = sources; names = names })
+      (Ok (reduced names tokens))
 
 -- the record of these parts, with the text `mappings` as its field `mappings`, and `ranges` as its field
 -- `rangeMappings`. The tokens of the parts are not used

@@ -1,5 +1,6 @@
 -- The steps of writing the parts of a map as a record.
-use Rattle.std.specs.Prelude.{◌≡◌, ℕ, List, [], length, map, Option, Some, None, option_map, string_bytes, if◌then◌else◌, is_some}
+use Rattle.std.specs.Prelude.{◌≡◌, ℕ, List, [], length, map, Option, Some, None, option_map, string_bytes}
+use Rattle.std.specs.Prelude.{if◌then◌else◌, is_some}
 use Rattle.std.specs.List.{list_any}
 use Rattle.serde_json.specs.View.{view}
 use Rattle.serde_json.specs.Data.{string}
@@ -31,7 +32,8 @@ others_view others = record {
 -- `lists` holds these names, sources, contents and ignored ids, converted for a record. Names become JSON strings, and
 -- each source becomes `Some`. The list of contents is shortened or padded with `None` to the number of sources
 -- (`fitted`). The ids are unchanged
-pub record AreListsOf (name_texts source_texts : List (List ℕ)) (content_texts : List (Option (List ℕ))) (ignored : List ℕ) (lists : WrittenLists) : Type 0 where
+pub record AreListsOf (name_texts source_texts : List (List ℕ)) (content_texts : List (Option (List ℕ)))
+    (ignored : List ℕ) (lists : WrittenLists) : Type 0 where
   pub names : map view lists.names.items ≡ map string name_texts
   pub sources : map text_view lists.sources.items ≡ map Some source_texts
   pub contents : map text_view lists.contents.items ≡ fitted (length source_texts) content_texts

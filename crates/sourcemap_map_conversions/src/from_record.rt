@@ -1,5 +1,6 @@
 //! Reads a JSON record as the parts of a regular map.
-ghost use Rattle.std.specs.Prelude.{◌≡◌, ◌≤◌, Ok, Result, List, IfOk, IsTrue, ◌↔◌, length, map, option_map, string_bytes, vec_len};
+ghost use Rattle.std.specs.Prelude.{◌≡◌, ◌≤◌, Ok, Result, List, IfOk, IsTrue, ◌↔◌, length, map, option_map};
+ghost use Rattle.std.specs.Prelude.{string_bytes, vec_len};
 ghost use Rattle.serde_json.specs.View.{view, number_view};
 ghost use Rattle.sourcemap_errors.specs.Answer.{IsAnswer, Gives};
 ghost use Rattle.sourcemap_tokens.specs.Tokens.{AllWithin, AreInOrder};
@@ -7,8 +8,10 @@ ghost use Rattle.sourcemap_mappings.specs.Read.{MappingsAnswer};
 ghost use Rattle.sourcemap_records.specs.Jsontypes.{tree, flat, text_view};
 ghost use Rattle.sourcemap_texts.specs.Texts.{texts_of};
 ghost use Rattle.sourcemap_map_conversions.specs.Parts.{parts_view};
-ghost use Rattle.sourcemap_map_conversions.specs.FromRecord.{PartsAnswer, rising, name_read, number_read, file_read, source_read};
-ghost use Rattle.sourcemap_map_conversions.specs.FromRecordSteps.{ArePartsIn, HaveFewItems, metadata_read, sources_read, parts_read};
+ghost use Rattle.sourcemap_map_conversions.specs.FromRecord.{PartsAnswer, rising, name_read, number_read, file_read};
+ghost use Rattle.sourcemap_map_conversions.specs.FromRecord.{source_read};
+ghost use Rattle.sourcemap_map_conversions.specs.FromRecordSteps.{ArePartsIn, HaveFewItems, metadata_read};
+ghost use Rattle.sourcemap_map_conversions.specs.FromRecordSteps.{sources_read, parts_read};
 
 use crate::parts::Parts;
 use serde_json::{Number, Value};

@@ -1,5 +1,6 @@
 //! Writes the parts of a map as a JSON record.
-ghost use Rattle.std.specs.Prelude.{◌≡◌, ◌≤◌, ◌^◌, Ok, Some, IfOk, IfErr, IfSome, is_some, length, map, option_map, string_bytes, vec_len};
+ghost use Rattle.std.specs.Prelude.{◌≡◌, ◌≤◌, ◌^◌, Ok, Some, IfOk, IfErr, IfSome, is_some, length, map, option_map};
+ghost use Rattle.std.specs.Prelude.{string_bytes, vec_len};
 ghost use Rattle.std.specs.Ordering.{nat_cmp};
 ghost use Rattle.std.specs.List.Sorted.{IsStrictlySortedBy};
 ghost use Rattle.std.specs.List.{list_any, AllByRecursion};
@@ -14,7 +15,8 @@ ghost use Rattle.sourcemap_texts.specs.Texts.{texts_of, contents_in};
 ghost use Rattle.sourcemap_map_parts.specs.Contents.{fitted};
 ghost use Rattle.sourcemap_map_conversions.specs.Parts.{parts_view};
 ghost use Rattle.sourcemap_map_conversions.specs.ToRecord.{RecordAnswer, record_with, written_ids};
-ghost use Rattle.sourcemap_map_conversions.specs.ToRecordSteps.{AreWritten, AreListsOf, others_view, record_of_parts, some_contents};
+ghost use Rattle.sourcemap_map_conversions.specs.ToRecordSteps.{AreWritten, AreListsOf, others_view, record_of_parts};
+ghost use Rattle.sourcemap_map_conversions.specs.ToRecordSteps.{some_contents};
 
 use crate::parts::Parts;
 use serde_json::Value;

@@ -1,27 +1,20 @@
 -- Composing consecutive writes.
-use Rattle.std.proofs.Common.{OnOk, Result, Ok, Err, ◌≡◌, ℕ, ◌+◌, suc, zero, List, [], ◌∷◌, ◌++◌, Option, Some, None, replicate, sym, ap, subst, ◌∙◌, append_assoc, append-nil, zero-add, refl, arith}
+use Rattle.std.proofs.Common.{OnOk, Result, Ok, Err, ◌≡◌, ℕ, ◌+◌, suc, zero, List, [], ◌∷◌, ◌++◌, Option, Some, None}
+use Rattle.std.proofs.Common.{replicate, sym, ap, subst, ◌∙◌, append_assoc, append-nil, zero-add, refl, arith}
 use Rattle.std.specs.Io.KnownBytes.{Appends, append_known}
+use Rattle.std.proofs.KnownBytes.{Appends-nil, Appends-trans}
 use Rattle.sourcemap_map_encode.specs.Buffered.{Grows}
-
-pub Appends-none : (known : Option (List ℕ)) → Appends known known []
-Appends-none None = tt
-Appends-none (Some xs) = sym (append-nil xs)
-
-pub Appends-join : (a b c : Option (List ℕ)) (s t : List ℕ) → Appends a b s → Appends b c t → Appends a c (s ++ t)
-Appends-join None b c s t x y = tt
-Appends-join (Some xs) None c s t x y = absurd x
-Appends-join (Some xs) (Some ys) None s t x y = absurd y
-Appends-join (Some xs) (Some ys) (Some zs) s t x y = y ∙ ap (λ r. r ++ t) x ∙ append_assoc xs s t
 
 pub append_known-none : (known : Option (List ℕ)) → append_known known [] ≡ known
 append_known-none None = refl
 append_known-none (Some xs) = ap Some (append-nil xs)
 
 pub Grows-none : (held : Option (List ℕ)) (gathered : List ℕ) → Grows held gathered held gathered []
-Grows-none held gathered = Appends-none (append_known held gathered)
+Grows-none held gathered = Appends-nil (append_known held gathered)
 
-pub Grows-join : (h i j : Option (List ℕ)) (a b c s t : List ℕ) → Grows h a i b s → Grows i b j c t → Grows h a j c (s ++ t)
-Grows-join h i j a b c s t x y = Appends-join (append_known h a) (append_known i b) (append_known j c) s t x y
+pub Grows-join : (h i j : Option (List ℕ)) (a b c s t : List ℕ) → Grows h a i b s → Grows i b j c t
+    → Grows h a j c (s ++ t)
+Grows-join h i j a b c s t x y = Appends-trans (append_known h a) (append_known i b) (append_known j c) s t x y
 
 -- if `text` is appended to the buffer `a` and the writer does not change, both together grow by `text`
 pub Grows-push : (held : Option (List ℕ)) (a text : List ℕ) → Grows held a held (a ++ text) text
@@ -46,8 +39,10 @@ OnOk-then (Ok x) P Q f p = f p
 OnOk-then (Err e) P Q f p = tt
 
 -- if a write adds `text` and a flush then adds nothing, both steps together add `text`
-pub Grows-flushed : (h i j : Option (List ℕ)) (a b c text : List ℕ) → Grows h a i b text → Grows i b j c [] → Grows h a j c text
-Grows-flushed h i j a b c text x y = subst (λ (t : List ℕ). Grows h a j c t) (append-nil text) (Grows-join h i j a b c text [] x y)
+pub Grows-flushed : (h i j : Option (List ℕ)) (a b c text : List ℕ) → Grows h a i b text → Grows i b j c []
+    → Grows h a j c text
+Grows-flushed h i j a b c text x y =
+    subst (λ (t : List ℕ). Grows h a j c t) (append-nil text) (Grows-join h i j a b c text [] x y)
 
 -- as `Grows-push`, for a new buffer `b` that equals `a ++ text`
 pub Grows-into : (held : Option (List ℕ)) (a b text : List ℕ) → b ≡ a ++ text → Grows held a held b text
@@ -59,7 +54,8 @@ OnOk-any (Err e) P p = tt
 
 -- if the writer and the buffer together grow by `s`, then by `t`, and then by `u`, the three steps together append `s
 -- ++ (t ++ (u ++ []))`. `parts_text` joins the texts of three entries in this form
-pub Grows-three : (h i j k : Option (List ℕ)) (a b c d s t u : List ℕ) → Grows h a i b s → Grows i b j c t → Grows j c k d u → Grows h a k d (s ++ (t ++ (u ++ [])))
+pub Grows-three : (h i j k : Option (List ℕ)) (a b c d s t u : List ℕ) → Grows h a i b s → Grows i b j c t
+    → Grows j c k d u → Grows h a k d (s ++ (t ++ (u ++ [])))
 Grows-three h i j k a b c d s t u x y z =
     subst (λ (r : List ℕ). Grows h a k d (s ++ (t ++ r))) (sym (append-nil u))
     (Grows-join h i k a b d s (t ++ u) x (Grows-join i j k b c d t u y z))
@@ -71,6 +67,7 @@ Grows-bare h i b text empty x =
     subst (λ (known : Option (List ℕ)). Appends known i text) (append_known-none h)
     (subst (λ (known : Option (List ℕ)). Appends (append_known h []) known text) (append_known-none i) none)
 
-pub OnOk-both : {T E : Type 0} (result : Result T E) (P Q R : Type 0) → (P → Q → R) → OnOk result P → OnOk result Q → OnOk result R
+pub OnOk-both : {T E : Type 0} (result : Result T E) (P Q R : Type 0) → (P → Q → R) → OnOk result P → OnOk result Q
+    → OnOk result R
 OnOk-both (Ok x) P Q R f p q = f p q
 OnOk-both (Err e) P Q R f p q = tt

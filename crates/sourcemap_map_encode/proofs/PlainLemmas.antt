@@ -1,5 +1,6 @@
 -- VLQ digits, `,` and `;` need no escapes in JSON.
-use Rattle.std.proofs.Common.{◌≡◌, ℕ, ◌<◌, suc, zero, List, [], ◌∷◌, ◌++◌, ℤ, Bool, true, false, not, ◌&&◌, nat_lt, cond, Option, Some, None, is_none, replicate, refl, sym, ap, subst, ◌∙◌, arith}
+use Rattle.std.proofs.Common.{◌≡◌, ℕ, ◌<◌, suc, zero, List, [], ◌∷◌, ◌++◌, ℤ, Bool, true, false, not, ◌&&◌, nat_lt}
+use Rattle.std.proofs.Common.{cond, Option, Some, None, is_none, replicate, refl, sym, ap, subst, ◌∙◌, arith}
 use Rattle.std.specs.List.{AllByRecursion}
 use Rattle.std.specs.Str.{IsUtf8}
 use Rattle.std.proofs.lemmas.Bool.{agree_below_at}
@@ -46,7 +47,8 @@ pub spells-plain : (numbers : List ℤ) (text : List ℕ) → Spells numbers tex
 spells-plain [] text spelled = subst IsPlainText (sym spelled) tt
 spells-plain (n ∷ ns) text spelled =
     subst IsPlainText (sym spelled.3)
-    (plain-append spelled.0 spelled.1 (chain-plain spelled.0 spelled.2.is_group.chain) (spells-plain ns spelled.1 spelled.4))
+    (plain-append spelled.0 spelled.1 (chain-plain spelled.0 spelled.2.is_group.chain)
+    (spells-plain ns spelled.1 spelled.4))
 
 pub ends-plain : (n : ℕ) → IsPlainText (replicate n semicolon)
 unfolding stays
@@ -61,13 +63,15 @@ found : (c : ℕ) (o : Option ℕ) → digit_value c ≡ o → is_none o ≡ fal
 found c None e some = cc
 found c (Some v) e some = digit-plain c v e
 
-first_plain : (c : ℕ) (rest : Option ℕ) (P : Type 0) (b : Bool) → is_none (digit_value c) ≡ b → cond b (Some c) rest ≡ None → (rest ≡ None → P) → IsPlainByte c × P
+first_plain : (c : ℕ) (rest : Option ℕ) (P : Type 0) (b : Bool) → is_none (digit_value c) ≡ b
+    → cond b (Some c) rest ≡ None → (rest ≡ None → P) → IsPlainByte c × P
 first_plain c rest P true is e more = absurd cc
 first_plain c rest P false is e more = (found c (digit_value c) refl is, more e)
 
 digits-plain : (text : List ℕ) → first_non_digit text ≡ None → IsPlainText text
 digits-plain [] e = tt
-digits-plain (c ∷ cs) e = first_plain c (first_non_digit cs) (IsPlainText cs) (is_none (digit_value c)) refl e (λ rest. digits-plain cs rest)
+digits-plain (c ∷ cs) e =
+    first_plain c (first_non_digit cs) (IsPlainText cs) (is_none (digit_value c)) refl e (λ rest. digits-plain cs rest)
 
 pub bits-plain : (flags : List Bool) (bits : List ℕ) → IsBitText flags bits → IsPlainText bits
 bits-plain flags bits is = digits-plain bits is.digits

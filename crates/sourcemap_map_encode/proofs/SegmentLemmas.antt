@@ -1,5 +1,6 @@
 -- Mappings and range bits, written piece by piece.
-use Rattle.std.proofs.Common.{◌≡◌, ℕ, ◌-◌, ◌<◌, ◌≤◌, ◌^◌, Bool, true, false, cond, List, [], ◌∷◌, ◌++◌, ℤ, Option, Some, None, replicate, refl, sym, ap, subst, ◌∙◌, append_assoc, append-nil}
+use Rattle.std.proofs.Common.{◌≡◌, ℕ, ◌-◌, ◌<◌, ◌≤◌, ◌^◌, Bool, true, false, cond, List, [], ◌∷◌, ◌++◌, ℤ, Option, Some}
+use Rattle.std.proofs.Common.{None, replicate, refl, sym, ap, subst, ◌∙◌, append_assoc, append-nil}
 use Rattle.sourcemap_vlq.specs.Bits.{IsBitText}
 use Rattle.sourcemap_tokens.specs.declared.tokens.RawToken.{RawToken}
 use Rattle.sourcemap_mappings.specs.Buffer.{Adds}
@@ -10,7 +11,8 @@ use Rattle.sourcemap_mappings.proofs.WriteSegments.{Writing, Writing-none, Writi
 use Rattle.sourcemap_mappings.proofs.WriteReadBack.{reads_back}
 use Rattle.sourcemap_mappings.proofs.WriteSums.{IsSmall}
 use Rattle.sourcemap_mappings.proofs.WriteTokens.{UpTo}
-use Rattle.sourcemap_mappings.proofs.WriteRanges.{Ranging, Ranging-none, Ranging-turn, Ranging-repeat, Ranging-more, Ranging-end}
+use Rattle.sourcemap_mappings.proofs.WriteRanges.{Ranging, Ranging-none, Ranging-turn, Ranging-repeat, Ranging-more}
+use Rattle.sourcemap_mappings.proofs.WriteRanges.{Ranging-end}
 use Rattle.sourcemap_mappings.proofs.WriteWalk.{Walked, all_lines}
 use Rattle.sourcemap_tokens.specs.Tokens.{AreInOrder, without_repeats}
 use Rattle.json.specs.Print.{quoted}
@@ -19,7 +21,8 @@ use Rattle.sourcemap_map_encode.specs.Members.{key_text, part}
 use Rattle.sourcemap_map_encode.specs.Buffered.{Grows, GrowsBy}
 use Rattle.sourcemap_map_encode.specs.Segments.{IsPlainText, IsMappingsText, IsBitsText, IsLineOfBits}
 use Rattle.sourcemap_map_encode.proofs.BufferedLemmas.{Grows-none, Grows-join, Grows-into, Grows-flushed}
-use Rattle.sourcemap_map_encode.proofs.PlainLemmas.{plain-append, plain-escape, spells-plain, ends-plain, comma-plain, bits-plain}
+use Rattle.sourcemap_map_encode.proofs.PlainLemmas.{plain-append, plain-escape, spells-plain, ends-plain, comma-plain}
+use Rattle.sourcemap_map_encode.proofs.PlainLemmas.{bits-plain}
 
 gap-plain : (previous : Option RawToken) (line : ℕ) (t : RawToken) → IsPlainText (gap previous line t)
 gap-plain previous line t = by (follows previous t)
@@ -35,17 +38,20 @@ pub token-grown : (h i j : Option (List ℕ)) (a b c d between : List ℕ) (ns :
 token-grown h i j a b c d between ns x adds y = (
   between ++ adds.digits,
   record { digits = adds.digits; spelled = adds.spelled; added = refl },
-  Grows-flushed h i j a c d (between ++ adds.digits) (Grows-join h i i a b c between adds.digits x (Grows-into i b c adds.digits adds.added)) y,
+  Grows-flushed h i j a c d (between ++ adds.digits)
+      (Grows-join h i i a b c between adds.digits x (Grows-into i b c adds.digits adds.added)) y,
 )
 
 -- the mappings written so far
-pub record Written (names : ℕ) (done : List RawToken) (previous : Option RawToken) (against : RawToken) (text : List ℕ) : Type 0 where
+pub record Written (names : ℕ) (done : List RawToken) (previous : Option RawToken) (against : RawToken)
+    (text : List ℕ) : Type 0 where
   pub writing : Writing names done previous against text
   pub is_plain : IsPlainText text
 
 -- let `t` be small (`IsSmall`), not repeat `previous`, and be on the line of `against` or on a later line. The mappings
 -- of `done`, followed by the separators and the segment of `t`, are the mappings of `done ++ t ∷ []`
-pub token-put : (names : ℕ) (done : List RawToken) (previous : Option RawToken) (against : RawToken) (t : RawToken) (h i j : Option (List ℕ)) (a b c : List ℕ)
+pub token-put : (names : ℕ) (done : List RawToken) (previous : Option RawToken) (against : RawToken) (t : RawToken)
+    (h i j : Option (List ℕ)) (a b c : List ℕ)
     → repeats previous t ≡ false → against.dst_line ≤ t.dst_line → IsSmall t
     → GrowsBy (Written names done previous against) h a i b
     → GrowsBy (Adds (numbers names (at_line against t.dst_line) t) (gap previous against.dst_line t)) i b j c
@@ -57,24 +63,37 @@ token-put names done previous against t h i j a b c new down small (text, w, x) 
         (record {
           digits = adds.digits;
           spelled = adds.spelled;
-          added = ap (λ r. text ++ r) adds.added ∙ sym (append_assoc text (gap previous against.dst_line t) adds.digits);
+          added =
+              ap (λ r. text ++ r) adds.added ∙ sym (append_assoc text (gap previous against.dst_line t) adds.digits);
         })
         small w.writing;
     is_plain = plain-append text more w.is_plain
-        (subst IsPlainText (sym adds.added) (plain-append (gap previous against.dst_line t) adds.digits (gap-plain previous against.dst_line t) (spells-plain (numbers names (at_line against t.dst_line) t) adds.digits adds.spelled)));
+        (subst IsPlainText (sym adds.added)
+        (plain-append (gap previous against.dst_line t) adds.digits (gap-plain previous against.dst_line t)
+        (spells-plain (numbers names (at_line against t.dst_line) t) adds.digits adds.spelled)));
   },
   Grows-join h i j a b c text more x y,
 )
 
-pub none-put : (names : ℕ) (held : Option (List ℕ)) (gathered : List ℕ) → GrowsBy (Written names [] None (base 0 0 [])) held gathered held gathered
+pub none-put : (names : ℕ) (held : Option (List ℕ)) (gathered : List ℕ)
+    → GrowsBy (Written names [] None (base 0 0 [])) held gathered held gathered
 none-put names held gathered = ([], record { writing = Writing-none names; is_plain = tt }, Grows-none held gathered)
 
-pub repeat-put : (names : ℕ) (done : List RawToken) (previous : Option RawToken) (against : RawToken) (t : RawToken) (h i : Option (List ℕ)) (a b : List ℕ)
-    → repeats previous t ≡ true → GrowsBy (Written names done previous against) h a i b → GrowsBy (Written names (done ++ t ∷ []) (Some t) against) h a i b
-repeat-put names done previous against t h i a b again (text, w, x) =
-    (text, record { writing = Writing-repeat names done previous against text t again w.writing; is_plain = w.is_plain }, x)
+pub repeat-put : (names : ℕ) (done : List RawToken) (previous : Option RawToken) (against : RawToken) (t : RawToken)
+    (h i : Option (List ℕ)) (a b : List ℕ)
+    → repeats previous t ≡ true → GrowsBy (Written names done previous against) h a i b
+    → GrowsBy (Written names (done ++ t ∷ []) (Some t) against) h a i b
+repeat-put names done previous against t h i a b again (text, w, x) = (
+  text,
+  record {
+    writing = Writing-repeat names done previous against text t again w.writing;
+    is_plain = w.is_plain;
+  },
+  x,
+)
 
-pub put-carried : (names : ℕ) (done more : List RawToken) (previous : Option RawToken) (against other : RawToken) (h i j : Option (List ℕ)) (a b c : List ℕ)
+pub put-carried : (names : ℕ) (done more : List RawToken) (previous : Option RawToken) (against other : RawToken)
+    (h i j : Option (List ℕ)) (a b c : List ℕ)
     → more ≡ done → other ≡ against → j ≡ i → c ≡ b
     → GrowsBy (Written names done previous against) h a i b → GrowsBy (Written names more previous other) h a j c
 put-carried names done more previous against other h i j a b c e f k l w =
@@ -85,8 +104,10 @@ put-carried names done more previous against other h i j a b c e f k l w =
 
 -- let `names` be below 2^32 and `tokens` be in order. If all tokens are written, the text is the `mappings` text of
 -- `tokens` (`IsMappingsText`)
-pub all-put : (names : ℕ) (tokens : List RawToken) (previous : Option RawToken) (against : RawToken) (h i : Option (List ℕ)) (a b : List ℕ)
-    → names < 2 ^ 32 → AreInOrder tokens → GrowsBy (Written names tokens previous against) h a i b → GrowsBy (IsMappingsText names tokens) h a i b
+pub all-put : (names : ℕ) (tokens : List RawToken) (previous : Option RawToken) (against : RawToken)
+    (h i : Option (List ℕ)) (a b : List ℕ)
+    → names < 2 ^ 32 → AreInOrder tokens → GrowsBy (Written names tokens previous against) h a i b
+    → GrowsBy (IsMappingsText names tokens) h a i b
 all-put names tokens previous against h i a b few order (text, w, x) =
     let written = Writing-end names tokens previous against text w.writing in (
       text,
@@ -103,7 +124,8 @@ all-put names tokens previous against h i a b few order (text, w, x) =
 -- let `bits` be the text of `flags` (`IsBitText`). If `bits` is appended to the buffer and `ends` semicolons follow,
 -- the text written is a line of bits (`IsLineOfBits`)
 pub line-grown : (h i : Option (List ℕ)) (a b c bits : List ℕ) (flags : List Bool) (ends : ℕ)
-    → IsBitText flags bits → b ≡ a ++ bits → Grows h b i c (replicate ends semicolon) → GrowsBy (IsLineOfBits flags ends) h a i c
+    → IsBitText flags bits → b ≡ a ++ bits → Grows h b i c (replicate ends semicolon)
+    → GrowsBy (IsLineOfBits flags ends) h a i c
 line-grown h i a b c bits flags ends is pushed y = (
   bits ++ replicate ends semicolon,
   (bits, is, refl),
@@ -111,14 +133,16 @@ line-grown h i a b c bits flags ends is pushed y = (
 )
 
 pub line-plain : (flags : List Bool) (ends : ℕ) (text : List ℕ) → IsLineOfBits flags ends text → IsPlainText text
-line-plain flags ends text (bits, is, e) = subst IsPlainText (sym e) (plain-append bits (replicate ends semicolon) (bits-plain flags bits is) (ends-plain ends))
+line-plain flags ends text (bits, is, e) = subst IsPlainText (sym e) (plain-append bits (replicate ends semicolon)
+    (bits-plain flags bits is) (ends-plain ends))
 
 -- the range bits before a line, and the flags of that line
 pub record Ranged (line : ℕ) (done : List RawToken) (flags : List Bool) (text : List ℕ) : Type 0 where
   pub ranging : Ranging line (without_repeats done) text flags
   pub is_plain : IsPlainText text
 
-pub none-ranged : (flags : List Bool) (held : Option (List ℕ)) (gathered : List ℕ) → flags ≡ [] → GrowsBy (Ranged 0 [] flags) held gathered held gathered
+pub none-ranged : (flags : List Bool) (held : Option (List ℕ)) (gathered : List ℕ) → flags ≡ []
+    → GrowsBy (Ranged 0 [] flags) held gathered held gathered
 none-ranged flags held gathered e =
     subst (λ (fs : List Bool). GrowsBy (Ranged 0 [] fs) held gathered held gathered) (sym e)
     ([], record { ranging = Ranging-none; is_plain = tt }, Grows-none held gathered)
@@ -127,31 +151,48 @@ none-ranged flags held gathered e =
 -- before `line`. If the range bits of `line` and then `n - line` semicolons are appended, the text has the range bits
 -- of all lines before `n`
 pub turn-ranged : (line n : ℕ) (done : List RawToken) (flags : List Bool) (h i j : Option (List ℕ)) (a b c : List ℕ)
-    → line < n → UpTo line (without_repeats done) → GrowsBy (Ranged line done flags) h a i b → GrowsBy (IsLineOfBits flags (n - line)) i b j c
+    → line < n → UpTo line (without_repeats done) → GrowsBy (Ranged line done flags) h a i b
+    → GrowsBy (IsLineOfBits flags (n - line)) i b j c
     → GrowsBy (Ranged n done []) h a j c
 turn-ranged line n done flags h i j a b c down upto (text, w, x) (more, is, y) =
-    let joined : (text ++ is.0) ++ replicate (n - line) semicolon ≡ text ++ more = append_assoc text is.0 (replicate (n - line) semicolon) ∙ ap (λ r. text ++ r) (sym is.2) in (
+    let joined : (text ++ is.0) ++ replicate (n - line) semicolon ≡ text ++ more =
+    append_assoc text is.0 (replicate (n - line) semicolon) ∙ ap (λ r. text ++ r) (sym is.2) in (
       text ++ more,
       record {
-        ranging = subst (λ (t : List ℕ). Ranging n (without_repeats done) t []) joined (Ranging-turn line n (without_repeats done) text is.0 flags down upto is.1 w.ranging);
+        ranging = subst (λ (t : List ℕ). Ranging n (without_repeats done) t []) joined (Ranging-turn line n
+            (without_repeats done) text is.0 flags down upto is.1 w.ranging);
         is_plain = plain-append text more w.is_plain (line-plain flags (n - line) more is);
       },
       Grows-join h i j a b c text more x y,
     )
 
-pub repeat-ranged : (at : ℕ) (done : List RawToken) (previous : Option RawToken) (t : RawToken) (n : ℕ) (flags : List Bool) (h i : Option (List ℕ)) (a b : List ℕ)
-    → repeats previous t ≡ true → Walked at done previous → GrowsBy (Ranged n done flags) h a i b → GrowsBy (Ranged n (done ++ t ∷ []) flags) h a i b
-repeat-ranged at done previous t n flags h i a b again walked (text, w, x) =
-    (text, record { ranging = Ranging-repeat at done previous t n text flags again walked w.ranging; is_plain = w.is_plain }, x)
+pub repeat-ranged : (at : ℕ) (done : List RawToken) (previous : Option RawToken) (t : RawToken) (n : ℕ)
+    (flags : List Bool) (h i : Option (List ℕ)) (a b : List ℕ)
+    → repeats previous t ≡ true → Walked at done previous → GrowsBy (Ranged n done flags) h a i b
+    → GrowsBy (Ranged n (done ++ t ∷ []) flags) h a i b
+repeat-ranged at done previous t n flags h i a b again walked (text, w, x) = (
+  text,
+  record {
+    ranging = Ranging-repeat at done previous t n text flags again walked w.ranging;
+    is_plain = w.is_plain;
+  },
+  x,
+)
 
-pub more-ranged : (at : ℕ) (done : List RawToken) (previous : Option RawToken) (t : RawToken) (flags : List Bool) (h i : Option (List ℕ)) (a b : List ℕ)
+pub more-ranged : (at : ℕ) (done : List RawToken) (previous : Option RawToken) (t : RawToken) (flags : List Bool)
+    (h i : Option (List ℕ)) (a b : List ℕ)
     → repeats previous t ≡ false → Walked at done previous → GrowsBy (Ranged t.dst_line done flags) h a i b
     → GrowsBy (Ranged t.dst_line (done ++ t ∷ []) (flags ++ t.is_range ∷ [])) h a i b
-more-ranged at done previous t flags h i a b new walked (text, w, x) =
-    (text, record { ranging = Ranging-more at done previous t text flags new walked w.ranging; is_plain = w.is_plain }, x)
+more-ranged at done previous t flags h i a b new walked (text, w, x) = (
+  text,
+  record { ranging = Ranging-more at done previous t text flags new walked w.ranging; is_plain = w.is_plain },
+  x,
+)
 
-pub ranged-carried : (line n : ℕ) (done more : List RawToken) (flags others : List Bool) (h i j : Option (List ℕ)) (a b c : List ℕ)
-    → n ≡ line → more ≡ done → others ≡ flags → j ≡ i → c ≡ b → GrowsBy (Ranged line done flags) h a i b → GrowsBy (Ranged n more others) h a j c
+pub ranged-carried : (line n : ℕ) (done more : List RawToken) (flags others : List Bool) (h i j : Option (List ℕ))
+    (a b c : List ℕ)
+    → n ≡ line → more ≡ done → others ≡ flags → j ≡ i → c ≡ b → GrowsBy (Ranged line done flags) h a i b
+    → GrowsBy (Ranged n more others) h a j c
 ranged-carried line n done more flags others h i j a b c d e f k l w =
     subst (λ (m : ℕ). GrowsBy (Ranged m more others) h a j c) (sym d)
     (subst (λ (ts : List RawToken). GrowsBy (Ranged line ts others) h a j c) (sym e)
@@ -162,13 +203,16 @@ ranged-carried line n done more flags others h i j a b c d e f k l w =
 -- let the loop have passed all of `tokens`, and let `line` be the line that the loop has reached (`Walked`). Let the
 -- text have the range bits of all lines before `line`. If the range bits of `line` are appended, the text has the range
 -- bits of all lines (`IsBitsText`)
-pub all-ranged : (line : ℕ) (tokens : List RawToken) (previous : Option RawToken) (flags : List Bool) (h i j : Option (List ℕ)) (a b c : List ℕ)
-    → Walked line tokens previous → GrowsBy (Ranged line tokens flags) h a i b → GrowsBy (IsLineOfBits flags 0) i b j c → GrowsBy (IsBitsText tokens) h a j c
+pub all-ranged : (line : ℕ) (tokens : List RawToken) (previous : Option RawToken) (flags : List Bool)
+    (h i j : Option (List ℕ)) (a b c : List ℕ)
+    → Walked line tokens previous → GrowsBy (Ranged line tokens flags) h a i b → GrowsBy (IsLineOfBits flags 0) i b j c
+    → GrowsBy (IsBitsText tokens) h a j c
 all-ranged line tokens previous flags h i j a b c walked (text, w, x) (more, is, y) =
     let bits : more ≡ is.0 = is.2 ∙ append-nil is.0 in (
       text ++ more,
       record {
-        written = subst (λ (r : List ℕ). LineByLine (IsRangeLine (without_repeats tokens)) tokens (text ++ r)) (sym bits)
+        written =
+            subst (λ (r : List ℕ). LineByLine (IsRangeLine (without_repeats tokens)) tokens (text ++ r)) (sym bits)
             (Ranging-end line tokens previous text is.0 flags is.1 walked w.ranging);
         is_plain = plain-append text more w.is_plain (line-plain flags 0 more is);
       },
@@ -186,7 +230,8 @@ pub member-grown : (later : Bool) (key : List ℕ) (IsText : List ℕ → Type 0
 member-grown later key IsText plain h i j k l a b c d e x y (text, is, z) w =
     let start = key_text later key in
     let joined : (start ++ 34 ∷ []) ++ (text ++ 34 ∷ []) ≡ start ++ quoted text =
-    append_assoc start (34 ∷ []) (text ++ 34 ∷ []) ∙ ap (λ t. start ++ 34 ∷ (t ++ 34 ∷ [])) (sym (plain-escape text (plain text is))) in (
+    append_assoc start (34 ∷ []) (text ++ 34 ∷ []) ∙ ap (λ t. start ++ 34
+    ∷ (t ++ 34 ∷ [])) (sym (plain-escape text (plain text is))) in (
       start ++ quoted text,
       (text, is, refl),
       subst (λ (t : List ℕ). Grows h a l e t) joined

@@ -2,7 +2,9 @@
 -- (`HasSoundLeadingMembers`). Let the map have at most 4294967295 sources and at most 4294967295 names. Then the parts
 -- of the map's text together are the JSON text of the record (`IsEncoded`). If the map is also well-formed, decoding
 -- this record restores the map (`Restores`).
-use Rattle.std.proofs.Common.{◌≡◌, ◌≢◌, ℕ, ◌≤◌, ◌==◌, List, [], ◌∷◌, ◌++◌, length, Bool, true, false, if◌then◌else◌, Option, Some, None, option_map, IfSome, Ok, refl, sym, ap, subst, ◌∙◌, append_assoc, arith}
+use Rattle.std.proofs.Common.{◌≡◌, ◌≢◌, ℕ, ◌≤◌, ◌==◌, List, [], ◌∷◌, ◌++◌, length, Bool, true, false, if◌then◌else◌}
+use Rattle.std.proofs.Common.{Option, Some, None, option_map, IfSome, Ok, refl, sym, ap, subst, ◌∙◌, append_assoc}
+use Rattle.std.proofs.Common.{arith}
 use Rattle.std.specs.List.{AllByRecursion}
 use Rattle.serde_json.specs.Data.{null, string}
 use Rattle.sourcemap_map_conversions.specs.ToRecord.{AreTextsOf}
@@ -14,10 +16,13 @@ use Rattle.sourcemap_map_regular.specs.Map.{MapValue}
 use Rattle.sourcemap_map_regular.specs.Encode.{RecordAnswer, record_with}
 use Rattle.sourcemap_map_regular.specs.Write.{IsEncoded}
 use Rattle.sourcemap_map_regular.proofs.EncodeLemmas.{answered}
-use Rattle.sourcemap_map_encode.specs.Members.{Entry, part, parts_text, later_after, IsPlainEntry, HasSoundLeadingMembers, IsTokensText, leading_entries, token_entries, source_entries, version_entry, map_entries}
-use Rattle.sourcemap_map_encode.proofs.MemberLemmas.{parts_joined, text_is}
+use Rattle.sourcemap_map_encode.specs.Members.{Entry, part, parts_text, later_after, IsPlainEntry}
+use Rattle.sourcemap_map_encode.specs.Members.{HasSoundLeadingMembers, IsTokensText, leading_entries, token_entries}
+use Rattle.sourcemap_map_encode.specs.Members.{source_entries, version_entry}
+use Rattle.sourcemap_map_encode.proofs.MemberLemmas.{parts_joined, text_is, map_entries}
 
-all_append : (xs ys : List Entry) → AllByRecursion IsPlainEntry xs → AllByRecursion IsPlainEntry ys → AllByRecursion IsPlainEntry (xs ++ ys)
+all_append : (xs ys : List Entry) → AllByRecursion IsPlainEntry xs → AllByRecursion IsPlainEntry ys
+    → AllByRecursion IsPlainEntry (xs ++ ys)
 all_append [] ys p q = q
 all_append (x ∷ xs) ys p q = (p.0, all_append xs ys p.1 q)
 
@@ -25,11 +30,13 @@ no_null : (file : Option (List ℕ)) → option_map string file ≢ Some null
 no_null None = λ e. absurd cc
 no_null (Some f) = λ e. absurd cc
 
-ids_fit : (b : Bool) (ids : List ℕ) → AllByRecursion FitsU32 ids → IfSome (if b then None else Some ids) (λ ids. AllByRecursion FitsU32 ids)
+ids_fit : (b : Bool) (ids : List ℕ) → AllByRecursion FitsU32 ids
+    → IfSome (if b then None else Some ids) (λ ids. AllByRecursion FitsU32 ids)
 ids_fit true ids small = tt
 ids_fit false ids small = small
 
-fine_record : (m : MapValue) (mappings : List ℕ) (ranges : Option (List ℕ)) → HasSoundLeadingMembers m → IsFine (plain (record_with m mappings ranges))
+fine_record : (m : MapValue) (mappings : List ℕ) (ranges : Option (List ℕ)) → HasSoundLeadingMembers m
+    → IsFine (plain (record_with m mappings ranges))
 fine_record m mappings ranges sound = (
   record {
     version = omega arith;
@@ -41,11 +48,13 @@ fine_record m mappings ranges sound = (
 )
 
 regrouped : (h t s v e : List ℕ) → h ++ (t ++ (s ++ (v ++ e))) ≡ (h ++ (t ++ (s ++ v))) ++ e
-regrouped h t s v e = sym (append_assoc h (t ++ (s ++ v)) e ∙ ap (λ r. h ++ r) (append_assoc t (s ++ v) e ∙ ap (λ r. t ++ r) (append_assoc s v e)))
+regrouped h t s v e = sym (append_assoc h (t ++ (s ++ v)) e
+    ∙ ap (λ r. h ++ r) (append_assoc t (s ++ v) e ∙ ap (λ r. t ++ r) (append_assoc s v e)))
 
 -- the JSON text of the record of `m`, with `tokens` as the text of the members `mappings`, `names` and `rangeMappings`
 abbrev pub whole_of : MapValue → List ℕ → List ℕ
-whole_of m tokens = (123 ∷ []) ++ (parts_text false (leading_entries m) ++ (tokens ++ (parts_text true (source_entries m) ++ (part true version_entry ++ (125 ∷ [])))))
+whole_of m tokens = (123 ∷ []) ++ (parts_text false (leading_entries m)
+    ++ (tokens ++ (parts_text true (source_entries m) ++ (part true version_entry ++ (125 ∷ [])))))
 
 pub encoded : (m : MapValue) (later : Bool) (tokens : List ℕ) → later ≡ later_after false (leading_entries m)
     → AllByRecursion IsPlainEntry (leading_entries m) → HasSoundLeadingMembers m → IsTokensText later m tokens
@@ -59,12 +68,18 @@ encoded m later tokens is_later metadata sound of_tokens sources few_sources ver
       text = of_tokens.of_mappings.written;
       bits = of_tokens.of_ranges;
       back = λ sources small within.
-          subst (λ (rs : List ℕ). MappingsAnswer mappings rs (record { sources = sources; names = length m.names }) (Ok (reduced (length m.names) m.tokens))) (same_listed ranges)
+          subst (λ (rs : List ℕ). MappingsAnswer mappings rs (record { sources = sources; names = length m.names })
+          (Ok (reduced (length m.names) m.tokens))) (same_listed ranges)
           (of_tokens.of_mappings.back sources small within ranges of_tokens.of_ranges);
     } in
-    let answer = answered m of_tokens.few_names few_sources sound.rising t ((mappings, ranges, texts, refl), fine_record m mappings ranges sound) in
-    let fine = all_append (leading_entries m) (token_entries m mappings ranges ++ (source_entries m ++ version_entry ∷ [])) metadata
-    (all_append (token_entries m mappings ranges) (source_entries m ++ version_entry ∷ []) of_tokens.is_plain (all_append (source_entries m) (version_entry ∷ []) sources (version, tt))) in
+    let answer = answered m of_tokens.few_names few_sources sound.rising t (
+      (mappings, ranges, texts, refl),
+      fine_record m mappings ranges sound,
+    ) in
+    let fine = all_append (leading_entries m) (token_entries m mappings ranges
+    ++ (source_entries m ++ version_entry ∷ [])) metadata
+    (all_append (token_entries m mappings ranges) (source_entries m ++ version_entry ∷ []) of_tokens.is_plain
+    (all_append (source_entries m) (version_entry ∷ []) sources (version, tt))) in
     let H = parts_text false (leading_entries m) in
     let S = parts_text true (source_entries m) in
     let V = part true version_entry in

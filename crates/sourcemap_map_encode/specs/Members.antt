@@ -1,5 +1,6 @@
 -- The JSON text of a map's record, member by member, sorted by the bytes of the keys.
-use Rattle.std.specs.Prelude.{◌≡◌, ℕ, ◌≤◌, true, List, [], ◌∷◌, ◌++◌, length, codes, Bool, ◌||◌, is_some, Option, Some, None, option_map, IfSome}
+use Rattle.std.specs.Prelude.{◌≡◌, ℕ, ◌≤◌, true, List, [], ◌∷◌, ◌++◌, length, codes, Bool, ◌||◌, is_some, Option, Some}
+use Rattle.std.specs.Prelude.{None, option_map, IfSome}
 use Rattle.std.specs.List.{AllByRecursion}
 use Rattle.std.specs.List.Sorted.{IsStrictlySortedBy}
 use Rattle.std.specs.Ordering.{nat_cmp}
@@ -68,7 +69,8 @@ abbrev pub sources_entry : List (List ℕ) → Entry
 sources_entry sources = (codes "sources", Some (written_list string sources))
 
 abbrev pub contents_entry : ℕ → List (Option (List ℕ)) → Entry
-contents_entry count contents = (codes "sourcesContent", option_map (written_list (written_or_null string)) (written_contents count contents))
+contents_entry count contents =
+    (codes "sourcesContent", option_map (written_list (written_or_null string)) (written_contents count contents))
 
 abbrev pub version_entry : Entry
 version_entry = (codes "version", Some (written_number 3))
@@ -85,10 +87,6 @@ token_entries m mappings ranges = mappings_entry mappings ∷ names_entry m.name
 abbrev pub source_entries : MapValue → List Entry
 source_entries m = root_entry m.root ∷ sources_entry m.sources ∷ contents_entry (length m.sources) m.contents ∷ []
 
--- all members of the record
-abbrev pub map_entries : MapValue → List ℕ → Option (List ℕ) → List Entry
-map_entries m mappings ranges = leading_entries m ++ (token_entries m mappings ranges ++ (source_entries m ++ version_entry ∷ []))
-
 -- the debug id, if any, has 16 bytes; each ignored id is below 2^32; the ignored ids are sorted, without repeats
 pub record HasSoundLeadingMembers (m : MapValue) : Type 0 where
   pub id : IfSome m.debug_id IsId
@@ -97,11 +95,13 @@ pub record HasSoundLeadingMembers (m : MapValue) : Type 0 where
 
 -- the text of the member `mappings`
 abbrev pub IsMappingsPart : Bool → MapValue → List ℕ → Type 0
-IsMappingsPart later m text = (mappings : List ℕ) × IsMappingsText (length m.names) m.tokens mappings × (text ≡ part later (mappings_entry mappings))
+IsMappingsPart later m text = (mappings : List ℕ) × IsMappingsText (length m.names) m.tokens mappings × (text
+    ≡ part later (mappings_entry mappings))
 
 -- the text of the member `rangeMappings`; empty if no token is a range token
 abbrev pub IsRangesPart : MapValue → List ℕ → Type 0
-IsRangesPart m text = (ranges : Option (List ℕ)) × IsRangeText m.tokens ranges × IsPlainEntry (ranges_entry ranges) × (text ≡ part true (ranges_entry ranges))
+IsRangesPart m text = (ranges : Option (List ℕ)) × IsRangeText m.tokens ranges × IsPlainEntry (ranges_entry ranges)
+    × (text ≡ part true (ranges_entry ranges))
 
 -- the text of the members `mappings`, `names` and `rangeMappings`
 pub record IsTokensText (later : Bool) (m : MapValue) (text : List ℕ) : Type 0 where

@@ -24,8 +24,10 @@ IsPlainText text = AllByRecursion IsPlainByte text
 pub record IsMappingsText (names : ℕ) (tokens : List RawToken) (text : List ℕ) : Type 0 where
   pub written : IsWritten names tokens text
   pub is_plain : IsPlainText text
-  pub back : (sources : ℕ) → sources < 2 ^ 32 → AllWithin sources names tokens → (ranges : Option (List ℕ)) → IsRangeText tokens ranges
-      → MappingsAnswer text (option_map_or (λ bits. bits) ranges []) (record { sources = sources; names = names }) (Ok (reduced names tokens))
+  pub back : (sources : ℕ) → sources < 2 ^ 32 → AllWithin sources names tokens → (ranges : Option (List ℕ))
+      → IsRangeText tokens ranges
+      → MappingsAnswer text (option_map_or (λ bits. bits) ranges []) (record { sources = sources; names = names })
+      (Ok (reduced names tokens))
 
 -- the encoded range flags of these tokens: one part for each line (`LineByLine`). A token that equals the token before
 -- it has no flag. The text needs no escape in JSON. If no token is a range token, every part is empty. Then

@@ -1,5 +1,6 @@
 //! Writes a regular map in pieces.
-ghost use Rattle.std.specs.Prelude.{◌≡◌, ◌≤◌, ◌||◌, ℕ, List, None, true, false, map, is_some, length, OnOk, IfOk, IfErr, IfSome, string_bytes};
+ghost use Rattle.std.specs.Prelude.{◌≡◌, ◌≤◌, ◌||◌, ℕ, List, None, true, false, map, is_some, length, OnOk, IfOk};
+ghost use Rattle.std.specs.Prelude.{IfErr, IfSome, string_bytes};
 ghost use Rattle.std.specs.Option.{option_copied};
 ghost use Rattle.std.specs.List.{AllByRecursion, list_any};
 ghost use Rattle.std.specs.List.Sorted.{IsStrictlySortedBy};
@@ -16,7 +17,10 @@ ghost use Rattle.sourcemap_records.specs.Jsontypes.{FitsU32};
 ghost use Rattle.sourcemap_map_regular.specs.Encode.{RecordAnswer};
 ghost use Rattle.sourcemap_map_regular.specs.Write.{IsEncoded, IsIo};
 ghost use Rattle.sourcemap_map_encode.specs.Buffered.{Grows, GrowsBy};
-ghost use Rattle.sourcemap_map_encode.specs.Members.{part, parts_text, later_after, IsPlainEntry, debug_id_entry, ids_entry, names_entry, contents_entry, version_entry, leading_entries, source_entries, HasSoundLeadingMembers, IsMappingsPart, IsRangesPart, IsTokensText};
+ghost use Rattle.sourcemap_map_encode.specs.Members.{part, parts_text, later_after, IsPlainEntry, debug_id_entry};
+ghost use Rattle.sourcemap_map_encode.specs.Members.{ids_entry, names_entry, contents_entry, version_entry};
+ghost use Rattle.sourcemap_map_encode.specs.Members.{leading_entries, source_entries, HasSoundLeadingMembers};
+ghost use Rattle.sourcemap_map_encode.specs.Members.{IsMappingsPart, IsRangesPart, IsTokensText};
 
 use crate::buffered::{PIECE, flush, put};
 use crate::members::{put_key, put_text_if};

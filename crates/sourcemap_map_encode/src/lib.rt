@@ -1,7 +1,5 @@
-//! Writes a map as compact JSON in pieces. The buffer holds less than 32 KB of text, plus the range
-//! bits of at most one line. The strings of the map are copied and converted to JSON text one at a
-//! time. The ids of the ignore list are copied all at once. The range flags are collected for one
-//! line at a time.
+//! Writes a regular map as compact JSON in pieces, through a small buffer; knows nothing of Hermes
+//! and index maps.
 #![tactic(auto)]
 
 mod buffered;

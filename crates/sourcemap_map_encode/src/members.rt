@@ -1,5 +1,6 @@
 //! Writes keys and text members of a JSON object.
-ghost use Rattle.std.specs.Prelude.{◌≡◌, ◌||◌, is_some, option_copied, option_map, true, IfErr, IfOk, OnOk, string_bytes};
+ghost use Rattle.std.specs.Prelude.{◌≡◌, ◌||◌, is_some, option_copied, option_map, true, IfErr, IfOk, OnOk};
+ghost use Rattle.std.specs.Prelude.{string_bytes};
 ghost use Rattle.serde_json.specs.Data.{string};
 ghost use Rattle.sourcemap_errors.specs.Answer.{UnlessMemory};
 ghost use Rattle.sourcemap_map_regular.specs.Write.{IsIo};

@@ -1,6 +1,8 @@
 -- Items of lists that are cut or filled to a length. std has lemmas on `take`, `++` and `replicate`, but none
 -- on this combination.
-use Rattle.std.proofs.Common.{◌≡◌, ℕ, zero, suc, ◌+◌, ◌<◌, ◌≤◌, List, [], ◌∷◌, ◌++◌, length, take, drop, replicate, Option, Some, None, slice_get, refl, arith, length-take, length-append, add-one, option_and_then}
+use Rattle.std.proofs.Common.{◌≡◌, ℕ, zero, suc, ◌+◌, ◌<◌, ◌≤◌, List, [], ◌∷◌, ◌++◌, length, take, drop, replicate}
+use Rattle.std.proofs.Common.{Option, Some, None, slice_get, refl, arith, length-take, length-append, add-one}
+use Rattle.std.proofs.Common.{option_and_then}
 use Rattle.std.proofs.lemmas.List.{length-replicate}
 use Rattle.sourcemap_map_parts.specs.Contents.{fitted}
 
@@ -25,17 +27,20 @@ same_all_over x (suc n) zero i fits here = absurd (omega arith)
 same_all_over x (suc n) (suc k) zero fits here = refl
 same_all_over x (suc n) (suc k) (suc i) fits here = same_all_over x n k i (omega arith) (omega arith)
 
-filled : {X : Type 0} (items : List (Option X)) (n k i : ℕ) → n ≤ k → i < n → slice_get (take n (items ++ replicate k None)) i ≡ Some (option_and_then (λ x. x) (slice_get items i))
+filled : {X : Type 0} (items : List (Option X)) (n k i : ℕ) → n ≤ k → i < n
+    → slice_get (take n (items ++ replicate k None)) i ≡ Some (option_and_then (λ x. x) (slice_get items i))
 filled [] n k i fits here = same_all_over None n k i fits here
 filled (x ∷ xs) zero k i fits here = absurd (omega arith)
 filled (x ∷ xs) (suc n) k zero fits here = refl
 filled (x ∷ xs) (suc n) k (suc i) fits here = filled xs n k i (omega arith) (omega arith)
 
 -- for `i` below `n`, item `i` of `fitted n contents` is item `i` of `contents`, or `None` past the end of `contents`
-pub slice_get-fitted : (contents : List (Option (List ℕ))) (n i : ℕ) → i < n → slice_get (fitted n contents) i ≡ Some (option_and_then (λ x. x) (slice_get contents i))
+pub slice_get-fitted : (contents : List (Option (List ℕ))) (n i : ℕ) → i < n
+    → slice_get (fitted n contents) i ≡ Some (option_and_then (λ x. x) (slice_get contents i))
 slice_get-fitted contents n i here = filled contents n n i (omega arith) here
 
-pub drop-fitted : (contents : List (Option (List ℕ))) (n i : ℕ) → i < n → drop i (fitted n contents) ≡ option_and_then (λ x. x) (slice_get contents i) ∷ drop (i + 1) (fitted n contents)
+pub drop-fitted : (contents : List (Option (List ℕ))) (n i : ℕ) → i < n
+    → drop i (fitted n contents) ≡ option_and_then (λ x. x) (slice_get contents i) ∷ drop (i + 1) (fitted n contents)
 drop-fitted contents n i here = drop-from_slice_get (fitted n contents) i _ (slice_get-fitted contents n i here)
 
 filled-length : {X : Type 0} (items : List (Option X)) (n : ℕ) → length (take n (items ++ replicate n None)) ≡ n

@@ -1,6 +1,5 @@
-//! Types for parts of a regular map. `Sources` holds the sources and their `sourceRoot`. `Contents`
-//! holds the contents of the sources. `MapMetadata` holds the file name, the ignore list and the
-//! debug id. A builder also stores its contents and its metadata in these types.
+//! Types for the sources, the contents and the metadata of a map or a builder; knows nothing of a
+//! whole map.
 #![tactic(auto)]
 
 pub mod contents;

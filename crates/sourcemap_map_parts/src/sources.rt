@@ -1,5 +1,6 @@
 //! The sources of a map and its `sourceRoot`.
-ghost use Rattle.std.specs.Prelude.{◌≡◌, ◌<◌, ◌≤◌, Ok, None, map, length, slice_get, slice_set, vec_len, option_map, unwrap_or, string_bytes, OnOk, OnErr, IsOkUnless, Vec, String};
+ghost use Rattle.std.specs.Prelude.{◌≡◌, ◌<◌, ◌≤◌, Ok, None, map, length, slice_get, slice_set, vec_len, option_map};
+ghost use Rattle.std.specs.Prelude.{unwrap_or, string_bytes, OnOk, OnErr, IsOkUnless, Vec, String};
 ghost use Rattle.std.specs.Bool.{Decides};
 ghost use Rattle.std.specs.Cmp.{partial_equiv_from_equiv};
 ghost use Rattle.std.specs.Option.{option_copied, ForSome};
@@ -7,7 +8,8 @@ ghost use Rattle.std.specs.declared.alloc.Global.{Global};
 ghost use Rattle.sourcemap_errors.specs.Answer.{Gives, Changes};
 ghost use Rattle.sourcemap_errors.specs.declared.errors.Error.TheVariants.{OutOfMemory};
 ghost use Rattle.sourcemap_texts.specs.Texts.{texts_of};
-ghost use Rattle.sourcemap_map_parts.specs.Sources.{is_absolute_source, without_slash, resolved_against, resolved_texts, same_sources, same_sources_equiv};
+ghost use Rattle.sourcemap_map_parts.specs.Sources.{is_absolute_source, without_slash, resolved_against};
+ghost use Rattle.sourcemap_map_parts.specs.Sources.{resolved_texts, same_sources, same_sources_equiv};
 
 use crate::text_lists::{
     copy_optional_texts, copy_string, copy_texts, same_optional_texts, same_texts,

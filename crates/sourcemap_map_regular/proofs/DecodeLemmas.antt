@@ -30,7 +30,8 @@ RecordDecodes-same r (Err e) (Err f) (inr h) (inl k) = absurd (k.0 h.0)
 RecordDecodes-same r (Err e) (Err f) (inr h) (inr k) = let same = TokensAnswer-same r (Err e) (Err f) h.1 k.1 in cc
 
 -- a record decodes to the map of its parts
-pub decoded : (r : Fields) (p : PartsValue) (m : MapValue) → m ≡ map_in p → PartsAnswer r (Ok p) → RecordDecodes r (Ok m)
+pub decoded : (r : Fields) (p : PartsValue) (m : MapValue) → m ≡ map_in p → PartsAnswer r (Ok p)
+    → RecordDecodes r (Ok m)
 decoded r p m is h = subst (λ n. RecordDecodes r (Ok n)) (sym is) (h.0, h.1, ap map_in h.2)
 
 pub decoded-well : (parts : Parts) (m : MapValue) → m ≡ map_in (parts_view parts)

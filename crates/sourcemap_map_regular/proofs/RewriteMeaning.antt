@@ -1,5 +1,6 @@
 -- The meaning of a rewritten map.
-use Rattle.std.proofs.Common.{Ok, ◌≡◌, refl, sym, ap, subst, ◌∙◌, ℕ, zero, suc, ◌≤◌, List, [], ◌∷◌, length, map, Bool, true, false, cond, Some, None, Option, arith, slice_get, option_map, find}
+use Rattle.std.proofs.Common.{Ok, ◌≡◌, refl, sym, ap, subst, ◌∙◌, ℕ, zero, suc, ◌≤◌, List, [], ◌∷◌, length, map, Bool}
+use Rattle.std.proofs.Common.{true, false, cond, Some, None, Option, arith, slice_get, option_map, find}
 use Rattle.std.specs.List.{AllByRecursion}
 use Rattle.std.specs.Option.{option_or}
 use Rattle.std.specs.Ordering.{is_lt, is_eq}
@@ -13,11 +14,14 @@ use Rattle.sourcemap_tokens.proofs.AllLemmas.{All-both, All-map, All-unmapped, A
 use Rattle.sourcemap_interning.proofs.InternerLemmas.{slice_get-id_of}
 use Rattle.sourcemap_tokens.proofs.SearchLemmas.{closest_item-change}
 use Rattle.sourcemap_texts.specs.Prefixes.{without_prefix}
-use Rattle.sourcemap_map_regular.specs.Map.{MapValue, Meaning, IsWellFormed, resolved_sources, source_of, name_of, meaning, meaning_of, MeansTheSame, distance, column_after}
+use Rattle.sourcemap_map_regular.specs.Map.{MapValue, Meaning, IsWellFormed, resolved_sources, source_of, name_of}
+use Rattle.sourcemap_map_regular.specs.Map.{meaning, meaning_of, MeansTheSame, distance, column_after}
 use Rattle.sourcemap_map_parts.specs.Sources.{resolved}
 use Rattle.sourcemap_map_rewrite.specs.Numbering.{IsListedIfAny}
 use Rattle.sourcemap_map_rewrite.specs.declared.options.RewriteOptions.{RewriteOptions}
-use Rattle.sourcemap_map_regular.specs.Rewrite.{Removal, removal_of, number_in, used_sources, used_names, kept_names, cuts, renumbered, rewritten, without_removed, all_prefixes, LeavesMeaning, MeansLess, Rewrites, SameButContents, TokensMeanLess}
+use Rattle.sourcemap_map_regular.specs.Rewrite.{Removal, removal_of, number_in, used_sources, used_names, kept_names}
+use Rattle.sourcemap_map_regular.specs.Rewrite.{cuts, renumbered, rewritten, without_removed, all_prefixes}
+use Rattle.sourcemap_map_regular.specs.Rewrite.{LeavesMeaning, MeansLess, Rewrites, SameButContents, TokensMeanLess}
 use Rattle.sourcemap_map_parts.proofs.SourcesLemmas.{map-resolved_against_nothing}
 use Rattle.sourcemap_map_rewrite.proofs.NumberingLemmas.{used-kept, slice_get-number_in}
 use Rattle.sourcemap_map_regular.proofs.MapLemmas.{of_item, meaning-item}
@@ -29,11 +33,15 @@ IsKept m t = IsListedIfAny (used_sources m) (source_of m t.src_id) × IsListedIf
 
 pub all_tokens_kept : (m : MapValue) → AllByRecursion (IsKept m) m.tokens
 all_tokens_kept m =
-    All-both (λ t. IsListedIfAny (used_sources m) (source_of m t.src_id)) (λ t. IsListedIfAny (used_names m) (name_of m t.name_id)) m.tokens
-    (All-unmapped (IsListedIfAny (used_sources m)) (λ (t : RawToken). source_of m t.src_id) m.tokens (used-kept (map (λ t. source_of m t.src_id) m.tokens)))
-    (All-unmapped (IsListedIfAny (used_names m)) (λ (t : RawToken). name_of m t.name_id) m.tokens (used-kept (map (λ t. name_of m t.name_id) m.tokens)))
+    All-both (λ t. IsListedIfAny (used_sources m) (source_of m t.src_id))
+    (λ t. IsListedIfAny (used_names m) (name_of m t.name_id)) m.tokens
+    (All-unmapped (IsListedIfAny (used_sources m)) (λ (t : RawToken). source_of m t.src_id) m.tokens
+    (used-kept (map (λ t. source_of m t.src_id) m.tokens)))
+    (All-unmapped (IsListedIfAny (used_names m)) (λ (t : RawToken). name_of m t.name_id) m.tokens
+    (used-kept (map (λ t. name_of m t.name_id) m.tokens)))
 
-number-of : (kept : List (List ℕ)) (o : Option (List ℕ)) (text : List ℕ) (n : ℕ) → o ≡ Some text → id_of text kept ≡ Some n → number_in kept o ≡ n
+number-of : (kept : List (List ℕ)) (o : Option (List ℕ)) (text : List ℕ) (n : ℕ) → o ≡ Some text
+    → id_of text kept ≡ Some n → number_in kept o ≡ n
 number-of kept o text n e at_number = rw (e, at_number) refl
 
 -- the generated position and the meaning of a token
@@ -43,7 +51,8 @@ token_meaning n t = (destination t, meaning_of n t 0)
 abbrev reduced_meaning : Removal → MapValue → (ℕ × ℕ) × Meaning → (ℕ × ℕ) × Meaning
 reduced_meaning removal m entry = (entry.0, without_removed removal m entry.1)
 
-module _ (m : MapValue) (removal : Removal) (few_sources : length m.sources ≤ 4294967295) (few_names : length m.names ≤ 4294967295) where
+module _ (m : MapValue) (removal : Removal) (few_sources : length m.sources ≤ 4294967295)
+    (few_names : length m.names ≤ 4294967295) where
   few_used : length (used_sources m) ≤ 4294967295
   few_used = few_used_sources m removal few_sources
 
@@ -51,21 +60,26 @@ module _ (m : MapValue) (removal : Removal) (few_sources : length m.sources ≤ 
   new_sources = map-resolved_against_nothing [] (map (without_prefix (cuts removal m)) (used_sources m)) refl
 
   pub new_source : (id : ℕ) → IsListedIfAny (used_sources m) (source_of m id)
-      → source_of (rewritten removal m) (number_in (used_sources m) (source_of m id)) ≡ option_map (without_prefix (cuts removal m)) (source_of m id)
+      → source_of (rewritten removal m) (number_in (used_sources m) (source_of m id))
+      ≡ option_map (without_prefix (cuts removal m)) (source_of m id)
   new_source id kept =
       ap (λ xs. slice_get xs (number_in (used_sources m) (source_of m id))) new_sources
       ∙ slice_get-map (without_prefix (cuts removal m)) (used_sources m) (number_in (used_sources m) (source_of m id))
-      ∙ ap (option_map (without_prefix (cuts removal m))) (slice_get-number_in (used_sources m) (source_of m id) few_used kept)
+      ∙ ap (option_map (without_prefix (cuts removal m)))
+      (slice_get-number_in (used_sources m) (source_of m id) few_used kept)
 
   pub new_name : (id : ℕ) → IsListedIfAny (used_names m) (name_of m id)
-      → name_of (rewritten removal m) (number_in (kept_names removal m) (name_of m id)) ≡ cond removal.with_names (name_of m id) None
+      → name_of (rewritten removal m) (number_in (kept_names removal m) (name_of m id))
+      ≡ cond removal.with_names (name_of m id) None
   new_name id kept = by_case removal.with_names
     where
-      by_case : (w : Bool) → slice_get (cond w (used_names m) []) (number_in (cond w (used_names m) []) (name_of m id)) ≡ cond w (name_of m id) None
+      by_case : (w : Bool) → slice_get (cond w (used_names m) []) (number_in (cond w (used_names m) []) (name_of m id))
+          ≡ cond w (name_of m id) None
       by_case true = slice_get-number_in (used_names m) (name_of m id) (few_used_names m removal few_names) kept
       by_case false = refl
 
-  pub meaning_reduced : (extra_columns : ℕ) (t : RawToken) → IsKept m t → meaning_of (rewritten removal m) (renumbered removal m t) extra_columns ≡ without_removed removal m (meaning_of m t extra_columns)
+  pub meaning_reduced : (extra_columns : ℕ) (t : RawToken) → IsKept m t → meaning_of (rewritten removal m)
+      (renumbered removal m t) extra_columns ≡ without_removed removal m (meaning_of m t extra_columns)
   meaning_reduced extra_columns t kept = λ i. record {
     source = new_source t.src_id kept.0 i;
     line = t.src_line;
@@ -81,25 +95,31 @@ module _ (m : MapValue) (removal : Removal) (few_sources : length m.sources ≤ 
   IfSomeToken P None = Unit {0}
   IfSomeToken P (Some t) = P t
 
-  if_some_or : (P : RawToken → Type 0) (a b : Option RawToken) → IfSomeToken P a → IfSomeToken P b → IfSomeToken P (option_or a b)
+  if_some_or : (P : RawToken → Type 0) (a b : Option RawToken) → IfSomeToken P a → IfSomeToken P b
+      → IfSomeToken P (option_or a b)
   if_some_or P None b h k = k
   if_some_or P (Some t) b h k = h
 
-  if_some_if : (P : RawToken → Type 0) (b : Bool) (t : RawToken) (o : Option RawToken) → P t → IfSomeToken P o → IfSomeToken P (cond b (Some t) o)
+  if_some_if : (P : RawToken → Type 0) (b : Bool) (t : RawToken) (o : Option RawToken) → P t → IfSomeToken P o
+      → IfSomeToken P (cond b (Some t) o)
   if_some_if P true t o h k = h
   if_some_if P false t o h k = k
 
-  if_some-find : (P : RawToken → Type 0) (test : RawToken → Bool) (ts : List RawToken) → AllByRecursion P ts → IfSomeToken P (find test ts)
+  if_some-find : (P : RawToken → Type 0) (test : RawToken → Bool) (ts : List RawToken) → AllByRecursion P ts
+      → IfSomeToken P (find test ts)
   if_some-find P test [] all = tt
   if_some-find P test (t ∷ ts) all = if_some_if P (test t) t (find test ts) all.0 (if_some-find P test ts all.1)
 
-  if_some-find_last : (P : RawToken → Type 0) (test : RawToken → Bool) (ts : List RawToken) → AllByRecursion P ts → IfSomeToken P (find_last test ts)
+  if_some-find_last : (P : RawToken → Type 0) (test : RawToken → Bool) (ts : List RawToken) → AllByRecursion P ts
+      → IfSomeToken P (find_last test ts)
   if_some-find_last P test [] all = tt
-  if_some-find_last P test (t ∷ ts) all = if_some_or P (find_last test ts) (cond (test t) (Some t) None) (if_some-find_last P test ts all.1) (if_some_if P (test t) t None all.0 tt)
+  if_some-find_last P test (t ∷ ts) all = if_some_or P (find_last test ts) (cond (test t)
+      (Some t) None) (if_some-find_last P test ts all.1) (if_some_if P (test t) t None all.0 tt)
 
   if_some-closest : (p : ℕ × ℕ) → IfSomeToken (IsKept m) (closest_item destination position_cmp m.tokens p)
   if_some-closest p =
-      if_some_or (IsKept m) (find (λ t. is_eq (position_cmp (destination t) p)) m.tokens) (find_last (λ t. is_lt (position_cmp (destination t) p)) m.tokens)
+      if_some_or (IsKept m) (find (λ t. is_eq (position_cmp (destination t) p)) m.tokens)
+      (find_last (λ t. is_lt (position_cmp (destination t) p)) m.tokens)
       (if_some-find (IsKept m) (λ t. is_eq (position_cmp (destination t) p)) m.tokens (all_tokens_kept m))
       (if_some-find_last (IsKept m) (λ t. is_lt (position_cmp (destination t) p)) m.tokens (all_tokens_kept m))
 
@@ -107,12 +127,14 @@ module _ (m : MapValue) (removal : Removal) (few_sources : length m.sources ≤ 
   unfolding of_item
   means_less p =
       meaning-item (rewritten removal m) p
-      ∙ ap (of_item (rewritten removal m) p) (closest_item-change destination destination position_cmp (renumbered removal m) (λ t. refl) m.tokens p)
+      ∙ ap (of_item (rewritten removal m) p)
+      (closest_item-change destination destination position_cmp (renumbered removal m) (λ t. refl) m.tokens p)
       ∙ each (closest_item destination position_cmp m.tokens p) (if_some-closest p)
       ∙ ap (option_map (without_removed removal m)) (sym (meaning-item m p))
     where
       each : (o : Option RawToken) → IfSomeToken (IsKept m) o
-          → option_map (λ t. meaning_of (rewritten removal m) t (distance t p)) (option_map (renumbered removal m) o) ≡ option_map (without_removed removal m) (option_map (λ t. meaning_of m t (distance t p)) o)
+          → option_map (λ t. meaning_of (rewritten removal m) t (distance t p)) (option_map (renumbered removal m) o)
+          ≡ option_map (without_removed removal m) (option_map (λ t. meaning_of m t (distance t p)) o)
       each None kept = refl
       each (Some t) kept = ap Some (meaning_reduced (distance t p) t kept)
 
@@ -122,10 +144,12 @@ module _ (m : MapValue) (removal : Removal) (few_sources : length m.sources ≤ 
   all_reduced = each m.tokens (all_tokens_kept m)
     where
       each : (ts : List RawToken) → AllByRecursion (IsKept m) ts
-          → map (token_meaning (rewritten removal m)) (map (renumbered removal m) ts) ≡ map (reduced_meaning removal m) (map (token_meaning m) ts)
+          → map (token_meaning (rewritten removal m)) (map (renumbered removal m) ts)
+          ≡ map (reduced_meaning removal m) (map (token_meaning m) ts)
       each [] kept = refl
       each (t ∷ ts) kept =
-          let here : token_meaning (rewritten removal m) (renumbered removal m t) ≡ reduced_meaning removal m (token_meaning m t) = λ i. (destination t, meaning_reduced 0 t kept.0 i) in
+          let here : token_meaning (rewritten removal m) (renumbered removal m t)
+          ≡ reduced_meaning removal m (token_meaning m t) = λ i. (destination t, meaning_reduced 0 t kept.0 i) in
           λ i. here i ∷ each ts kept.1 i
 
   -- Bounds.
@@ -142,10 +166,12 @@ module _ (m : MapValue) (removal : Removal) (few_sources : length m.sources ≤ 
       few_kept false = omega arith
 
       by_case : (o : Option (List ℕ)) → source_of m t.src_id ≡ o
-          → (number_in (used_sources m) (source_of m t.src_id) ≡ 4294967295) × (t.src_line ≡ 4294967295) × (t.src_col ≡ 4294967295)
+          → (number_in (used_sources m) (source_of m t.src_id) ≡ 4294967295) × (t.src_line ≡ 4294967295)
+          × (t.src_col ≡ 4294967295)
           × (length (kept_names removal m) ≤ number_in (kept_names removal m) (name_of m t.name_id))
       by_case None e =
-          let out : length m.sources ≤ t.src_id = unnamed m.sources t.src_id (sym (slice_get-map (resolved m.root) m.sources t.src_id) ∙ e) in
+          let out : length m.sources ≤ t.src_id =
+          unnamed m.sources t.src_id (sym (slice_get-map (resolved m.root) m.sources t.src_id) ∙ e) in
           let bare = within out in
           let none : name_of m t.name_id ≡ None = slice_get_past m.names t.name_id bare.3 in
           (ap (number_in (used_sources m)) e, bare.1, bare.2, rw none (few_kept removal.with_names))
@@ -156,13 +182,16 @@ module _ (m : MapValue) (removal : Removal) (few_sources : length m.sources ≤ 
           unnamed (x ∷ xs) (suc i) h = let rest = unnamed xs i h in omega arith
       by_case (Some text) e =
           let here = subst (IsListedIfAny (used_sources m)) e kept.0 in
-          let numbered : number_in (used_sources m) (source_of m t.src_id) ≡ here.0 = number-of (used_sources m) (source_of m t.src_id) text here.0 e here.1 in
-          let below = slice_get_within (used_sources m) here.0 text (slice_get-id_of text (used_sources m) here.0 here.1) in
+          let numbered : number_in (used_sources m) (source_of m t.src_id) ≡ here.0 =
+          number-of (used_sources m) (source_of m t.src_id) text here.0 e here.1 in
+          let below =
+          slice_get_within (used_sources m) here.0 text (slice_get-id_of text (used_sources m) here.0 here.1) in
           absurd (omega (arith, many, numbered, below, past))
 
   pub well_rewritten : IsWellFormed m → IsWellFormed (rewritten removal m)
   well_rewritten well =
-      All-map (IsWithin (length (rewritten removal m).sources) (length (rewritten removal m).names)) (renumbered removal m) m.tokens
+      All-map (IsWithin (length (rewritten removal m).sources) (length (rewritten removal m).names))
+      (renumbered removal m) m.tokens
       (All-weaker (λ t. IsKept m t × IsWithin (length m.sources) (length m.names) t) _ within-rewritten m.tokens
       (All-both (IsKept m) (IsWithin (length m.sources) (length m.names)) m.tokens (all_tokens_kept m) well))
 
@@ -172,27 +201,32 @@ pub cut-nothing : (text : Option (List ℕ)) → option_map (without_prefix []) 
 cut-nothing None = refl
 cut-nothing (Some text) = refl
 
-nothing-taken : (removal : Removal) (m : MapValue) → LeavesMeaning removal → (o : Option Meaning) → option_map (without_removed removal m) o ≡ o
+nothing-taken : (removal : Removal) (m : MapValue) → LeavesMeaning removal → (o : Option Meaning)
+    → option_map (without_removed removal m) o ≡ o
 nothing-taken removal m (names, prefixes) None = refl
 nothing-taken removal m (names, prefixes) (Some says) = ap Some (λ i. record {
-  source = (ap (λ ps. option_map (without_prefix (all_prefixes ps m.sources)) says.source) prefixes ∙ cut-nothing says.source) i;
+  source = (ap (λ ps. option_map (without_prefix (all_prefixes ps m.sources)) says.source) prefixes
+      ∙ cut-nothing says.source) i;
   line = says.line;
   column = says.column;
   name = cond (names i) says.name None;
   is_range = says.is_range;
 })
 
-pub means_the_same : (m new : MapValue) (removal : Removal) → LeavesMeaning removal → MeansLess removal m new → MeansTheSame new m
+pub means_the_same : (m new : MapValue) (removal : Removal) → LeavesMeaning removal → MeansLess removal m new
+    → MeansTheSame new m
 means_the_same m new removal leaves less p = less p ∙ nothing-taken removal m leaves (meaning m p)
 
 -- With contents loaded.
 
 -- contents do not affect the meaning
-with_contents : (m : MapValue) (contents : List (Option (List ℕ))) (p : ℕ × ℕ) → meaning (record m { contents = contents }) p ≡ meaning m p
+with_contents : (m : MapValue) (contents : List (Option (List ℕ))) (p : ℕ × ℕ)
+    → meaning (record m { contents = contents }) p ≡ meaning m p
 unfolding of_item
 with_contents m contents p = meaning-item (record m { contents = contents }) p ∙ sym (meaning-item m p)
 
-module _ (options : RewriteOptions) (m new : MapValue) (few_sources : length m.sources ≤ 4294967295) (few_names : length m.names ≤ 4294967295)
+module _ (options : RewriteOptions) (m new : MapValue) (few_sources : length m.sources ≤ 4294967295)
+    (few_names : length m.names ≤ 4294967295)
     (is : Rewrites options m (Ok new)) where
   others : SameButContents new (rewritten (removal_of options) m)
   others = but_contents options m new is
@@ -203,7 +237,9 @@ module _ (options : RewriteOptions) (m new : MapValue) (few_sources : length m.s
       ∙ ap (λ n. meaning n p) others ∙ means_less m (removal_of options) few_sources few_names p
 
   pub result_reduced : TokensMeanLess (removal_of options) m new
-  result_reduced = subst (TokensMeanLess (removal_of options) m) (sym others) (all_reduced m (removal_of options) few_sources few_names)
+  result_reduced = subst (TokensMeanLess (removal_of options) m) (sym others) (all_reduced m
+      (removal_of options) few_sources few_names)
 
   pub result_well_formed : IsWellFormed m → IsWellFormed new
-  result_well_formed well = subst IsWellFormed (sym others) (well_rewritten m (removal_of options) few_sources few_names well)
+  result_well_formed well =
+      subst IsWellFormed (sym others) (well_rewritten m (removal_of options) few_sources few_names well)

@@ -8,7 +8,8 @@ use Rattle.sourcemap_records.specs.Jsontypes.{Fields, Tree, plain, indexed, flat
 use Rattle.sourcemap_map_conversions.specs.FromRecord.{parts_from}
 use Rattle.sourcemap_map_regular.specs.Map.{MapValue}
 use Rattle.sourcemap_map_regular.specs.MapStored.{map_in}
-pub use Rattle.sourcemap_map_conversions.specs.FromRecord.{list_or_empty, number_read, name_read, file_read, source_read, rising}
+pub use Rattle.sourcemap_map_conversions.specs.FromRecord.{list_or_empty, number_read, name_read, file_read}
+pub use Rattle.sourcemap_map_conversions.specs.FromRecord.{source_read, rising}
 pub use Rattle.sourcemap_map_conversions.specs.FromRecord.{HasFewItems, TokensAnswer}
 
 -- the map of a record whose mappings decode to these tokens

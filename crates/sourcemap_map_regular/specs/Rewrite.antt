@@ -1,13 +1,15 @@
 -- The rewritten map: without the sources and names that no token uses, without root and ignore list, and without what
 -- the options remove. Sources without contents may get contents from files.
-use Rattle.std.specs.Prelude.{length, ◌≤◌, ◌≡◌, ℕ, true, cond, MatchBool, List, [], map, slice_get, Option, None, option_map, option_and_then, Result, Ok, Err}
+use Rattle.std.specs.Prelude.{length, ◌≤◌, ◌≡◌, ℕ, true, cond, MatchBool, List, [], map, slice_get, Option, None}
+use Rattle.std.specs.Prelude.{option_map, option_and_then, Result, Ok, Err}
 use Rattle.std.specs.Str.{bytes_eq}
 use Rattle.sourcemap_errors.specs.declared.errors.Error.{Error}
 use Rattle.sourcemap_tokens.specs.declared.tokens.RawToken.{RawToken}
 use Rattle.sourcemap_tokens.specs.Tokens.{destination}
 use Rattle.sourcemap_texts.specs.Prefixes.{without_prefix}
 use Rattle.sourcemap_map_rewrite.specs.declared.options.RewriteOptions.{RewriteOptions}
-use Rattle.sourcemap_map_regular.specs.Map.{MapValue, Meaning, resolved_sources, source_of, name_of, contents_of, meaning, meaning_of}
+use Rattle.sourcemap_map_regular.specs.Map.{MapValue, Meaning, resolved_sources, source_of, name_of, contents_of}
+use Rattle.sourcemap_map_regular.specs.Map.{meaning, meaning_of}
 pub use Rattle.sourcemap_map_rewrite.specs.CutSources.{common_if, all_prefixes}
 pub use Rattle.sourcemap_map_rewrite.specs.FirstIds.{firsts_of}
 pub use Rattle.sourcemap_map_rewrite.specs.Kept.{present, kept_once, number_in}
@@ -117,9 +119,11 @@ token_meanings m = map (λ t. (destination t, meaning_of m t 0)) m.tokens
 -- the new map has one token for each old token, in the same order. The new token has the generated position of the old
 -- token, and the meaning of the old token, changed by `without_removed`
 abbrev pub TokensMeanLess : Removal → (old new : MapValue) → Type 0
-TokensMeanLess removal old new = token_meanings new ≡ map (λ entry. (entry.0, without_removed removal old entry.1)) (token_meanings old)
+TokensMeanLess removal old new =
+    token_meanings new ≡ map (λ entry. (entry.0, without_removed removal old entry.1)) (token_meanings old)
 
 -- if `m` has at most 4294967295 sources and at most 4294967295 names, rewriting `m` twice by the default options gives
 -- the same map as rewriting `m` once
 abbrev pub IsFinal : MapValue → Type 0
-IsFinal m = length m.sources ≤ 4294967295 → length m.names ≤ 4294967295 → rewritten no_removal (rewritten no_removal m) ≡ rewritten no_removal m
+IsFinal m = length m.sources ≤ 4294967295 → length m.names ≤ 4294967295
+    → rewritten no_removal (rewritten no_removal m) ≡ rewritten no_removal m

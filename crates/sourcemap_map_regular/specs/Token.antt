@@ -15,7 +15,8 @@ meaning_of_token t = says (token_value t)
 
 -- the token at an index, if there is one
 abbrev pub token_at : MapValue → ℕ → Option TokenValue
-token_at m index = option_map (λ raw. record { map_of = m; raw = raw; index = index; extra_columns = 0 }) (slice_get m.tokens index)
+token_at m index =
+    option_map (λ raw. record { map_of = m; raw = raw; index = index; extra_columns = 0 }) (slice_get m.tokens index)
 
 -- the tokens from an index on
 abbrev pub tokens_from : MapValue → ℕ → List TokenValue

@@ -13,11 +13,14 @@ pub without_loading : (options : RewriteOptions) (m new : MapValue) → options.
 without_loading options m new none =
     subst (λ loads. MatchBool loads (IsLoaded options m new) (new ≡ rewritten (removal_of options) m)) none
 
-pub lacks_none : (options : RewriteOptions) (e : Error) → options.load_local_source_contents ≡ false → LacksFolder options e → ⊥
+pub lacks_none : (options : RewriteOptions) (e : Error) → options.load_local_source_contents ≡ false
+    → LacksFolder options e → ⊥
 lacks_none options e none lacks = subst (λ loads. MatchBool loads (Unit {0}) ⊥) (sym lacks.loads ∙ none) tt
 
-pub Gives-rewritten : {X : Type 0} (view : X → MapValue) (options : RewriteOptions) (m : MapValue) (result : Result X Error)
+pub Gives-rewritten : {X : Type 0} (view : X → MapValue) (options : RewriteOptions) (m : MapValue)
+    (result : Result X Error)
     → options.load_local_source_contents ≡ false → IsAnswer view (Rewrites options m) result
     → Gives view result (Ok (rewritten (removal_of options) m))
 Gives-rewritten view options m (Ok x) none is = ap Ok (sym (without_loading options m (view x) none is))
-Gives-rewritten view options m (Err e) none is = UnlessMemory-weaker e (λ lacks. absurd (lacks_none options e none lacks)) is
+Gives-rewritten view options m (Err e) none is =
+    UnlessMemory-weaker e (λ lacks. absurd (lacks_none options e none lacks)) is

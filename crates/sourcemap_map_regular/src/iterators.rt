@@ -155,7 +155,8 @@ impl SourceMap {
     ghost use Rattle.std.specs.Ordering.{nat_cmp};
     ghost use Rattle.sourcemap_map_regular.specs.Map.{resolved_sources, fitted};
     ghost use Rattle.sourcemap_tokens.specs.Tokens.{AreInOrder};
-    ghost use Rattle.sourcemap_map_regular.specs.Iterators.{tokens_map, tokens_left, names_left, sources_left, contents_left, ids_left};
+    ghost use Rattle.sourcemap_map_regular.specs.Iterators.{tokens_map, tokens_left, names_left, sources_left};
+    ghost use Rattle.sourcemap_map_regular.specs.Iterators.{contents_left, ids_left};
     ghost use Rattle.sourcemap_map_regular.specs.Token.{tokens_from};
 
     /// The tokens, in order of generated position.

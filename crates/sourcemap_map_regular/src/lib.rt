@@ -1,4 +1,5 @@
-//! Regular source maps: tokens, lookups, setters, decoding, encoding, adjusting and rewriting.
+//! Regular source maps, with lookups, setters, decoding, encoding, adjusting and rewriting; knows
+//! nothing of Hermes and index maps.
 #![tactic(auto)]
 
 mod adjust;

@@ -1,5 +1,6 @@
 //! A regular map: its parts, getters and lookups.
-ghost use Rattle.std.specs.Prelude.{◌≡◌, ◌==◌, not, ◌<◌, ◌≤◌, ◌+◌, ◌*◌, ◌^◌, [], IfOk, IfSome, Ok, Some, length, min, option_map, slice_get, unwrap_or, vec_len};
+ghost use Rattle.std.specs.Prelude.{◌≡◌, ◌==◌, not, ◌<◌, ◌≤◌, ◌+◌, ◌*◌, ◌^◌, [], IfOk, IfSome, Ok, Some, length, min};
+ghost use Rattle.std.specs.Prelude.{option_map, slice_get, unwrap_or, vec_len};
 ghost use Rattle.std.specs.Option.{option_copied, ForSome};
 ghost use Rattle.sourcemap_map_conversions.specs.Parts.{parts_view};
 ghost use Rattle.sourcemap_errors.specs.Answer.{Gives};

@@ -18,7 +18,8 @@ use std::rt::Files;
 
 impl SourceMap {
     ghost use Rattle.sourcemap_map_regular.specs.Map.{IsWellFormed, MeansTheSame};
-    ghost use Rattle.sourcemap_map_regular.specs.Rewrite.{first_ids, LeavesMeaning, MeansLess, Rewrites, TokensMeanLess};
+    ghost use Rattle.sourcemap_map_regular.specs.Rewrite.{first_ids, LeavesMeaning, MeansLess, Rewrites};
+    ghost use Rattle.sourcemap_map_regular.specs.Rewrite.{TokensMeanLess};
 
     /// Reduces the map to the sources and names that tokens use, each once, in the order of first
     /// use. Sources are resolved against `sourceRoot`, and the result has no root. Used sources

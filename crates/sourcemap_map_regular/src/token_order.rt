@@ -5,7 +5,8 @@ ghost use Rattle.std.proofs.Common.{rules};
 ghost use Rattle.std.specs.Cmp.{partial_order_from_own_ties, partial_equiv_from_equiv};
 ghost use Rattle.std.specs.Cmp.Rules.{comparing};
 ghost use Rattle.std.specs.Ordering.{as_partial_cmp};
-ghost use Rattle.sourcemap_map_regular.specs.TokenOrder.{text_cmp, token_cmp, same_token, token_cmp_total, same_token_equiv};
+ghost use Rattle.sourcemap_map_regular.specs.TokenOrder.{text_cmp, token_cmp, same_token, token_cmp_total};
+ghost use Rattle.sourcemap_map_regular.specs.TokenOrder.{same_token_equiv};
 
 use crate::token::Token;
 use std::cmp::Ordering;

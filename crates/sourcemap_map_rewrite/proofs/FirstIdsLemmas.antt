@@ -1,6 +1,8 @@
 -- For each text in use, the first old number (`first_of`) is an index of this text. No two texts in use have the same
 -- first old number.
-use Rattle.std.proofs.Common.{◌≡◌, refl, sym, ap, subst, ◌∙◌, ℕ, suc, List, [], ◌∷◌, ◌++◌, append_assoc, map, fold, get_or, Bool, true, false, cond, Some, None, Option, arith, inl, inr, slice_get, is_some, option_map, unwrap_or, nat_eq}
+use Rattle.std.proofs.Common.{◌≡◌, refl, sym, ap, subst, ◌∙◌, ℕ, suc, List, [], ◌∷◌, ◌++◌, append_assoc, map, fold}
+use Rattle.std.proofs.Common.{get_or, Bool, true, false, cond, Some, None, Option, arith, inl, inr, slice_get, is_some}
+use Rattle.std.proofs.Common.{option_map, unwrap_or, nat_eq}
 use Rattle.std.specs.List.{AllByRecursion, IsDistinct, find}
 use Rattle.std.specs.Option.{option_or, option_map_or}
 use Rattle.std.specs.Str.{bytes_eq}
@@ -21,10 +23,12 @@ use Rattle.sourcemap_map_rewrite.proofs.NumberingLemmas.{distinct-texts_in_use, 
 
 -- Numbers that name a text.
 
-pub names : (texts : List (List ℕ)) (text : List ℕ) (id : ℕ) → slice_get texts id ≡ Some text → names_text texts text id ≡ true
+pub names : (texts : List (List ℕ)) (text : List ℕ) (id : ℕ) → slice_get texts id ≡ Some text
+    → names_text texts text id ≡ true
 names texts text id at = rw at ((bytes_eq-Decides text text).1 refl)
 
-pub named : (texts : List (List ℕ)) (text : List ℕ) (id : ℕ) → names_text texts text id ≡ true → slice_get texts id ≡ Some text
+pub named : (texts : List (List ℕ)) (text : List ℕ) (id : ℕ) → names_text texts text id ≡ true
+    → slice_get texts id ≡ Some text
 named texts text id = by_case (slice_get texts id)
   where
     by_case : (o : Option (List ℕ)) → option_map_or (bytes_eq text) o false ≡ true → o ≡ Some text
@@ -52,21 +56,25 @@ none_names texts kept text new (id ∷ ids) all =
           | inr apart ↦ apart
         ]
 
-pub none_before : (texts : List (List ℕ)) (ids : List ℕ) (text : List ℕ) → id_of text (texts_in_use texts ids) ≡ None → find (names_text texts text) ids ≡ None
+pub none_before : (texts : List (List ℕ)) (ids : List ℕ) (text : List ℕ) → id_of text (texts_in_use texts ids) ≡ None
+    → find (names_text texts text) ids ≡ None
 none_before texts ids text new =
     none_names texts (texts_in_use texts ids) text new ids
-    (All-unmapped (IsListedIfAny (texts_in_use texts ids)) (slice_get texts) ids (used-kept (map (slice_get texts) ids)))
+    (All-unmapped (IsListedIfAny (texts_in_use texts ids)) (slice_get texts) ids
+    (used-kept (map (slice_get texts) ids)))
 
 -- let `id` be an index of `text` in `texts`. If no number in `before` is an index of `text`, then `id` is the first
 -- number in `before ++ id ∷ later` that is an index of `text` (`first_of`)
 pub first_here : (texts : List (List ℕ)) (before later : List ℕ) (id : ℕ) (text : List ℕ)
-    → id_of text (texts_in_use texts before) ≡ None → slice_get texts id ≡ Some text → first_of texts (before ++ id ∷ later) text ≡ id
+    → id_of text (texts_in_use texts before) ≡ None → slice_get texts id ≡ Some text
+    → first_of texts (before ++ id ∷ later) text ≡ id
 first_here texts before later id text new at =
     let test : ℕ → Bool = names_text texts text in
     let none : find test before ≡ None = none_before texts before text new in
     let here : test id ≡ true = names texts text id at in
     let found : find test (id ∷ later) ≡ Some id = rw here refl in
-    ap (λ o. unwrap_or o 4294967295) (find-append test before (id ∷ later) ∙ ap (λ o. option_or o (find test (id ∷ later))) none ∙ found)
+    ap (λ o. unwrap_or o 4294967295)
+    (find-append test before (id ∷ later) ∙ ap (λ o. option_or o (find test (id ∷ later))) none ∙ found)
 
 -- For each text in use, the list of old numbers contains an index of the text.
 
@@ -77,22 +85,27 @@ found_in : (test : ℕ → Bool) (xs ys : List ℕ) (x : ℕ) → test x ≡ tru
 found_in test [] ys x e = (x, rw e refl)
 found_in test (z ∷ xs) ys x e = by_case (test z) (found_in test xs ys x e)
   where
-    by_case : (b : Bool) → (id : ℕ) × (find test (xs ++ x ∷ ys) ≡ Some id) → (id : ℕ) × (cond b (Some z) (find test (xs ++ x ∷ ys)) ≡ Some id)
+    by_case : (b : Bool) → (id : ℕ) × (find test (xs ++ x ∷ ys) ≡ Some id)
+        → (id : ℕ) × (cond b (Some z) (find test (xs ++ x ∷ ys)) ≡ Some id)
     by_case true h = (z, refl)
     by_case false h = h
 
-all_found : (texts : List (List ℕ)) (xs ids : List ℕ) → AllByRecursion (IsFound texts (xs ++ ids)) (present (map (slice_get texts) ids))
+all_found : (texts : List (List ℕ)) (xs ids : List ℕ)
+    → AllByRecursion (IsFound texts (xs ++ ids)) (present (map (slice_get texts) ids))
 all_found texts xs [] = tt
 all_found texts xs (id ∷ ids) =
     by_case (slice_get texts id) refl
-    (subst (λ all. AllByRecursion (IsFound texts all) (present (map (slice_get texts) ids))) (append_assoc xs (id ∷ []) ids) (all_found texts (xs ++ id ∷ []) ids))
+    (subst (λ all. AllByRecursion (IsFound texts all) (present (map (slice_get texts) ids)))
+    (append_assoc xs (id ∷ []) ids) (all_found texts (xs ++ id ∷ []) ids))
   where
-    by_case : (o : Option (List ℕ)) → slice_get texts id ≡ o → AllByRecursion (IsFound texts (xs ++ id ∷ ids)) (present (map (slice_get texts) ids))
+    by_case : (o : Option (List ℕ)) → slice_get texts id ≡ o
+        → AllByRecursion (IsFound texts (xs ++ id ∷ ids)) (present (map (slice_get texts) ids))
         → AllByRecursion (IsFound texts (xs ++ id ∷ ids)) (present (o ∷ map (slice_get texts) ids))
     by_case None at rest = rest
     by_case (Some text) at rest = (found_in (names_text texts text) xs ids id (names texts text id at), rest)
 
-all_kept : (P : List ℕ → Type 0) (kept texts : List (List ℕ)) → AllByRecursion P kept → AllByRecursion P texts → AllByRecursion P (fold with_text kept texts)
+all_kept : (P : List ℕ → Type 0) (kept texts : List (List ℕ)) → AllByRecursion P kept → AllByRecursion P texts
+    → AllByRecursion P (fold with_text kept texts)
 all_kept P kept [] h k = h
 all_kept P kept (text ∷ texts) h k = all_kept P (with_text kept text) texts (by_case (id_of text kept)) k.1
   where
@@ -104,7 +117,8 @@ passes : (test : ℕ → Bool) (ids : List ℕ) (id : ℕ) → find test ids ≡
 passes test [] id e = cc
 passes test (x ∷ ids) id e = by_case (test x) refl (passes test ids id) e
   where
-    by_case : (b : Bool) → test x ≡ b → (find test ids ≡ Some id → test id ≡ true) → cond b (Some x) (find test ids) ≡ Some id → test id ≡ true
+    by_case : (b : Bool) → test x ≡ b → (find test ids ≡ Some id → test id ≡ true)
+        → cond b (Some x) (find test ids) ≡ Some id → test id ≡ true
     by_case true here later e = let same : x ≡ id = cc in subst (λ y. test y ≡ true) same here
     by_case false here later e = later e
 
@@ -120,11 +134,14 @@ first_names texts ids k text at =
 
 -- No two texts in use have the same first old number (`firsts_of`).
 
-distinct_by_index : (xs : List ℕ) → ((i j x : ℕ) → slice_get xs i ≡ Some x → slice_get xs j ≡ Some x → i ≡ j) → IsDistinct nat_eq xs
+distinct_by_index : (xs : List ℕ) → ((i j x : ℕ) → slice_get xs i ≡ Some x → slice_get xs j ≡ Some x → i ≡ j)
+    → IsDistinct nat_eq xs
 unfolding IsDistinct
 distinct_by_index [] apart = tt
-distinct_by_index (x ∷ xs) apart =
-    (others xs (λ j e. let same : 0 ≡ suc j = apart 0 (suc j) x refl e in omega (arith, same)), distinct_by_index xs (λ i j y e f. let same : suc i ≡ suc j = apart (suc i) (suc j) y e f in omega (arith, same)))
+distinct_by_index (x ∷ xs) apart = (
+  others xs (λ j e. let same : 0 ≡ suc j = apart 0 (suc j) x refl e in omega (arith, same)),
+  distinct_by_index xs (λ i j y e f. let same : suc i ≡ suc j = apart (suc i) (suc j) y e f in omega (arith, same)),
+)
   where
     others : (ys : List ℕ) → ((j : ℕ) → slice_get ys j ≡ Some x → ⊥) → AllByRecursion (λ y. nat_eq x y ≡ false) ys
     others [] never = tt
@@ -138,24 +155,32 @@ pub firsts-distinct : (texts : List (List ℕ)) (ids : List ℕ) → IsDistinct 
 firsts-distinct texts ids = distinct_by_index (firsts_of texts ids) apart
   where
     -- if `firsts_of` has `x` at index `k`, then `x` is an index of the text that `texts_in_use` has at `k`
-    text_at : (k x : ℕ) → slice_get (firsts_of texts ids) k ≡ Some x → (text : List ℕ) × (slice_get (texts_in_use texts ids) k ≡ Some text) × (slice_get texts x ≡ Some text)
+    text_at : (k x : ℕ) → slice_get (firsts_of texts ids) k ≡ Some x
+        → (text : List ℕ) × (slice_get (texts_in_use texts ids) k ≡ Some text) × (slice_get texts x ≡ Some text)
     text_at k x e = by_case (slice_get (texts_in_use texts ids) k) refl
       where
-        by_case : (o : Option (List ℕ)) → slice_get (texts_in_use texts ids) k ≡ o → (text : List ℕ) × (slice_get (texts_in_use texts ids) k ≡ Some text) × (slice_get texts x ≡ Some text)
-        by_case None none = let mapped = slice_get-map (first_of texts ids) (texts_in_use texts ids) k ∙ ap (option_map (first_of texts ids)) none in cc
+        by_case : (o : Option (List ℕ)) → slice_get (texts_in_use texts ids) k ≡ o
+            → (text : List ℕ) × (slice_get (texts_in_use texts ids) k ≡ Some text) × (slice_get texts x ≡ Some text)
+        by_case None none = let mapped =
+            slice_get-map (first_of texts ids) (texts_in_use texts ids) k ∙ ap (option_map (first_of texts ids)) none in
+            cc
         by_case (Some text) at =
-            let mapped = slice_get-map (first_of texts ids) (texts_in_use texts ids) k ∙ ap (option_map (first_of texts ids)) at in
+            let mapped =
+            slice_get-map (first_of texts ids) (texts_in_use texts ids) k ∙ ap (option_map (first_of texts ids)) at in
             let same : first_of texts ids text ≡ x = cc in
             (text, at, subst (λ y. slice_get texts y ≡ Some text) same (first_names texts ids k text at))
 
-    one_index : (one other : List ℕ) (i j : ℕ) → Some one ≡ Some other → id_of one (texts_in_use texts ids) ≡ Some i → id_of other (texts_in_use texts ids) ≡ Some j → i ≡ j
+    one_index : (one other : List ℕ) (i j : ℕ) → Some one ≡ Some other → id_of one (texts_in_use texts ids) ≡ Some i
+        → id_of other (texts_in_use texts ids) ≡ Some j → i ≡ j
     one_index one other i j same first second = cc
 
-    apart : (i j x : ℕ) → slice_get (firsts_of texts ids) i ≡ Some x → slice_get (firsts_of texts ids) j ≡ Some x → i ≡ j
+    apart : (i j x : ℕ) → slice_get (firsts_of texts ids) i ≡ Some x
+        → slice_get (firsts_of texts ids) j ≡ Some x → i ≡ j
     apart i j x e f =
         let (one, at_one, named_one) = text_at i x e in
         let (other, at_other, named_other) = text_at j x f in
-        one_index one other i j (sym named_one ∙ named_other) (distinct-texts_in_use texts ids one i at_one) (distinct-texts_in_use texts ids other j at_other)
+        one_index one other i j (sym named_one ∙ named_other) (distinct-texts_in_use texts ids one i at_one)
+        (distinct-texts_in_use texts ids other j at_other)
 
 -- Let `s` have seen the sources of the tokens (`AreSeen`), and let `text` be a source in use. The first number in
 -- `s.order` that is an index of `text` is also the first source id, in the order of the tokens, that is an index of
@@ -165,18 +190,22 @@ firsts-distinct texts ids = distinct_by_index (firsts_of texts ids) apart
 abbrev passing : (ℕ → Bool) → ℕ → Option (List ℕ)
 passing test id = cond (test id) (Some (id ∷ [])) None
 
-first_passing : (test : ℕ → Bool) (ids : List ℕ) → option_map (λ text. get_or text 0 0) (first_some (passing test) ids) ≡ find test ids
+first_passing : (test : ℕ → Bool) (ids : List ℕ)
+    → option_map (λ text. get_or text 0 0) (first_some (passing test) ids) ≡ find test ids
 first_passing test [] = refl
 first_passing test (id ∷ ids) = by_case (test id) (first_passing test ids)
   where
     by_case : (b : Bool) → option_map (λ text. get_or text 0 0) (first_some (passing test) ids) ≡ find test ids
-        → option_map (λ text. get_or text 0 0) (option_or (cond b (Some (id ∷ [])) None) (first_some (passing test) ids)) ≡ cond b (Some id) (find test ids)
+        → option_map (λ text. get_or text 0 0) (option_or (cond b (Some (id ∷ [])) None)
+        (first_some (passing test) ids)) ≡ cond b (Some id) (find test ids)
     by_case true e = refl
     by_case false e = e
 
-pub firsts-used : (S N : List (List ℕ)) (ts : List RawToken) (s n : NewNumbers) → AreSeen S N ts s n → firsts_of S s.order.items ≡ first_ids_used S ts
+pub firsts-used : (S N : List (List ℕ)) (ts : List RawToken) (s n : NewNumbers) → AreSeen S N ts s n
+    → firsts_of S s.order.items ≡ first_ids_used S ts
 firsts-used S N ts s n seen =
-    (λ i. map (λ text. same text i) (texts_in_use S s.order.items)) ∙ ap (map (first_of S (map (λ t. t.src_id) ts))) seen.kept_sources
+    (λ i. map (λ text. same text i) (texts_in_use S s.order.items))
+    ∙ ap (map (first_of S (map (λ t. t.src_id) ts))) seen.kept_sources
   where
     past : (text : List ℕ) (id : ℕ) → slice_get S id ≡ None → passing (names_text S text) id ≡ None
     past text id e = rw e refl

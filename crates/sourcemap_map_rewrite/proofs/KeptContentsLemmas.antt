@@ -1,5 +1,7 @@
 -- Contents are moved to the new numbers of their sources, one after another.
-use Rattle.std.proofs.Common.{◌≡◌, ◌≢◌, refl, sym, ap, ◌∙◌, ℕ, zero, suc, ◌<◌, ◌==◌, List, [], ◌∷◌, ◌++◌, length, get_or, Bool, true, false, cond, Some, None, Option, arith, inl, inr, ◌⊎◌, slice_get, slice_set, is_some, replicate, eqb-true, eq-eqb, option_and_then}
+use Rattle.std.proofs.Common.{◌≡◌, ◌≢◌, refl, sym, ap, ◌∙◌, ℕ, zero, suc, ◌<◌, ◌==◌, List, [], ◌∷◌, ◌++◌, length}
+use Rattle.std.proofs.Common.{get_or, Bool, true, false, cond, Some, None, Option, arith, inl, inr, ◌⊎◌, slice_get}
+use Rattle.std.proofs.Common.{slice_set, is_some, replicate, eqb-true, eq-eqb, option_and_then}
 use Rattle.std.specs.Option.{option_or}
 use Rattle.std.proofs.lemmas.Bool.{cases_eq}
 use Rattle.std.proofs.lemmas.Option.{slice_get_read}
@@ -16,7 +18,8 @@ abbrev pub AreLeft : List ℕ → (old now kept : List (Option (List ℕ))) → 
 AreLeft numbers old now kept = (id : ℕ) → (item_at now id ≡ item_at old id)
     ⊎ ((number : ℕ) × (text : List ℕ) × (slice_get numbers id ≡ Some number) × (item_at kept number ≡ Some text))
 
-item_at-set_same : (xs : List (Option (List ℕ))) (i : ℕ) (o : Option (List ℕ)) → i < length xs → item_at (slice_set xs i o) i ≡ o
+item_at-set_same : (xs : List (Option (List ℕ))) (i : ℕ) (o : Option (List ℕ)) → i < length xs
+    → item_at (slice_set xs i o) i ≡ o
 item_at-set_same xs i o within = ap (option_and_then (λ x. x)) (slice_get-set_same xs i o within)
 
 item_at-cleared : (xs : List (Option (List ℕ))) (i : ℕ) → item_at (slice_set xs i None) i ≡ None
@@ -24,13 +27,16 @@ item_at-cleared [] i = refl
 item_at-cleared (x ∷ xs) zero = refl
 item_at-cleared (x ∷ xs) (suc i) = item_at-cleared xs i
 
-item_at-set_other : (xs : List (Option (List ℕ))) (i j : ℕ) (o : Option (List ℕ)) → j ≢ i → item_at (slice_set xs i o) j ≡ item_at xs j
+item_at-set_other : (xs : List (Option (List ℕ))) (i j : ℕ) (o : Option (List ℕ)) → j ≢ i
+    → item_at (slice_set xs i o) j ≡ item_at xs j
 item_at-set_other xs i j o apart = ap (option_and_then (λ x. x)) (slice_get-set_other xs i j o apart)
 
-contents_with_number-same : (numbers : List ℕ) (contents : List (Option (List ℕ))) (id k : ℕ) → slice_get numbers id ≡ Some k → contents_with_number numbers contents k id ≡ item_at contents id
+contents_with_number-same : (numbers : List ℕ) (contents : List (Option (List ℕ))) (id k : ℕ)
+    → slice_get numbers id ≡ Some k → contents_with_number numbers contents k id ≡ item_at contents id
 contents_with_number-same numbers contents id k e = let same : (k == k) ≡ true = eq-eqb k k refl in rw (e, same) refl
 
-contents_with_number-other : (numbers : List ℕ) (contents : List (Option (List ℕ))) (id n k : ℕ) → slice_get numbers id ≡ Some n → k ≢ n → contents_with_number numbers contents k id ≡ None
+contents_with_number-other : (numbers : List ℕ) (contents : List (Option (List ℕ))) (id n k : ℕ)
+    → slice_get numbers id ≡ Some n → k ≢ n → contents_with_number numbers contents k id ≡ None
 contents_with_number-other numbers contents id n k e apart = rw e (by_case (n == k) refl)
   where
     by_case : (b : Bool) → (n == k) ≡ b → cond b (item_at contents id) None ≡ None
@@ -43,7 +49,8 @@ item_at-nothing (suc n) zero = refl
 item_at-nothing (suc n) (suc k) = item_at-nothing n k
 
 -- at the start no new number has contents
-pub kept-none : (numbers : List ℕ) (contents kept : List (Option (List ℕ))) (count : ℕ) → kept ≡ replicate count None → AreKept numbers [] contents count kept
+pub kept-none : (numbers : List ℕ) (contents kept : List (Option (List ℕ))) (count : ℕ) → kept ≡ replicate count None
+    → AreKept numbers [] contents count kept
 kept-none numbers contents kept count e = record {
   many = ap length e ∙ length-replicate count None;
   each = λ k below. ap (λ xs. item_at xs k) e ∙ item_at-nothing count k;
@@ -57,52 +64,73 @@ module _ (numbers order : List ℕ) (old now kept now' kept' : List (Option (Lis
     full-kept : AreKept numbers (order ++ id ∷ []) old count kept'
     full-kept = record {
       many = ap length same ∙ is.many;
-      each = λ k below. ap (λ xs. item_at xs k) same ∙ by_case k below (cases_eq k new_id) ∙ sym (first_some-push (contents_with_number numbers old k) order id);
+      each = λ k below. ap (λ xs. item_at xs k) same ∙ by_case k below (cases_eq k new_id)
+          ∙ sym (first_some-push (contents_with_number numbers old k) order id);
     } where
-      by_case : (k : ℕ) → k < count → (k ≡ new_id) ⊎ (k ≢ new_id) → item_at kept k ≡ option_or (first_some (contents_with_number numbers old k) order) (contents_with_number numbers old k id)
-      by_case k below (inl e) = let some : first_some (contents_with_number numbers old k) order ≡ Some text = sym (is.each k below) ∙ ap (item_at kept) e ∙ has in rw some (ap (item_at kept) e ∙ has)
-      by_case k below (inr apart) = rw (contents_with_number-other numbers old id new_id k named apart, option_or-None (first_some (contents_with_number numbers old k) order)) (is.each k below)
+      by_case : (k : ℕ) → k < count → (k ≡ new_id) ⊎ (k ≢ new_id) → item_at kept k
+          ≡ option_or (first_some (contents_with_number numbers old k) order) (contents_with_number numbers old k id)
+      by_case k below (inl e) = let some : first_some (contents_with_number numbers old k) order ≡ Some text =
+          sym (is.each k below) ∙ ap (item_at kept) e ∙ has in rw some (ap (item_at kept) e ∙ has)
+      by_case k below (inr apart) = rw (
+        contents_with_number-other numbers old id new_id k named apart,
+        option_or-None (first_some (contents_with_number numbers old k) order),
+      ) (is.each k below)
 
     full-left : AreLeft numbers old now' kept'
     full-left = rw (same, unchanged) left
 
   -- the new number has no contents yet
-  module _ (has : item_at kept new_id ≡ None) (put : kept' ≡ slice_set kept new_id (item_at now id)) (cleared : now' ≡ slice_set now id None) where
+  module _ (has : item_at kept new_id ≡ None) (put : kept' ≡ slice_set kept new_id (item_at now id))
+      (cleared : now' ≡ slice_set now id None) where
     untouched : item_at now id ≡ item_at old id
     untouched = by_case (left id)
       where
-        by_case : (item_at now id ≡ item_at old id) ⊎ ((number : ℕ) × (text : List ℕ) × (slice_get numbers id ≡ Some number) × (item_at kept number ≡ Some text)) → item_at now id ≡ item_at old id
+        by_case : (item_at now id ≡ item_at old id) ⊎ ((number : ℕ) × (text : List ℕ) × (slice_get numbers id
+            ≡ Some number) × (item_at kept number ≡ Some text)) → item_at now id ≡ item_at old id
         by_case (inl e) = e
-        by_case (inr (n, text, e, f)) = let same : n ≡ new_id = cc in let some : item_at kept new_id ≡ Some text = ap (item_at kept) (sym same) ∙ f in cc
+        by_case (inr (n, text, e, f)) = let same : n ≡ new_id = cc in let some : item_at kept new_id ≡ Some text =
+            ap (item_at kept) (sym same) ∙ f in cc
 
     here : item_at kept' new_id ≡ item_at old id
-    here = ap (λ xs. item_at xs new_id) put ∙ item_at-set_same kept new_id (item_at now id) (omega (arith, is.many)) ∙ untouched
+    here = ap (λ xs. item_at xs new_id) put ∙ item_at-set_same kept new_id (item_at now id) (omega
+        (arith, is.many)) ∙ untouched
 
     empty-kept : AreKept numbers (order ++ id ∷ []) old count kept'
     empty-kept = record {
       many = ap length put ∙ length-set kept new_id (item_at now id) ∙ is.many;
-      each = λ k below. by_case k below (cases_eq k new_id) ∙ sym (first_some-push (contents_with_number numbers old k) order id);
+      each = λ k below. by_case k below (cases_eq k new_id)
+          ∙ sym (first_some-push (contents_with_number numbers old k) order id);
     } where
-      by_case : (k : ℕ) → k < count → (k ≡ new_id) ⊎ (k ≢ new_id) → item_at kept' k ≡ option_or (first_some (contents_with_number numbers old k) order) (contents_with_number numbers old k id)
+      by_case : (k : ℕ) → k < count → (k ≡ new_id) ⊎ (k ≢ new_id) → item_at kept' k
+          ≡ option_or (first_some (contents_with_number numbers old k) order) (contents_with_number numbers old k id)
       by_case k below (inl e) =
-          let none : first_some (contents_with_number numbers old k) order ≡ None = sym (is.each k below) ∙ ap (item_at kept) e ∙ has in
+          let none : first_some (contents_with_number numbers old k) order ≡ None =
+          sym (is.each k below) ∙ ap (item_at kept) e ∙ has in
           let named' : slice_get numbers id ≡ Some k = named ∙ ap Some (sym e) in
           rw (none, contents_with_number-same numbers old id k named') (ap (item_at kept') e ∙ here)
       by_case k below (inr apart) =
-          rw (contents_with_number-other numbers old id new_id k named apart, option_or-None (first_some (contents_with_number numbers old k) order))
+          rw (
+            contents_with_number-other numbers old id new_id k named apart,
+            option_or-None (first_some (contents_with_number numbers old k) order),
+          )
           (ap (λ xs. item_at xs k) put ∙ item_at-set_other kept new_id k (item_at now id) apart ∙ is.each k below)
 
     empty-left : AreLeft numbers old now' kept'
     empty-left x = by_case (cases_eq x id) (item_at old id) refl (left x)
       where
         by_case : (x ≡ id) ⊎ (x ≢ id) → (o : Option (List ℕ)) → item_at old id ≡ o
-            → (item_at now x ≡ item_at old x) ⊎ ((number : ℕ) × (text : List ℕ) × (slice_get numbers x ≡ Some number) × (item_at kept number ≡ Some text))
-            → (item_at now' x ≡ item_at old x) ⊎ ((number : ℕ) × (text : List ℕ) × (slice_get numbers x ≡ Some number) × (item_at kept' number ≡ Some text))
-        by_case (inl e) None f h = inl (ap (item_at now') e ∙ ap (λ xs. item_at xs id) cleared ∙ item_at-cleared now id ∙ sym f ∙ ap (item_at old) (sym e))
+            → (item_at now x ≡ item_at old x)
+            ⊎ ((number : ℕ) × (text : List ℕ) × (slice_get numbers x ≡ Some number) × (item_at kept number ≡ Some text))
+            → (item_at now' x ≡ item_at old x) ⊎ ((number : ℕ) × (text : List ℕ) × (slice_get numbers x ≡ Some number)
+            × (item_at kept' number ≡ Some text))
+        by_case (inl e) None f h = inl (ap (item_at now') e ∙ ap (λ xs. item_at xs id) cleared ∙ item_at-cleared now id
+            ∙ sym f ∙ ap (item_at old) (sym e))
         by_case (inl e) (Some text) f h = inr (new_id, text, ap (slice_get numbers) e ∙ named, here ∙ f)
-        by_case (inr apart) o f (inl e) = inl (ap (λ xs. item_at xs x) cleared ∙ item_at-set_other now id x None apart ∙ e)
+        by_case (inr apart) o f (inl e) =
+            inl (ap (λ xs. item_at xs x) cleared ∙ item_at-set_other now id x None apart ∙ e)
         by_case (inr apart) o f (inr (n, text, e, g)) =
-            let other : n ≢ new_id = λ same. (let some : item_at kept new_id ≡ Some text = ap (item_at kept) (sym same) ∙ g in cc) in
+            let other : n ≢ new_id =
+            λ same. (let some : item_at kept new_id ≡ Some text = ap (item_at kept) (sym same) ∙ g in cc) in
             inr (n, text, e, ap (λ xs. item_at xs n) put ∙ item_at-set_other kept new_id n (item_at now id) other ∙ g)
 
   module _ (put : kept' ≡ cond (is_some (item_at kept new_id)) kept (slice_set kept new_id (item_at now id)))

@@ -1,5 +1,6 @@
 -- The loop that moves texts to their new numbers, and the loop that finds the first old number of each text.
-use Rattle.std.proofs.Common.{◌≡◌, ◌≢◌, refl, sym, ap, subst, ◌∙◌, ℕ, ◌+◌, ◌<◌, List, [], ◌∷◌, ◌++◌, length, map, take, drop, get_or, Some, None, Option, arith, inl, inr, ◌⊎◌, slice_get, slice_set}
+use Rattle.std.proofs.Common.{◌≡◌, ◌≢◌, refl, sym, ap, subst, ◌∙◌, ℕ, ◌+◌, ◌<◌, List, [], ◌∷◌, ◌++◌, length, map, take}
+use Rattle.std.proofs.Common.{drop, get_or, Some, None, Option, arith, inl, inr, ◌⊎◌, slice_get, slice_set}
 use Rattle.std.proofs.lemmas.Bool.{cases_eq}
 use Rattle.std.proofs.lemmas.List.{take_more, drop_more, take-append-drop, length-map, map_push}
 use Rattle.std.proofs.lemmas.Option.{slice_get_within, get_or_from_slice_get}
@@ -15,7 +16,8 @@ use Rattle.sourcemap_map_rewrite.proofs.NumberingLemmas.{texts_in_use-push, id_o
 
 -- each text is still at its old number, or is among the moved ones
 abbrev pub AreLeftOrMoved : (old now moved : List (List ℕ)) → Type 0
-AreLeftOrMoved old now moved = (id : ℕ) (text : List ℕ) → slice_get old id ≡ Some text → (slice_get now id ≡ Some text) ⊎ ((k : ℕ) × (id_of text moved ≡ Some k))
+AreLeftOrMoved old now moved = (id : ℕ) (text : List ℕ) → slice_get old id ≡ Some text
+    → (slice_get now id ≡ Some text) ⊎ ((k : ℕ) × (id_of text moved ≡ Some k))
 
 module _ (texts : List (List ℕ)) (n : NewNumbers) (is : AreNumbered texts n) (i id number : ℕ)
     (at : slice_get n.order.items i ≡ Some id) (numbered : slice_get n.numbers.items id ≡ Some number) where
@@ -28,12 +30,14 @@ module _ (texts : List (List ℕ)) (n : NewNumbers) (is : AreNumbered texts n) (
   seen : IsSeen texts n id
   seen = All-at (IsSeen texts n) n.order.items i id at is.seen
 
-  one_more : after ≡ with_text before seen.text
+  with_next_text : after ≡ with_text before seen.text
   unfolding before after
-  one_more =
+  with_next_text =
       let item : get_or n.order.items i 0 ≡ id = get_or_from_slice_get n.order.items i id 0 at in
-      ap (texts_in_use texts) (take_more n.order.items i 0 (slice_get_within n.order.items i id at) ∙ ap (λ x. take i n.order.items ++ x ∷ []) item)
-      ∙ texts_in_use-push texts (take i n.order.items) id ∙ ap (with_text_if (texts_in_use texts (take i n.order.items))) seen.named
+      ap (texts_in_use texts) (take_more n.order.items i 0 (slice_get_within n.order.items i id at)
+      ∙ ap (λ x. take i n.order.items ++ x ∷ []) item)
+      ∙ texts_in_use-push texts (take i n.order.items) id
+      ∙ ap (with_text_if (texts_in_use texts (take i n.order.items))) seen.named
 
   same_number : seen.number ≡ number
   same_number = let e = seen.numbered in cc
@@ -56,7 +60,8 @@ module _ (texts : List (List ℕ)) (n : NewNumbers) (is : AreNumbered texts n) (
       by_case : (o : Option ℕ) → id_of seen.text before ≡ o → id_of seen.text before ≡ None
       by_case None e = e
       by_case (Some k) e =
-          let same : k ≡ number = final k (ap (id_of seen.text) one_more ∙ id_of-with_text before seen.text seen.text k e) in
+          let same : k ≡ number =
+          final k (ap (id_of seen.text) with_next_text ∙ id_of-with_text before seen.text seen.text k e) in
           let within : k < length before = slice_get_within before k seen.text (slice_get-id_of seen.text before k e) in
           absurd (omega arith)
 
@@ -68,13 +73,15 @@ module _ (texts : List (List ℕ)) (n : NewNumbers) (is : AreNumbered texts n) (
       by_case (Some k) e = (k, e)
       by_case None e =
           let added : with_text before seen.text ≡ before ++ seen.text ∷ [] = rw e refl in
-          let interned : id_of seen.text after ≡ Some (length before) = ap (id_of seen.text) (one_more ∙ added) ∙ id_of-last before seen.text (length before) refl e in
+          let interned : id_of seen.text after ≡ Some (length before) =
+          ap (id_of seen.text) (with_next_text ∙ added) ∙ id_of-last before seen.text (length before) refl e in
           absurd (other (sym (final (length before) interned)))
 
   still_moved : (text : List ℕ) (k : ℕ) → id_of text before ≡ Some k → id_of text after ≡ Some k
-  still_moved text k e = ap (id_of text) one_more ∙ id_of-with_text before seen.text text k e
+  still_moved text k e = ap (id_of text) with_next_text ∙ id_of-with_text before seen.text text k e
 
-  module _ (now moved : List (List ℕ)) (left_or_moved : AreLeftOrMoved texts now (texts_in_use texts (take i n.order.items))) (so_far : moved ≡ texts_in_use texts (take i n.order.items)) where
+  module _ (now moved : List (List ℕ)) (left_or_moved : AreLeftOrMoved texts now
+      (texts_in_use texts (take i n.order.items))) (so_far : moved ≡ texts_in_use texts (take i n.order.items)) where
     -- `number` is the length of `moved`, so the step at index `i` moves the text `taken`, which `now` has at index `id`
     module _ (taken : List ℕ) (next : number ≡ length moved) (found : slice_get now id ≡ Some taken) where
       new : id_of seen.text before ≡ None
@@ -85,26 +92,34 @@ module _ (texts : List (List ℕ)) (n : NewNumbers) (is : AreNumbered texts n) (
       unfolding before
       same_text = by_case (left_or_moved id seen.text seen.named)
         where
-          by_case : (slice_get now id ≡ Some seen.text) ⊎ ((k : ℕ) × (id_of seen.text (texts_in_use texts (take i n.order.items)) ≡ Some k)) → taken ≡ seen.text
+          by_case : (slice_get now id ≡ Some seen.text) ⊎ ((k : ℕ)
+              × (id_of seen.text (texts_in_use texts (take i n.order.items)) ≡ Some k)) → taken ≡ seen.text
           by_case (inl e) = cc
           by_case (inr (k, e)) = let none = new in cc
 
       added : after ≡ before ++ seen.text ∷ []
-      added = one_more ∙ rw new refl
+      added = with_next_text ∙ rw new refl
 
-      pub moved-more : (moved' : List (List ℕ)) → moved' ≡ moved ++ taken ∷ [] → moved' ≡ texts_in_use texts (take (i + 1) n.order.items)
+      pub moved-more : (moved' : List (List ℕ)) → moved' ≡ moved ++ taken ∷ []
+          → moved' ≡ texts_in_use texts (take (i + 1) n.order.items)
       unfolding before after
       moved-more moved' e = e ∙ (λ j. so_far j ++ same_text j ∷ []) ∙ sym added
 
-      pub left_or_moved-more : (now' : List (List ℕ)) → now' ≡ slice_set now id [] → AreLeftOrMoved texts now' (texts_in_use texts (take (i + 1) n.order.items))
+      pub left_or_moved-more : (now' : List (List ℕ)) → now' ≡ slice_set now id []
+          → AreLeftOrMoved texts now' (texts_in_use texts (take (i + 1) n.order.items))
       unfolding before after
       left_or_moved-more now' e x text named = by_case (cases_eq x id) (left_or_moved x text named)
         where
-          by_case : (x ≡ id) ⊎ (x ≢ id) → (slice_get now x ≡ Some text) ⊎ ((k : ℕ) × (id_of text before ≡ Some k)) → (slice_get now' x ≡ Some text) ⊎ ((k : ℕ) × (id_of text after ≡ Some k))
+          by_case : (x ≡ id) ⊎ (x ≢ id) → (slice_get now x ≡ Some text) ⊎ ((k : ℕ) × (id_of text before ≡ Some k))
+              → (slice_get now' x ≡ Some text) ⊎ ((k : ℕ) × (id_of text after ≡ Some k))
           by_case (inl same) h =
               let this : slice_get texts id ≡ Some text = subst (λ y. slice_get texts y ≡ Some text) same named in
               let alike : seen.text ≡ text = let here = seen.named in cc in
-              inr (length before, subst (λ t. id_of t after ≡ Some (length before)) alike (ap (id_of seen.text) added ∙ id_of-last before seen.text (length before) refl new))
+              inr (
+                length before,
+                subst (λ t. id_of t after ≡ Some (length before)) alike
+                    (ap (id_of seen.text) added ∙ id_of-last before seen.text (length before) refl new),
+              )
           by_case (inr apart) (inl h) = inl (ap (λ xs. slice_get xs x) e ∙ slice_get-set_other now id x [] apart ∙ h)
           by_case (inr apart) (inr (k, h)) = inr (k, still_moved text k h)
 
@@ -115,7 +130,7 @@ module _ (texts : List (List ℕ)) (n : NewNumbers) (is : AreNumbered texts n) (
       old = old_text (λ e. other (e ∙ ap length (sym so_far)))
 
       same : after ≡ before
-      same = one_more ∙ rw old.1 refl
+      same = with_next_text ∙ rw old.1 refl
 
       pub moved-same : moved ≡ texts_in_use texts (take (i + 1) n.order.items)
       unfolding before after
@@ -127,30 +142,37 @@ module _ (texts : List (List ℕ)) (n : NewNumbers) (is : AreNumbered texts n) (
 
   -- The loop that finds the first old number of each text in use.
 
-  module _ (ids : List ℕ) (so_far : ids ≡ map (first_of texts n.order.items) (texts_in_use texts (take i n.order.items))) where
+  module _ (ids : List ℕ)
+      (so_far : ids ≡ map (first_of texts n.order.items) (texts_in_use texts (take i n.order.items))) where
     many : length ids ≡ length before
     unfolding before
     many = ap length so_far ∙ length-map (texts_in_use texts (take i n.order.items)) (first_of texts n.order.items)
 
     -- if `number` is the length of `ids`, the text of `id` is new, and `id` is the first old number of this text
-    pub first-more : number ≡ length ids → (ids' : List ℕ) → ids' ≡ ids ++ id ∷ [] → ids' ≡ map (first_of texts n.order.items) (texts_in_use texts (take (i + 1) n.order.items))
+    pub first-more : number ≡ length ids → (ids' : List ℕ) → ids' ≡ ids ++ id ∷ []
+        → ids' ≡ map (first_of texts n.order.items) (texts_in_use texts (take (i + 1) n.order.items))
     unfolding before after
     first-more next ids' e =
         let new : id_of seen.text (texts_in_use texts (take i n.order.items)) ≡ None = new_text (next ∙ many) in
-        let added : texts_in_use texts (take (i + 1) n.order.items) ≡ texts_in_use texts (take i n.order.items) ++ seen.text ∷ [] = one_more ∙ rw new refl in
+        let added : texts_in_use texts (take (i + 1) n.order.items)
+        ≡ texts_in_use texts (take i n.order.items) ++ seen.text ∷ [] = with_next_text ∙ rw new refl in
         let item : get_or n.order.items i 0 ≡ id = get_or_from_slice_get n.order.items i id 0 at in
         let split : n.order.items ≡ take i n.order.items ++ id ∷ drop (i + 1) n.order.items =
         sym (take-append-drop i n.order.items)
-        ∙ ap (λ xs. take i n.order.items ++ xs) (drop_more n.order.items i 0 (slice_get_within n.order.items i id at) ∙ ap (λ x. x ∷ drop (i + 1) n.order.items) item) in
+        ∙ ap (λ xs. take i n.order.items ++ xs) (drop_more n.order.items i 0 (slice_get_within n.order.items i id at)
+        ∙ ap (λ x. x ∷ drop (i + 1) n.order.items) item) in
         let here : first_of texts n.order.items seen.text ≡ id =
-        ap (λ all. first_of texts all seen.text) split ∙ first_here texts (take i n.order.items) (drop (i + 1) n.order.items) id seen.text new seen.named in
+        ap (λ all. first_of texts all seen.text) split
+        ∙ first_here texts (take i n.order.items) (drop (i + 1) n.order.items) id seen.text new seen.named in
         e ∙ (λ j. so_far j ++ sym here j ∷ [])
         ∙ sym (map_push (first_of texts n.order.items) (texts_in_use texts (take i n.order.items)) seen.text)
         ∙ ap (map (first_of texts n.order.items)) (sym added)
 
-    pub first-same : number ≢ length ids → ids ≡ map (first_of texts n.order.items) (texts_in_use texts (take (i + 1) n.order.items))
+    pub first-same : number ≢ length ids
+        → ids ≡ map (first_of texts n.order.items) (texts_in_use texts (take (i + 1) n.order.items))
     unfolding before after
     first-same other =
         let old = old_text (λ e. other (e ∙ sym many)) in
-        let same : texts_in_use texts (take (i + 1) n.order.items) ≡ texts_in_use texts (take i n.order.items) = one_more ∙ rw old.1 refl in
+        let same : texts_in_use texts (take (i + 1) n.order.items) ≡ texts_in_use texts (take i n.order.items) =
+        with_next_text ∙ rw old.1 refl in
         so_far ∙ ap (map (first_of texts n.order.items)) (sym same)

@@ -1,5 +1,6 @@
 -- Contents moved to the new numbers of their sources.
-use Rattle.std.specs.Prelude.{◌≡◌, ℕ, ◌<◌, Bool, false, ◌==◌, cond, List, length, slice_get, Option, Some, None, option_map, unwrap_or}
+use Rattle.std.specs.Prelude.{◌≡◌, ℕ, ◌<◌, Bool, false, ◌==◌, cond, List, length, slice_get, Option, Some, None}
+use Rattle.std.specs.Prelude.{option_map, unwrap_or}
 use Rattle.sourcemap_tokens.specs.Items.{item_at}
 use Rattle.sourcemap_map_rewrite.specs.Numbering.{first_some}
 
@@ -17,6 +18,7 @@ HasNewNumber numbers count id = (number : ℕ) × (slice_get numbers id ≡ Some
 
 -- `kept` has `count` items. The item at index `k` is the contents of an old number: the first old number in `order`
 -- that has the new number `k` and that has contents. The item is `None` if `order` has no such old number
-pub record AreKept (numbers order : List ℕ) (contents : List (Option (List ℕ))) (count : ℕ) (kept : List (Option (List ℕ))) : Type 0 where
+pub record AreKept (numbers order : List ℕ) (contents : List (Option (List ℕ))) (count : ℕ)
+    (kept : List (Option (List ℕ))) : Type 0 where
   pub many : length kept ≡ count
   pub each : (k : ℕ) → k < count → item_at kept k ≡ first_some (contents_with_number numbers contents k) order

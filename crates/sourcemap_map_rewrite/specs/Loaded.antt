@@ -10,7 +10,8 @@ use Rattle.sourcemap_map_rewrite.specs.declared.options.RewriteOptions.{RewriteO
 -- the options give a folder, and loading turns the contents `before` into the contents `after`. Existing contents stay.
 -- Each source that gets contents resolves to the path of a file
 abbrev pub AreLoaded : RewriteOptions → List (List ℕ) → (before after : List (Option (List ℕ))) → Type 0
-AreLoaded options sources before after = IsSomeAnd (options_folder options) (λ folder. Fills folder sources before after)
+AreLoaded options sources before after =
+    IsSomeAnd (options_folder options) (λ folder. Fills folder sources before after)
 
 -- the error if `load_local_source_contents` is true and neither `base_path` nor `current_dir` is absolute: `Io` of
 -- kind `InvalidInput`
@@ -20,7 +21,8 @@ pub record LacksFolder (options : RewriteOptions) (e : Error) : Type 0 where
   pub error : IsNoFolder e
 
 -- the contents of `count` sources before loading: the kept contents, or `None` for each source if contents are not kept
-abbrev pub AreKeptOrNone : Bool → (numbers order : List ℕ) → (contents : List (Option (List ℕ))) → ℕ → (unloaded : List (Option (List ℕ))) → Type 0
+abbrev pub AreKeptOrNone : Bool → (numbers order : List ℕ) → (contents : List (Option (List ℕ))) → ℕ
+    → (unloaded : List (Option (List ℕ))) → Type 0
 AreKeptOrNone with_contents numbers order contents count unloaded =
     MatchBool with_contents (AreKept numbers order contents count unloaded) (unloaded ≡ replicate count None)
 

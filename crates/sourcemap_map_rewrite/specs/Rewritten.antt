@@ -1,5 +1,6 @@
 -- The parts of a map that `rewrite` changes, as functions of the old parts.
-use Rattle.std.specs.Prelude.{◌≡◌, ◌≤◌, ℕ, cond, MatchBool, List, [], map, slice_get, Option, None, option_and_then, vec_len}
+use Rattle.std.specs.Prelude.{◌≡◌, ◌≤◌, ℕ, cond, MatchBool, List, [], map, slice_get, Option, None, option_and_then}
+use Rattle.std.specs.Prelude.{vec_len}
 use Rattle.std.specs.Str.{bytes_eq}
 use Rattle.sourcemap_tokens.specs.Items.{item_at}
 use Rattle.sourcemap_tokens.specs.declared.tokens.RawToken.{RawToken}
@@ -18,7 +19,8 @@ use Rattle.sourcemap_map_rewrite.specs.declared.rewritten.RewrittenParts.{Rewrit
 -- no source, or if the source id has no contents
 abbrev pub contents_among : List (List ℕ) → List (Option (List ℕ)) → List ℕ → RawToken → Option (List ℕ)
 contents_among sources contents text t =
-    option_and_then (λ source. cond (bytes_eq source text) (item_at contents t.src_id) None) (slice_get sources t.src_id)
+    option_and_then (λ source. cond (bytes_eq source text) (item_at contents t.src_id) None)
+    (slice_get sources t.src_id)
 
 -- the contents for the source `text`. Take the first token whose source is `text` and whose source id has contents. The
 -- result is the contents of this source id, or `None` if there is no such token
@@ -41,15 +43,19 @@ first_ids_used sources tokens = firsts_of sources (map (λ t. t.src_id) tokens)
 -- the contents that the sources in use have before loading; `None` for each if contents are not kept
 abbrev pub contents_before : Removal → List (List ℕ) → List (Option (List ℕ)) → List RawToken → List (Option (List ℕ))
 contents_before removal sources contents tokens =
-    map (λ text. cond removal.with_contents (resulting_contents sources contents tokens text) None) (sources_used sources tokens)
+    map (λ text. cond removal.with_contents (resulting_contents sources contents tokens text) None)
+    (sources_used sources tokens)
 
 -- the contents of the result: the kept contents, and loaded contents if the options ask for loading; an empty list if
 -- contents are neither kept nor loaded
-abbrev pub AreResultingContents : RewriteOptions → List (List ℕ) → (contents : List (Option (List ℕ))) → List RawToken → (after : List (Option (List ℕ))) → Type 0
+abbrev pub AreResultingContents : RewriteOptions → List (List ℕ) → (contents : List (Option (List ℕ))) → List RawToken
+    → (after : List (Option (List ℕ))) → Type 0
 AreResultingContents options sources contents tokens after =
     MatchBool options.load_local_source_contents
-    (AreLoaded options (sources_used sources tokens) (contents_before (removal_of options) sources contents tokens) after)
-    (after ≡ cond options.with_source_contents (map (resulting_contents sources contents tokens) (sources_used sources tokens)) [])
+    (AreLoaded options (sources_used sources tokens)
+    (contents_before (removal_of options) sources contents tokens) after)
+    (after ≡ cond options.with_source_contents (map (resulting_contents sources contents tokens)
+    (sources_used sources tokens)) [])
 
 pub record AreRewritten (sources names paths : List (List ℕ)) (contents : List (Option (List ℕ)))
     (options : RewriteOptions) (tokens : List RawToken) (p : RewrittenParts) : Type 0 where

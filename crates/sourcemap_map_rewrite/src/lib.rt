@@ -1,6 +1,5 @@
-//! The steps of `rewrite` on the lists of a map. They drop unused sources and names, deduplicate
-//! the others, renumber tokens, move contents with their sources, load contents from files, and
-//! strip prefixes. This crate uses no type for a whole map, such as `SourceMap`.
+//! The steps of `rewrite` on the lists of a map, from dropped sources and names to loaded contents
+//! and stripped prefixes; knows nothing of `SourceMap`.
 #![tactic(auto)]
 
 mod cut_sources;

@@ -1,6 +1,7 @@
 //! Finds the contents of the sources in use. The options decide whether the contents in the map are
 //! kept, and whether contents are loaded from files.
-ghost use Rattle.std.specs.Prelude.{◌≡◌, [], true, IfErr, IfOk, IsOkUnless, MatchBool, length, map, string_bytes, vec_len};
+ghost use Rattle.std.specs.Prelude.{◌≡◌, [], true, IfErr, IfOk, IsOkUnless, MatchBool, length, map, string_bytes};
+ghost use Rattle.std.specs.Prelude.{vec_len};
 ghost use Rattle.std.specs.List.{AllByRecursion};
 ghost use Rattle.sourcemap_errors.specs.Answer.{UnlessMemory};
 ghost use Rattle.sourcemap_errors.specs.declared.errors.Error.TheVariants.{OutOfMemory};

@@ -1,5 +1,6 @@
 //! Assigns new numbers to texts in the order of first use.
-ghost use Rattle.std.specs.Prelude.{◌≡◌, ◌<◌, ◌≤◌, None, [], length, map, slice_get, string_bytes, vec_len, replicate, IfOk, OnOk, IsOkUnless};
+ghost use Rattle.std.specs.Prelude.{◌≡◌, ◌<◌, ◌≤◌, None, [], length, map, slice_get, string_bytes, vec_len, replicate};
+ghost use Rattle.std.specs.Prelude.{IfOk, OnOk, IsOkUnless};
 ghost use Rattle.sourcemap_interning.specs.Interner.{id_of};
 ghost use Rattle.sourcemap_tokens.specs.Tokens.{no_id};
 ghost use Rattle.sourcemap_errors.specs.declared.errors.Error.TheVariants.{OutOfMemory};
@@ -47,7 +48,8 @@ impl<'a> Numbering<'a> {
 
     // Returns `NO_ID` if `id` is not an index of `texts`. Otherwise returns the new number of the
     // old number `id`. If `id` has no new number yet, first assigns a number to `id` (see
-    // `assign`).
+    // `assign`). Each token takes this path twice, so it stays small and in the caller's loop.
+    #[inline(always)]
     pub(crate) fn number(&mut self, texts: &'a [String], id: u32) -> Result<u32>
         requires few { length texts.now ≤ 4294967295 }
         requires numbering { IsNumbering (map string_bytes texts.now) self.old }
@@ -77,6 +79,7 @@ impl<'a> Numbering<'a> {
     // beforehand that `id` has no new number yet. The old number `id` must be below the length of
     // `numbers`. If `ids` lacks `text`, `ids` must have fewer than 4294967295 texts. The only error
     // is `OutOfMemory`.
+    #[inline(never)]
     fn assign(&mut self, text: &'a str, id: u32) -> Result<u32>
         requires within { id < vec_len self.old.seen.numbers }
         requires below_max { id_of text.now self.old.ids ≡ None → length self.old.ids < 4294967295 }

@@ -1,5 +1,7 @@
 -- How the digits of the difference of two numbers are appended to the text in the buffer. All these digits are ASCII.
-use Rattle.std.proofs.Common.{◌≡◌, ℕ, ◌+◌, ◌-◌, ◌*◌, ◌^◌, ◌<◌, ◌≤◌, ◌==◌, Bool, true, false, nat_lt, Some, List, [], ◌∷◌, ◌++◌, length, slice_index, refl, sym, subst, ◌∙◌, arith, inl, inr, ℤ, pos, negsuc, unsigned_abs, ◌/◌, ◌%◌, take, set, ap}
+use Rattle.std.proofs.Common.{◌≡◌, ℕ, ◌+◌, ◌-◌, ◌*◌, ◌^◌, ◌<◌, ◌≤◌, ◌==◌, Bool, true, false, nat_lt, Some, List, []}
+use Rattle.std.proofs.Common.{◌∷◌, ◌++◌, length, slice_index, refl, sym, subst, ◌∙◌, arith, inl, inr, ℤ, pos, negsuc}
+use Rattle.std.proofs.Common.{unsigned_abs, ◌/◌, ◌%◌, take, set, ap}
 use Rattle.std.specs.List.{AllByRecursion}
 use Rattle.std.specs.Str.{IsAscii}
 use Rattle.std.proofs.Math.Pow.{pow_mono}
@@ -51,7 +53,8 @@ difference_near a b ha hb = elim (cases_lt a b) [
 -- difference of `a` and `b` be the raw value of `part` plus `left` times the weight of the digit after `part`. Let
 -- `left` be below 32. If `part` has a digit, let `left` also be above 0. Then `part` followed by the digit of `left` is
 -- the shortest digit sequence of this difference
-pub Adds-last : (a b : ℕ) (old part : List ℕ) (left : ℕ) → a < 2 ^ 32 → b < 2 ^ 32 → AllByRecursion HasContinuation part → left < 32
+pub Adds-last : (a b : ℕ) (old part : List ℕ) (left : ℕ) → a < 2 ^ 32 → b < 2 ^ 32
+    → AllByRecursion HasContinuation part → left < 32
     → raw_difference a b ≡ raw_of part + 2 ^ (5 * length part) * left → (0 < length part → 0 < left)
     → Adds (difference a b ∷ []) old (old ++ (part ++ glyph left ∷ []))
 Adds-last a b old part left ha hb all low e some = record {
@@ -64,29 +67,40 @@ Adds-last a b old part left ha hb all low e some = record {
 -- let `a` and `b` be below 2^32. If `raw_difference a b` is from 32 to 1023, the difference of `a` and `b` has two
 -- digits. If `raw_difference a b` is from 1024 to 32767, the difference has three digits
 pub Adds-two : (a b : ℕ) (old : List ℕ) → a < 2 ^ 32 → b < 2 ^ 32 → 32 ≤ raw_difference a b → raw_difference a b < 1024
-    → Adds (difference a b ∷ []) old (old ++ (glyph (raw_difference a b % 32 + 32) ∷ glyph (raw_difference a b / 32) ∷ []))
+    → Adds (difference a b ∷ []) old
+    (old ++ (glyph (raw_difference a b % 32 + 32) ∷ glyph (raw_difference a b / 32) ∷ []))
 Adds-two a b old ha hb more low =
     let raw = raw_difference a b in
-    Adds-last a b old (glyph (raw % 32 + 32) ∷ []) (raw / 32) ha hb (HasContinuation-glyph (raw % 32) (omega arith), tt) (omega arith)
+    Adds-last a b old (glyph (raw % 32 + 32) ∷ []) (raw / 32) ha hb (
+      HasContinuation-glyph (raw % 32) (omega arith),
+      tt,
+    ) (omega arith)
     (raw_of-split [] raw raw (omega arith)) (λ _. omega arith)
 
-pub Adds-three : (a b : ℕ) (old : List ℕ) → a < 2 ^ 32 → b < 2 ^ 32 → 1024 ≤ raw_difference a b → raw_difference a b < 32768
+pub Adds-three : (a b : ℕ) (old : List ℕ) → a < 2 ^ 32 → b < 2 ^ 32 → 1024 ≤ raw_difference a b
+    → raw_difference a b < 32768
     → Adds (difference a b ∷ []) old
-    (old ++ (glyph (raw_difference a b % 32 + 32) ∷ glyph (raw_difference a b / 32 % 32 + 32) ∷ glyph (raw_difference a b / 32 / 32) ∷ []))
+    (old ++ (glyph (raw_difference a b % 32 + 32) ∷ glyph (raw_difference a b / 32 % 32 + 32)
+    ∷ glyph (raw_difference a b / 32 / 32) ∷ []))
 Adds-three a b old ha hb more low =
     let raw = raw_difference a b in
     let first : ℕ = glyph (raw % 32 + 32) in
     let second : ℕ = glyph (raw / 32 % 32 + 32) in
-    Adds-last a b old (first ∷ second ∷ []) (raw / 32 / 32) ha hb
-    (HasContinuation-glyph (raw % 32) (omega arith), (HasContinuation-glyph (raw / 32 % 32) (omega arith), tt)) (omega arith)
+    Adds-last a b old (first ∷ second ∷ []) (raw / 32 / 32) ha hb (
+      HasContinuation-glyph (raw % 32) (omega arith),
+      (HasContinuation-glyph (raw / 32 % 32) (omega arith), tt),
+    ) (omega arith)
     (raw_of-split (first ∷ []) raw (raw / 32) (raw_of-split [] raw raw (omega arith))) (λ _. omega arith)
 
 -- let the indices `at` and `at + 1` be below the length of `buffer`, and let `x` and `y` be stored at them. The first
 -- `at` bytes stay the same. The first `at + 1` bytes end with `x`, and the first `at + 2` bytes end with `x` and `y`
-pub pair-one : (buffer : List ℕ) (at x y n : ℕ) → n ≡ at + 1 → at + 1 < length buffer → take n (set (set buffer at x) (at + 1) y) ≡ take at buffer ++ x ∷ []
-pair-one buffer at x y n e h = take-set-le n (set buffer at x) (at + 1) y (omega arith) ∙ take-set_at buffer at n x e (omega arith)
+pub pair-one : (buffer : List ℕ) (at x y n : ℕ) → n ≡ at + 1 → at + 1 < length buffer
+    → take n (set (set buffer at x) (at + 1) y) ≡ take at buffer ++ x ∷ []
+pair-one buffer at x y n e h =
+    take-set-le n (set buffer at x) (at + 1) y (omega arith) ∙ take-set_at buffer at n x e (omega arith)
 
-pub pair-two : (buffer : List ℕ) (at x y n : ℕ) → n ≡ at + 2 → at + 1 < length buffer → take n (set (set buffer at x) (at + 1) y) ≡ take at buffer ++ (x ∷ y ∷ [])
+pub pair-two : (buffer : List ℕ) (at x y n : ℕ) → n ≡ at + 2 → at + 1 < length buffer
+    → take n (set (set buffer at x) (at + 1) y) ≡ take at buffer ++ (x ∷ y ∷ [])
 pair-two buffer at x y n e h =
     let long : length (set buffer at x) ≡ length buffer = length-set buffer at x in
     take-set_at (set buffer at x) (at + 1) n y (omega arith) (omega arith)
@@ -110,7 +124,8 @@ pub triple-three : (buffer : List ℕ) (at x y z n : ℕ) → n ≡ at + 3 → a
     → take n (set (set (set buffer at x) (at + 1) y) (at + 2) z) ≡ take at buffer ++ (x ∷ y ∷ z ∷ [])
 triple-three buffer at x y z n e h =
     let first : length (set buffer at x) ≡ length buffer = length-set buffer at x in
-    let second : length (set (set buffer at x) (at + 1) y) ≡ length (set buffer at x) = length-set (set buffer at x) (at + 1) y in
+    let second : length (set (set buffer at x) (at + 1) y) ≡ length (set buffer at x) =
+    length-set (set buffer at x) (at + 1) y in
     take-set_at (set (set buffer at x) (at + 1) y) (at + 2) n z (omega arith) (omega arith)
     ∙ ap (λ xs. xs ++ z ∷ []) (pair-two buffer at x y (at + 2) refl (omega arith))
     ∙ append_assoc (take at buffer) (x ∷ y ∷ []) (z ∷ [])
@@ -169,8 +184,10 @@ Spells-ascii : (numbers : List ℤ) (text : List ℕ) → Spells numbers text �
 Spells-ascii [] text spelled = subst (λ (t : List ℕ). IsAscii t) (sym spelled) IsAscii-nil
 Spells-ascii (n ∷ ns) text spelled =
     subst (λ (t : List ℕ). IsAscii t) (sym spelled.3)
-    (IsAscii-append spelled.0 spelled.1 (recursion-ascii spelled.0 (chain_ascii spelled.0 spelled.2.is_group.chain)) (Spells-ascii ns spelled.1 spelled.4))
+    (IsAscii-append spelled.0 spelled.1 (recursion-ascii spelled.0 (chain_ascii spelled.0 spelled.2.is_group.chain))
+    (Spells-ascii ns spelled.1 spelled.4))
 
 pub Adds-ascii : (numbers : List ℤ) (old new : List ℕ) → Adds numbers old new → IsAscii old → IsAscii new
 Adds-ascii numbers old new adds ascii =
-    subst (λ (t : List ℕ). IsAscii t) (sym adds.added) (IsAscii-append old adds.digits ascii (Spells-ascii numbers adds.digits adds.spelled))
+    subst (λ (t : List ℕ). IsAscii t) (sym adds.added)
+    (IsAscii-append old adds.digits ascii (Spells-ascii numbers adds.digits adds.spelled))

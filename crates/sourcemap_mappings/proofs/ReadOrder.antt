@@ -16,7 +16,8 @@ NonePast index tokens = AllByRecursion (λ t. is_lt (position_cmp index (destina
 
 -- let (`m`, `n`) not be after (`l`, `c`). If `c ≤ d`, then (`m`, `n`) is not after (`l`, `d`). In any case, (`m`, `n`)
 -- is not after (`l + 1`, 0)
-later_column : (l c d m n : ℕ) → c ≤ d → is_lt (position_cmp (l, c) (m, n)) ≡ false → is_lt (position_cmp (l, d) (m, n)) ≡ false
+later_column : (l c d m n : ℕ) → c ≤ d → is_lt (position_cmp (l, c) (m, n)) ≡ false
+    → is_lt (position_cmp (l, d) (m, n)) ≡ false
 later_column l c d m n le h = grind (arith, nat_tests)
 
 later_line : (l c m n : ℕ) → is_lt (position_cmp (l, c) (m, n)) ≡ false → is_lt (position_cmp (l + 1, 0) (m, n)) ≡ false
@@ -34,18 +35,22 @@ NonePast-line l c [] h = tt
 NonePast-line l c (t ∷ ts) h = (later_line l c t.dst_line t.dst_col h.0, NonePast-line l c ts h.1)
 
 -- if no item of `xs` is greater than `t`, then `xs` with `t` appended still rises
-Rises-push : (lt : RawToken → RawToken → Bool) (xs : List RawToken) (t : RawToken) → Rises lt xs → AllByRecursion (λ x. lt t x ≡ false) xs → Rises lt (xs ++ t ∷ [])
+Rises-push : (lt : RawToken → RawToken → Bool) (xs : List RawToken) (t : RawToken) → Rises lt xs
+    → AllByRecursion (λ x. lt t x ≡ false) xs → Rises lt (xs ++ t ∷ [])
 Rises-push lt [] t r h = (tt, tt)
 Rises-push lt (x ∷ xs) t r h = (all_push (λ y. lt y x ≡ false) xs t r.0 h.0, Rises-push lt xs t r.1 h.1)
 
-AreInOrder-push : (xs : List RawToken) (t : RawToken) → AreInOrder xs → NonePast (destination t) xs → AreInOrder (xs ++ t ∷ [])
+AreInOrder-push : (xs : List RawToken) (t : RawToken) → AreInOrder xs → NonePast (destination t) xs
+    → AreInOrder (xs ++ t ∷ [])
 AreInOrder-push xs t up h =
     let lt : RawToken → RawToken → Bool = λ a b. is_lt (position_cmp (destination a) (destination b)) in
-    sorted_from_Rises lt (xs ++ t ∷ []) (Rises-push lt xs t (Rises-from_sorted lt (ranks_by position_cmp_total destination) xs up) h)
+    sorted_from_Rises lt (xs ++ t ∷ [])
+    (Rises-push lt xs t (Rises-from_sorted lt (ranks_by position_cmp_total destination) xs up) h)
 
 -- let the tokens be sorted, and none of them after (`l`, `c`). If a token at (`l`, `d`) with `c ≤ d` is appended, the
 -- tokens stay sorted, and none of them is after (`l`, `d`)
-pub order_push : (l c d : ℕ) (tokens : List RawToken) (t : RawToken) → destination t ≡ (l, d) → c ≤ d → AreInOrder tokens × NonePast (l, c) tokens
+pub order_push : (l c d : ℕ) (tokens : List RawToken) (t : RawToken) → destination t ≡ (l, d) → c ≤ d
+    → AreInOrder tokens × NonePast (l, c) tokens
     → AreInOrder (tokens ++ t ∷ []) × NonePast (l, d) (tokens ++ t ∷ [])
 order_push l c d tokens t at le h =
     let past : NonePast (l, d) tokens = NonePast-column l c d tokens le h.1 in (
@@ -55,7 +60,8 @@ order_push l c d tokens t at le h =
     )
 
 -- if no token is after a position on line `l`, then no token is after the start of line `l + 1`
-pub order_line : (l c : ℕ) (tokens : List RawToken) → AreInOrder tokens × NonePast (l, c) tokens → AreInOrder tokens × NonePast (l + 1, 0) tokens
+pub order_line : (l c : ℕ) (tokens : List RawToken) → AreInOrder tokens × NonePast (l, c) tokens
+    → AreInOrder tokens × NonePast (l + 1, 0) tokens
 order_line l c tokens h = (h.0, NonePast-line l c tokens h.1)
 
 pub order_none : (index : ℕ × ℕ) → AreInOrder [] × NonePast index []

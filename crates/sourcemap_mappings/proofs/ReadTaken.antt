@@ -12,8 +12,10 @@ use Rattle.sourcemap_mappings.specs.SegmentSteps.{AreSteps, AreSums, HasFirstPar
 use Rattle.sourcemap_mappings.specs.ReadSteps.{AddsOnLine, AddsParts, AreInOrderTo, RiseFrom, TakesPart}
 use Rattle.sourcemap_mappings.proofs.ReadLemmas.{PartsSoFar, PartsSoFar-more}
 
-module _ (line : List ℕ) (read : Numbers) (tail : Option (Bor (List ℕ))) (first : HasFirstPart line read tail) (some : 0 < read.count)
-    (earlier later : Sums) (sums : (before here : List Segment) (s : Segment) → AreSums before here earlier → AreSteps s.numbers read → AreSums before (here ++ s ∷ []) later) where
+module _ (line : List ℕ) (read : Numbers) (tail : Option (Bor (List ℕ))) (first : HasFirstPart line read tail)
+    (some : 0 < read.count)
+    (earlier later : Sums) (sums : (before here : List Segment) (s : Segment) → AreSums before here earlier
+    → AreSteps s.numbers read → AreSums before (here ++ s ∷ []) later) where
   -- if `earlier` holds the sums before the first part of `line`, then `later` holds the sums after this part
   pub segment_read : (index : ℕ) (before here : List Segment) → AreSums before here earlier
       → IsSegmentRead index before here first.part first.numbers read.count later
@@ -27,10 +29,13 @@ module _ (line : List ℕ) (read : Numbers) (tail : Option (Bor (List ℕ))) (fi
       }
 
   -- the token of the first part of `line` is appended (`TakesPart`)
-  pub taken : (counts : Counts) (position : PartPosition) (bits : List ℕ) (old new : List RawToken) → RiseFrom earlier later
-      → ((before here : List Segment) (part : List ℕ) (numbers : List ℤ) → IsSegmentRead position.index before here part numbers read.count later
+  pub taken : (counts : Counts) (position : PartPosition) (bits : List ℕ) (old new : List RawToken)
+      → RiseFrom earlier later
+      → ((before here : List Segment) (part : List ℕ) (numbers : List ℤ)
+      → IsSegmentRead position.index before here part numbers read.count later
       → AddsParts counts position bits before here (part ∷ []) old new later)
-      → ((from : Sums) → AreInOrderTo position.line from old → RiseFrom from later → AreInOrderTo position.line later new)
+      → ((from : Sums) → AreInOrderTo position.line from old → RiseFrom from later
+      → AreInOrderTo position.line later new)
       → AddsOnLine position.line old new
       → TakesPart counts position bits line earlier later old new tail
   taken counts position bits old new rise added order on_line = record {
@@ -45,10 +50,13 @@ module _ (line : List ℕ) (read : Numbers) (tail : Option (Bor (List ℕ))) (fi
   }
 
 -- the first of the remaining parts is decoded
-pub PartsSoFar-taken : (counts : Counts) (position : PartPosition) (bits : List ℕ) (before : List Segment) (all : List (List ℕ)) (line : List ℕ) (old middle new : List RawToken) (earlier later : Sums) (tail : Option (Bor (List ℕ)))
+pub PartsSoFar-taken : (counts : Counts) (position : PartPosition) (bits : List ℕ) (before : List Segment)
+    (all : List (List ℕ)) (line : List ℕ) (old middle new : List RawToken) (earlier later : Sums)
+    (tail : Option (Bor (List ℕ)))
     → PartsSoFar counts position.line bits before all position.index (parts_of line) old middle earlier
     → TakesPart counts position bits line earlier later middle new tail
-    → PartsSoFar counts position.line bits before all (position.index + 1) (option_map_or (λ rest. parts_of rest.now) tail []) old new later
+    → PartsSoFar counts position.line bits before all (position.index + 1)
+    (option_map_or (λ rest. parts_of rest.now) tail []) old new later
 PartsSoFar-taken counts position bits before all line old middle new earlier later tail so_far takes =
     let parts = option_map_or (λ rest. parts_of rest.now) tail [] in
     let first = takes.added before so_far.here so_far.sums_after in
@@ -56,5 +64,6 @@ PartsSoFar-taken counts position bits before all line old middle new earlier lat
     (λ left. (s : PartsSoFar counts position.line bits before all position.index left old middle earlier)
     → AddsParts counts position bits before s.here (first.part ∷ []) middle new later
     → PartsSoFar counts position.line bits before all (position.index + 1) parts old new later)
-    (sym first.split) (λ s adds. PartsSoFar-more counts position bits before all first.part parts old middle earlier new later s adds)
+    (sym first.split)
+    (λ s adds. PartsSoFar-more counts position bits before all first.part parts old middle earlier new later s adds)
     so_far first.adds

@@ -1,5 +1,6 @@
 -- A text of lines that is extended at the end.
-use Rattle.std.proofs.Common.{◌≡◌, ℕ, ◌+◌, ◌-◌, ◌<◌, ◌≤◌, suc, zero, List, [], ◌∷◌, ◌++◌, length, replicate, refl, sym, ap, subst, ◌∙◌, ⊎_elim, append_assoc, append-nil, length-append, arith}
+use Rattle.std.proofs.Common.{◌≡◌, ℕ, ◌+◌, ◌-◌, ◌<◌, ◌≤◌, suc, zero, List, [], ◌∷◌, ◌++◌, length, replicate, refl, sym}
+use Rattle.std.proofs.Common.{ap, subst, ◌∙◌, ⊎_elim, append_assoc, append-nil, length-append, arith}
 use Rattle.std.specs.List.{join_with_byte}
 use Rattle.std.proofs.lemmas.Bool.{cases_lt}
 use Rattle.std.proofs.lemmas.List.{nil_from_length}
@@ -14,7 +15,8 @@ EachLine-push P n (q ∷ qs) part each p =
     (each.0, EachLine-push P (n + 1) qs part each.1 (subst (λ (m : ℕ). P m part) (omega arith) p))
 
 pub EachLine-map : (P Q : ℕ → List ℕ → Type 0) (top n : ℕ) (parts : List (List ℕ))
-    → ((m : ℕ) (part : List ℕ) → m < top → P m part → Q m part) → n + length parts ≤ top → EachLine P n parts → EachLine Q n parts
+    → ((m : ℕ) (part : List ℕ) → m < top → P m part → Q m part) → n + length parts ≤ top → EachLine P n parts
+    → EachLine Q n parts
 EachLine-map P Q top n [] f h each = tt
 EachLine-map P Q top n (p ∷ ps) f h each =
     (f n p (omega arith) each.0, EachLine-map P Q top (n + 1) ps f (omega arith) each.1)
@@ -24,16 +26,20 @@ ended : List (List ℕ) → List ℕ
 ended [] = []
 ended (part ∷ parts) = part ++ semicolon ∷ ended parts
 
-ended_push : (parts : List (List ℕ)) (part : List ℕ) → ended (parts ++ part ∷ []) ≡ ended parts ++ (part ++ semicolon ∷ [])
+ended_push : (parts : List (List ℕ)) (part : List ℕ)
+    → ended (parts ++ part ∷ []) ≡ ended parts ++ (part ++ semicolon ∷ [])
 unfolding ended
 ended_push [] part = refl
-ended_push (p ∷ ps) part = ap (λ t. p ++ semicolon ∷ t) (ended_push ps part) ∙ sym (append_assoc p (semicolon ∷ ended ps) (part ++ semicolon ∷ []))
+ended_push (p ∷ ps) part = ap (λ t. p ++ semicolon ∷ t) (ended_push ps part)
+    ∙ sym (append_assoc p (semicolon ∷ ended ps) (part ++ semicolon ∷ []))
 
-join_ended : (parts : List (List ℕ)) (last : List ℕ) → join_with_byte semicolon (parts ++ last ∷ []) ≡ ended parts ++ last
+join_ended : (parts : List (List ℕ)) (last : List ℕ)
+    → join_with_byte semicolon (parts ++ last ∷ []) ≡ ended parts ++ last
 unfolding ended
 join_ended [] last = refl
 join_ended (p ∷ []) last = sym (append_assoc p (semicolon ∷ []) last)
-join_ended (p ∷ q ∷ ps) last = ap (λ t. p ++ semicolon ∷ t) (join_ended (q ∷ ps) last) ∙ sym (append_assoc p (semicolon ∷ ended (q ∷ ps)) last)
+join_ended (p ∷ q ∷ ps) last =
+    ap (λ t. p ++ semicolon ∷ t) (join_ended (q ∷ ps) last) ∙ sym (append_assoc p (semicolon ∷ ended (q ∷ ps)) last)
 
 -- `text` has one part for each line above line `line`, and a `;` after each part. Each part satisfies `P` for its line
 pub record Ended (P : ℕ → List ℕ → Type 0) (line : ℕ) (text : List ℕ) : Type 0 where
@@ -69,7 +75,8 @@ Ended-more P line text part e p =
 Ended-blank : (P : ℕ → List ℕ → Type 0) (line k : ℕ) (text : List ℕ) → ((m : ℕ) → line ≤ m → P m []) → Ended P line text
     → Ended P (line + k) (text ++ replicate k semicolon)
 Ended-blank P line zero text blank e =
-    subst (λ (t : List ℕ). Ended P (line + 0) t) (sym (append-nil text)) (subst (λ (m : ℕ). Ended P m text) (omega arith) e)
+    subst (λ (t : List ℕ). Ended P (line + 0) t) (sym (append-nil text))
+    (subst (λ (m : ℕ). Ended P m text) (omega arith) e)
 Ended-blank P line (suc k) text blank e =
     let more = Ended-more P line text [] e (blank line (omega arith)) in
     let rest = Ended-blank P (line + 1) k (text ++ semicolon ∷ []) (λ m h. blank m (omega arith)) more in
@@ -82,9 +89,11 @@ Ended-blank P line (suc k) text blank e =
 Ended-turn_by : (P : ℕ → List ℕ → Type 0) (line k : ℕ) (text part : List ℕ) → ((m : ℕ) → line < m → P m [])
     → Ended P line text → P line part → Ended P (line + 1 + k) ((text ++ part) ++ replicate (suc k) semicolon)
 Ended-turn_by P line k text part blank e p =
-    let rest = Ended-blank P (line + 1) k (text ++ (part ++ semicolon ∷ [])) (λ m h. blank m (omega arith)) (Ended-more P line text part e p) in
+    let rest = Ended-blank P (line + 1) k (text
+    ++ (part ++ semicolon ∷ [])) (λ m h. blank m (omega arith)) (Ended-more P line text part e p) in
     subst (λ (t : List ℕ). Ended P (line + 1 + k) t)
-    (ap (λ t. t ++ replicate k semicolon) (sym (append_assoc text part (semicolon ∷ []))) ∙ append_assoc (text ++ part) (semicolon ∷ []) (replicate k semicolon))
+    (ap (λ t. t ++ replicate k semicolon) (sym (append_assoc text part (semicolon ∷ [])))
+    ∙ append_assoc (text ++ part) (semicolon ∷ []) (replicate k semicolon))
     rest
 
 -- let `line < n`, and let `text` hold the lines above line `line` (`Ended`). Let `part` satisfy `P` for line `line`,
@@ -135,12 +144,14 @@ Reached-turn P line n text h blank r = ⊎_elim
     let same : line ≡ n = omega arith in
     let no_line : n - line ≡ 0 = omega arith in
     let none : replicate (n - line) semicolon ≡ [] = ap (λ (k : ℕ). replicate k semicolon) no_line in
-    let text_is : text ≡ text ++ replicate (n - line) semicolon = sym (append-nil text) ∙ ap (λ t. text ++ t) (sym none) in
+    let text_is : text ≡ text ++ replicate (n - line) semicolon =
+    sym (append-nil text) ∙ ap (λ t. text ++ t) (sym none) in
     subst (λ (t : List ℕ). Reached P n t) text_is (subst (λ (m : ℕ). Reached P m text) same r))
     (cases_lt line n)
 
 pub Reached-more : (P Q : ℕ → List ℕ → Type 0) (line : ℕ) (text added : List ℕ)
-    → ((m : ℕ) (part : List ℕ) → m < line → P m part → Q m part) → ((part : List ℕ) → P line part → Q line (part ++ added))
+    → ((m : ℕ) (part : List ℕ) → m < line → P m part → Q m part)
+    → ((part : List ℕ) → P line part → Q line (part ++ added))
     → Reached P line text → Reached Q line (text ++ added)
 Reached-more P Q line text added f g r = record {
   above = r.above;

@@ -1,9 +1,10 @@
 -- How a token that is appended changes the tokens of each line, and the list without repeats.
-use Rattle.std.proofs.Common.{◌≡◌, ◌≢◌, ℕ, ◌+◌, ◌<◌, ◌≤◌, ◌==◌, nat_lt, Bool, true, false, cond, List, [], ◌∷◌, ◌++◌, filter, Option, Some, None, refl, sym, ap, subst, ◌∙◌, ⊎_elim, append-nil, arith}
+use Rattle.std.proofs.Common.{◌≡◌, ◌≢◌, ℕ, ◌+◌, ◌<◌, ◌≤◌, Bool, true, false, cond, List, [], ◌∷◌, ◌++◌}
+use Rattle.std.proofs.Common.{filter, Option, Some, None, refl, sym, ap, subst, ◌∙◌, ⊎_elim, append-nil, arith}
 use Rattle.std.specs.List.{last_or, AllByRecursion}
 use Rattle.std.specs.Option.{option_map_or}
 use Rattle.std.proofs.lemmas.List.Elements.{filter-append}
-use Rattle.std.proofs.lemmas.Bool.{cases_lt, cases_eq}
+use Rattle.std.proofs.lemmas.Bool.{cases_lt, cases_eq, lt-ltb, le-ltb, eq-eqb, ne_eqb}
 use Rattle.std.proofs.lemmas.Bool.Decides.{nat_tests}
 use Rattle.sourcemap_tokens.specs.declared.tokens.RawToken.{RawToken}
 use Rattle.sourcemap_tokens.specs.Tokens.{are_same, changes_after, without_repeats}
@@ -16,13 +17,16 @@ pub last_or-push : {A : Type 0} (o : Option A) (xs : List A) (x : A) → last_or
 last_or-push o [] x = refl
 last_or-push o (y ∷ ys) x = last_or-push (Some y) ys x
 
-pub filter_push : {A : Type 0} (p : A → Bool) (xs : List A) (x : A) → filter p (xs ++ x ∷ []) ≡ filter p xs ++ cond (p x) (x ∷ []) []
+pub filter_push : {A : Type 0} (p : A → Bool) (xs : List A) (x : A)
+    → filter p (xs ++ x ∷ []) ≡ filter p xs ++ cond (p x) (x ∷ []) []
 filter_push p xs x = filter-append p xs (x ∷ [])
 
-pub filter_push_no : {A : Type 0} (p : A → Bool) (xs : List A) (x : A) → p x ≡ false → filter p (xs ++ x ∷ []) ≡ filter p xs
+pub filter_push_no : {A : Type 0} (p : A → Bool) (xs : List A) (x : A) → p x ≡ false
+    → filter p (xs ++ x ∷ []) ≡ filter p xs
 filter_push_no p xs x e = filter_push p xs x ∙ ap (λ b. filter p xs ++ cond b (x ∷ []) []) e ∙ append-nil (filter p xs)
 
-pub filter_push_yes : {A : Type 0} (p : A → Bool) (xs : List A) (x : A) → p x ≡ true → filter p (xs ++ x ∷ []) ≡ filter p xs ++ x ∷ []
+pub filter_push_yes : {A : Type 0} (p : A → Bool) (xs : List A) (x : A) → p x ≡ true
+    → filter p (xs ++ x ∷ []) ≡ filter p xs ++ x ∷ []
 filter_push_yes p xs x e = filter_push p xs x ∙ ap (λ b. filter p xs ++ cond b (x ∷ []) []) e
 
 pub last_field-push_no : (p : RawToken → Bool) (f : RawToken → ℕ) (xs : List RawToken) (x : RawToken) → p x ≡ false
@@ -46,7 +50,8 @@ unfolding last_from
 last_or_from p [] = refl
 last_or_from p (x ∷ xs) = last_or_from x xs
 
-cons_unless : (b : Bool) (x : RawToken) (xs ys : List RawToken) → cond b (xs ++ ys) (x ∷ (xs ++ ys)) ≡ cond b xs (x ∷ xs) ++ ys
+cons_unless : (b : Bool) (x : RawToken) (xs ys : List RawToken)
+    → cond b (xs ++ ys) (x ∷ (xs ++ ys)) ≡ cond b xs (x ∷ xs) ++ ys
 cons_unless true x xs ys = refl
 cons_unless false x xs ys = refl
 
@@ -56,7 +61,8 @@ unfolding last_from
 changes_after-push p [] t = refl
 changes_after-push p (x ∷ xs) t =
     let more = cond (are_same t (last_from x xs)) [] (t ∷ []) in
-    ap (λ ys. cond (are_same x p) ys (x ∷ ys)) (changes_after-push x xs t) ∙ cons_unless (are_same x p) x (changes_after x xs) more
+    ap (λ ys. cond (are_same x p) ys (x ∷ ys)) (changes_after-push x xs t)
+    ∙ cons_unless (are_same x p) x (changes_after x xs) more
 
 without_repeats-push : (xs : List RawToken) (t : RawToken)
     → without_repeats (xs ++ t ∷ []) ≡ without_repeats xs ++ cond (repeats (last_or None xs) t) [] (t ∷ [])
@@ -92,29 +98,19 @@ abbrev pub Rises : List RawToken → Type 0
 Rises [] = Unit {0}
 Rises (t ∷ ts) = From t.dst_line ts × Rises ts
 
-pub all_push : (P : RawToken → Type 0) (xs : List RawToken) (x : RawToken) → AllByRecursion P xs → P x → AllByRecursion P (xs ++ x ∷ [])
+pub all_push : (P : RawToken → Type 0) (xs : List RawToken) (x : RawToken) → AllByRecursion P xs → P x
+    → AllByRecursion P (xs ++ x ∷ [])
 all_push P [] x all px = (px, tt)
 all_push P (y ∷ ys) x all px = (all.0, all_push P ys x all.1 px)
 
-pub all_weaker : (P Q : RawToken → Type 0) → ((t : RawToken) → P t → Q t) → (xs : List RawToken) → AllByRecursion P xs → AllByRecursion Q xs
+pub all_weaker : (P Q : RawToken → Type 0) → ((t : RawToken) → P t → Q t) → (xs : List RawToken) → AllByRecursion P xs
+    → AllByRecursion Q xs
 all_weaker P Q f [] all = tt
 all_weaker P Q f (x ∷ xs) all = (f x all.0, all_weaker P Q f xs all.1)
 
 pub Rises-push : (xs : List RawToken) (t : RawToken) → Rises xs → UpTo t.dst_line xs → Rises (xs ++ t ∷ [])
 Rises-push [] t r u = (tt, tt)
 Rises-push (x ∷ xs) t r u = (all_push (λ s. x.dst_line ≤ s.dst_line) xs t r.0 u.0, Rises-push xs t r.1 u.1)
-
-pub below_yes : (n m : ℕ) → n < m → nat_lt n m ≡ true
-below_yes n m h = grind (arith, nat_tests)
-
-pub below_no : (n m : ℕ) → m ≤ n → nat_lt n m ≡ false
-below_no n m h = grind (arith, nat_tests)
-
-pub on_yes : (n m : ℕ) → n ≡ m → (n == m) ≡ true
-on_yes n m h = grind (arith, nat_tests)
-
-pub on_no : (n m : ℕ) → n ≢ m → (n == m) ≡ false
-on_no n m h = grind (arith, nat_tests)
 
 keeps : (p : RawToken → Bool) (t : RawToken) (ts : List RawToken) → p t ≡ true → filter p (t ∷ ts) ≡ t ∷ filter p ts
 keeps p t ts e = ap (λ b. cond b (t ∷ filter p ts) (filter p ts)) e
@@ -126,18 +122,21 @@ pub none_on : (n m : ℕ) (ts : List RawToken) → UpTo n ts → n < m → filte
 none_on n m [] all h = refl
 none_on n m (t ∷ ts) all h =
     let line : t.dst_line ≤ n = all.0 in
-    ap (λ b. cond b (t ∷ filter (is_on m) ts) (filter (is_on m) ts)) (on_no t.dst_line m (λ e. omega arith)) ∙ none_on n m ts all.1 h
+    ap (λ b. cond b (t ∷ filter (is_on m) ts) (filter (is_on m) ts)) (ne_eqb t.dst_line m (λ e. omega arith))
+    ∙ none_on n m ts all.1 h
 
 none_above : (n : ℕ) (ts : List RawToken) → From n ts → filter (is_above n) ts ≡ []
 none_above n [] all = refl
 none_above n (t ∷ ts) all =
-    ap (λ b. cond b (t ∷ filter (is_above n) ts) (filter (is_above n) ts)) (below_no t.dst_line n all.0) ∙ none_above n ts all.1
+    ap (λ b. cond b (t ∷ filter (is_above n) ts) (filter (is_above n) ts)) (le-ltb t.dst_line n all.0)
+    ∙ none_above n ts all.1
 
 pub all_above : (n : ℕ) (ts : List RawToken) → UpTo n ts → filter (is_above (n + 1)) ts ≡ ts
 all_above n [] all = refl
 all_above n (t ∷ ts) all =
     let line : t.dst_line ≤ n = all.0 in
-    ap (λ b. cond b (t ∷ filter (is_above (n + 1)) ts) (filter (is_above (n + 1)) ts)) (below_yes t.dst_line (n + 1) (omega arith))
+    ap (λ b. cond b (t ∷ filter (is_above (n + 1)) ts) (filter (is_above (n + 1)) ts))
+    (lt-ltb t.dst_line (n + 1) (omega arith))
     ∙ ap (λ us. t ∷ us) (all_above n ts all.1)
 
 -- the step of `above_more` from `ts` to `t ∷ ts`, in three cases: `t` is above, on or after line `n`
@@ -146,27 +145,29 @@ above_more_at : (n : ℕ) (t : RawToken) (ts : List RawToken) → From t.dst_lin
     → filter (is_above (n + 1)) (t ∷ ts) ≡ filter (is_above n) (t ∷ ts) ++ filter (is_on n) (t ∷ ts)
 above_more_at n t ts from more = ⊎_elim
     (λ (below : t.dst_line < n).
-    keeps (is_above (n + 1)) t ts (below_yes t.dst_line (n + 1) (omega arith))
+    keeps (is_above (n + 1)) t ts (lt-ltb t.dst_line (n + 1) (omega arith))
     ∙ ap (λ us. t ∷ us) more
-    ∙ ap (λ us. t ∷ (filter (is_above n) ts ++ us)) (sym (drops (is_on n) t ts (on_no t.dst_line n (λ e. omega arith))))
-    ∙ ap (λ us. us ++ filter (is_on n) (t ∷ ts)) (sym (keeps (is_above n) t ts (below_yes t.dst_line n below))))
+    ∙ ap (λ us. t ∷ (filter (is_above n) ts ++ us))
+    (sym (drops (is_on n) t ts (ne_eqb t.dst_line n (λ e. omega arith))))
+    ∙ ap (λ us. us ++ filter (is_on n) (t ∷ ts)) (sym (keeps (is_above n) t ts (lt-ltb t.dst_line n below))))
     (λ (past : n ≤ t.dst_line). ⊎_elim
     (λ (on : t.dst_line ≡ n).
     let none : filter (is_above n) ts ≡ [] = none_above n ts (subst (λ (m : ℕ). From m ts) on from) in
-    keeps (is_above (n + 1)) t ts (below_yes t.dst_line (n + 1) (omega arith))
+    keeps (is_above (n + 1)) t ts (lt-ltb t.dst_line (n + 1) (omega arith))
     ∙ ap (λ us. t ∷ us) more
     ∙ ap (λ us. t ∷ (us ++ filter (is_on n) ts)) none
-    ∙ sym (keeps (is_on n) t ts (on_yes t.dst_line n on))
-    ∙ ap (λ us. us ++ filter (is_on n) (t ∷ ts)) (sym (drops (is_above n) t ts (below_no t.dst_line n past) ∙ none)))
+    ∙ sym (keeps (is_on n) t ts (eq-eqb t.dst_line n on))
+    ∙ ap (λ us. us ++ filter (is_on n) (t ∷ ts)) (sym (drops (is_above n) t ts (le-ltb t.dst_line n past) ∙ none)))
     (λ (off : t.dst_line ≢ n).
-    drops (is_above (n + 1)) t ts (below_no t.dst_line (n + 1) (omega arith))
+    drops (is_above (n + 1)) t ts (le-ltb t.dst_line (n + 1) (omega arith))
     ∙ more
-    ∙ ap (λ us. filter (is_above n) ts ++ us) (sym (drops (is_on n) t ts (on_no t.dst_line n off)))
-    ∙ ap (λ us. us ++ filter (is_on n) (t ∷ ts)) (sym (drops (is_above n) t ts (below_no t.dst_line n past))))
+    ∙ ap (λ us. filter (is_above n) ts ++ us) (sym (drops (is_on n) t ts (ne_eqb t.dst_line n off)))
+    ∙ ap (λ us. us ++ filter (is_on n) (t ∷ ts)) (sym (drops (is_above n) t ts (le-ltb t.dst_line n past))))
     (cases_eq t.dst_line n))
     (cases_lt t.dst_line n)
 
-pub above_more : (n : ℕ) (ts : List RawToken) → Rises ts → filter (is_above (n + 1)) ts ≡ filter (is_above n) ts ++ filter (is_on n) ts
+pub above_more : (n : ℕ) (ts : List RawToken) → Rises ts
+    → filter (is_above (n + 1)) ts ≡ filter (is_above n) ts ++ filter (is_on n) ts
 above_more n [] r = refl
 above_more n (t ∷ ts) r = above_more_at n t ts r.0 (above_more n ts r.1)
 

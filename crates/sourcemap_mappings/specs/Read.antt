@@ -115,5 +115,6 @@ line_texts mappings ranges = with_range_bits (lines_of mappings) (lines_of range
 -- the result of decoding `mappings` and `rangeMappings`: the sorted tokens, or the first error
 abbrev pub MappingsAnswer : List ℕ → List ℕ → Counts → Result (List RawToken) Error → Type 0
 MappingsAnswer mappings ranges counts (Ok tokens) =
-    (decoded_lines : List Line) × LinesRead counts 0 [] (line_texts mappings ranges) decoded_lines × (tokens ≡ in_order (tokens_of_lines 0 [] decoded_lines))
+    (decoded_lines : List Line) × LinesRead counts 0 [] (line_texts mappings ranges) decoded_lines
+    × (tokens ≡ in_order (tokens_of_lines 0 [] decoded_lines))
 MappingsAnswer mappings ranges counts (Err e) = LinesError counts 0 [] (line_texts mappings ranges) e

@@ -1,12 +1,14 @@
 -- Segments: their numbers, the token of a segment, and its first error. A line is split into parts at each `,`. Each
 -- part that is not empty is a segment, which has one token.
-use Rattle.std.specs.Prelude.{ℕ, ◌%◌, ◌^◌, ℤ, pos, unsigned_abs, List, length, slice_get, sum_by, Option, Some, None, Bool, not, ◌&&◌, ◌||◌, ◌==◌, nat_lt, nat_le, min, if◌then◌else◌}
+use Rattle.std.specs.Prelude.{ℕ, ◌%◌, ◌^◌, ℤ, pos, unsigned_abs, List, length, slice_get, sum_by, Option, Some, None}
+use Rattle.std.specs.Prelude.{Bool, not, ◌&&◌, ◌||◌, ◌==◌, nat_lt, nat_le, min, if◌then◌else◌}
 use Rattle.std.specs.Option.{option_map_or}
 use Rattle.std.specs.List.{slice_split}
 use Rattle.std.specs.Int.{int_rem_euclid}
 use Rattle.sourcemap_tokens.specs.declared.tokens.RawToken.{RawToken}
 use Rattle.sourcemap_errors.specs.declared.errors.Error.{Error}
-use Rattle.sourcemap_errors.specs.declared.errors.Error.TheVariants.{BadSegmentSize, BadSourceReference, BadNameReference}
+use Rattle.sourcemap_errors.specs.declared.errors.Error.TheVariants.{BadSegmentSize, BadSourceReference}
+use Rattle.sourcemap_errors.specs.declared.errors.Error.TheVariants.{BadNameReference}
 use Rattle.sourcemap_vlq.specs.Bits.{bit_of}
 use Rattle.sourcemap_tokens.specs.Tokens.{no_id}
 

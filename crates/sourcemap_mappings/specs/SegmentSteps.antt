@@ -1,5 +1,6 @@
 -- The steps of decoding a segment: its numbers, its error, and the sums of the numbers up to the end of the segment.
-use Rattle.std.specs.Prelude.{◌≡◌, ℕ, ◌^◌, ◌<◌, ℤ, pos, unsigned_abs, List, [], ◌∷◌, ◌++◌, length, Option, Some, None, ◌==◌, min, if◌then◌else◌, ◌≢◌, IfSome, slice_index}
+use Rattle.std.specs.Prelude.{◌≡◌, ℕ, ◌^◌, ◌<◌, ℤ, pos, unsigned_abs, List, [], ◌∷◌, ◌++◌, length, Option, Some, None}
+use Rattle.std.specs.Prelude.{◌==◌, min, if◌then◌else◌, ◌≢◌, IfSome, slice_index}
 use Rattle.std.specs.Option.{option_map_or}
 use Rattle.std.specs.Int.{int_rem_euclid}
 use Rattle.sourcemap_errors.specs.declared.errors.Error.{Error}
@@ -68,7 +69,8 @@ pub record AreSums (before here : List Segment) (sums : Sums) : Type 0 where
 
 -- a part with this index in its line decodes to one or more numbers. `count` is how many numbers there are, or
 -- 4294967295 if there are more. `sums` holds the sums after the segments `before` and `here` and this part
-pub record IsSegmentRead (index : ℕ) (before here : List Segment) (part : List ℕ) (numbers : List ℤ) (count : ℕ) (sums : Sums) : Type 0 where
+pub record IsSegmentRead (index : ℕ) (before here : List Segment) (part : List ℕ) (numbers : List ℤ) (count : ℕ)
+    (sums : Sums) : Type 0 where
   pub some : 0 < length numbers
   pub count_is : count ≡ min (length numbers) 4294967295
   pub reads : Reads part numbers

@@ -1,6 +1,7 @@
 -- The encoding of tokens as `mappings` and `rangeMappings`. Lines are joined by `;`, the segments of
 -- a line by `,`. A token equal in all fields to the one before it is not written.
-use Rattle.std.specs.Prelude.{◌≡◌, ℕ, ◌+◌, ℤ, pos, List, [], ◌∷◌, ◌++◌, length, Option, Some, None, Bool, not, ◌&&◌, ◌==◌, nat_lt, if◌then◌else◌, false, true, ◌-ℤ◌, filter, map}
+use Rattle.std.specs.Prelude.{◌≡◌, ℕ, ◌+◌, ℤ, pos, List, [], ◌∷◌, ◌++◌, length, Option, Some, None, Bool, not, ◌&&◌}
+use Rattle.std.specs.Prelude.{◌==◌, nat_lt, if◌then◌else◌, false, true, ◌-ℤ◌, filter, map}
 use Rattle.std.specs.Option.{option_map_or}
 use Rattle.std.specs.List.{join_with_byte, last_or, list_any}
 use Rattle.sourcemap_tokens.specs.declared.tokens.RawToken.{RawToken}
@@ -30,7 +31,8 @@ EachLine IsPart n (part ∷ parts) = IsPart n part × EachLine IsPart (n + 1) pa
 -- parts. Each part satisfies `IsPart` for its line. If there are no tokens, the text is empty
 abbrev pub LineByLine : (ℕ → List ℕ → Type 0) → List RawToken → List ℕ → Type 0
 LineByLine IsPart tokens text =
-    (parts : List (List ℕ)) × (length parts ≡ line_count tokens) × EachLine IsPart 0 parts × (text ≡ join_with_byte semicolon parts)
+    (parts : List (List ℕ)) × (length parts ≡ line_count tokens) × EachLine IsPart 0 parts
+    × (text ≡ join_with_byte semicolon parts)
 
 -- Segments.
 

@@ -1,4 +1,5 @@
-//! Decodes and encodes `mappings` and `rangeMappings`.
+//! Decodes and encodes `mappings` and `rangeMappings`; knows nothing of the sources and names but
+//! their counts.
 #![tactic(auto)]
 
 pub mod buffer;

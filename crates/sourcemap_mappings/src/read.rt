@@ -1,5 +1,6 @@
 //! Decodes `mappings` and `rangeMappings`. `;` separates lines, `,` separates segments.
-ghost use Rattle.std.specs.Prelude.{◌≡◌, ℕ, ◌+◌, ◌<◌, ◌≤◌, ◌==◌, ℤ, List, [], ◌∷◌, ◌++◌, length, min, Result, if◌then◌else◌, IsTrue, IfOk, IfErr, OnOk};
+ghost use Rattle.std.specs.Prelude.{◌≡◌, ℕ, ◌+◌, ◌<◌, ◌≤◌, ◌==◌, ℤ, List, [], ◌∷◌, ◌++◌, length, min, Result};
+ghost use Rattle.std.specs.Prelude.{if◌then◌else◌, IsTrue, IfOk, IfErr, OnOk};
 ghost use Rattle.std.specs.Option.{option_map_or};
 ghost use Rattle.sourcemap_errors.specs.Answer.{IsAnswer, Gives, UnlessMemory};
 ghost use Rattle.sourcemap_errors.specs.declared.errors.Error.{Error};
@@ -9,8 +10,10 @@ ghost use Rattle.sourcemap_tokens.specs.Tokens.{AreInOrder, AllWithin, in_order}
 ghost use Rattle.sourcemap_line_index.specs.LineIndex.{IsTableOf};
 ghost use Rattle.sourcemap_mappings.specs.Segment.{Counts, Segment, parts_of};
 ghost use Rattle.sourcemap_mappings.specs.SegmentSteps.{AreTextSums, AreSums, IsSegmentRead, counts_of};
-ghost use Rattle.sourcemap_mappings.specs.Read.{Line, tokens_of_lines, PartsError, LineError, LinesRead, LinesError, with_range_bits, line_texts, MappingsAnswer, lines_of};
-ghost use Rattle.sourcemap_mappings.specs.ReadSteps.{AddsLine, AddsOnLine, AddsParts, AddsRow, AreInOrderTo, RiseFrom, TakesPart, lines_left};
+ghost use Rattle.sourcemap_mappings.specs.Read.{Line, tokens_of_lines, PartsError, LineError, LinesRead, LinesError};
+ghost use Rattle.sourcemap_mappings.specs.Read.{with_range_bits, line_texts, MappingsAnswer, lines_of};
+ghost use Rattle.sourcemap_mappings.specs.ReadSteps.{AddsLine, AddsOnLine, AddsParts, AddsRow, AreInOrderTo, RiseFrom};
+ghost use Rattle.sourcemap_mappings.specs.ReadSteps.{TakesPart, lines_left};
 
 use crate::segment::{
     Limits, PartPosition, Sums, add_steps, any_part, check_segment, token_at, usual_part,

@@ -1,11 +1,14 @@
 //! Decodes one segment of a line: its numbers, its token, and its errors.
-ghost use Rattle.std.specs.Prelude.{◌≡◌, ◌+◌, ◌<◌, ◌≤◌, ◌==◌, ℤ, List, [], ◌∷◌, ◌++◌, length, nat_lt, min, Result, ◌||◌, if◌then◌else◌, IsTrue, MatchResult, IfOk, IfErr, IfSome, unsigned_abs, pos, ◌^◌};
+ghost use Rattle.std.specs.Prelude.{◌≡◌, ◌+◌, ◌<◌, ◌≤◌, ◌==◌, ℤ, List, [], ◌∷◌, ◌++◌, length, nat_lt, min, Result};
+ghost use Rattle.std.specs.Prelude.{◌||◌, if◌then◌else◌, IsTrue, MatchResult, IfOk, IfErr, IfSome, unsigned_abs, pos};
+ghost use Rattle.std.specs.Prelude.{◌^◌};
 ghost use Rattle.std.specs.Int.{int_rem_euclid};
 ghost use Rattle.sourcemap_errors.specs.declared.errors.Error.{Error};
 ghost use Rattle.sourcemap_tokens.specs.declared.tokens.RawToken.{RawToken};
 ghost use Rattle.sourcemap_tokens.specs.Tokens.{no_id, destination};
 ghost use Rattle.sourcemap_mappings.specs.Segment.{Segment, token_of, segment_error};
-ghost use Rattle.sourcemap_mappings.specs.SegmentSteps.{AreSteps, HasFirstPart, EndsPart, BeginsWithStep, HasPartError, error_in_part, AreSums, counts_of};
+ghost use Rattle.sourcemap_mappings.specs.SegmentSteps.{AreSteps, HasFirstPart, EndsPart, BeginsWithStep, HasPartError};
+ghost use Rattle.sourcemap_mappings.specs.SegmentSteps.{error_in_part, AreSums, counts_of};
 
 use sourcemap_errors::errors::{Error, Result};
 use sourcemap_tokens::tokens::{NO_ID, RawToken};

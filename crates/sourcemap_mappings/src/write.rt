@@ -1,11 +1,13 @@
 //! Encodes tokens as `mappings` and `rangeMappings`.
-ghost use Rattle.std.specs.Prelude.{◌≡◌, ℕ, ◌+◌, ◌-◌, ◌<◌, ◌≤◌, ◌^◌, take, List, [], ◌∷◌, ◌++◌, replicate, OnOk, IfOk, IfErr, string_bytes, option_map, option_copied, Option, false};
+ghost use Rattle.std.specs.Prelude.{◌≡◌, ℕ, ◌+◌, ◌-◌, ◌<◌, ◌≤◌, ◌^◌, take, List, [], ◌∷◌, ◌++◌, replicate, OnOk, IfOk};
+ghost use Rattle.std.specs.Prelude.{IfErr, string_bytes, option_map, option_copied, Option, false};
 ghost use Rattle.std.specs.List.{list_any};
 ghost use Rattle.std.specs.Option.{option_map_or};
 ghost use Rattle.std.specs.Str.{IsAscii};
 ghost use Rattle.sourcemap_tokens.specs.Tokens.{AreInOrder, AllWithin, without_repeats, reduced};
 ghost use Rattle.sourcemap_mappings.specs.Read.{MappingsAnswer};
-ghost use Rattle.sourcemap_mappings.specs.Write.{has_source, has_name, numbers, LineByLine, IsRangeLine, IsWritten, IsRangeText};
+ghost use Rattle.sourcemap_mappings.specs.Write.{has_source, has_name, numbers, LineByLine, IsRangeLine, IsWritten};
+ghost use Rattle.sourcemap_mappings.specs.Write.{IsRangeText};
 ghost use Rattle.sourcemap_mappings.specs.Buffer.{Adds};
 ghost use Rattle.sourcemap_mappings.specs.WriteSteps.{HasSmallPositions, repeats, follows, gap, at_line, next_base};
 ghost use Rattle.sourcemap_mappings.specs.Segment.{semicolon};

@@ -1,4 +1,4 @@
-//! Facade of regular maps: re-exports types, decoding, encoding, source views and the builder.
+//! A facade of regular maps and their builder; knows nothing of Hermes and index maps.
 #![tactic(auto)]
 
 pub mod builder;

@@ -91,12 +91,14 @@ module _ {Y : Type 0} where
   same_answer (Err e) (Ok n) p = cc
   same_answer (Err e) (Err f) p = let same : f ≡ e = cc in rw same (same_error e)
 
-  none_once : (bytes : List ℕ) (a b : Result Y Error) → IsErrAnd a (HoldNoJson bytes) → IsErrAnd b (HoldNoJson bytes) → AreSame a b
+  none_once : (bytes : List ℕ) (a b : Result Y Error) → IsErrAnd a (HoldNoJson bytes) → IsErrAnd b (HoldNoJson bytes)
+      → AreSame a b
   none_once bytes (Err e) (Err f) p q = error_once (after_header bytes) e f p q
   none_once bytes (Ok m) b p q = absurd p
   none_once bytes (Err e) (Ok n) p q = absurd q
 
-  value_or_none : (bytes : List ℕ) (d : Data) (b : Result Y Error) → HoldJson bytes d → IsErrAnd b (HoldNoJson bytes) → ⊥
+  value_or_none : (bytes : List ℕ) (d : Data) (b : Result Y Error) → HoldJson bytes d → IsErrAnd b (HoldNoJson bytes)
+      → ⊥
   value_or_none bytes d (Ok n) p q = q
   value_or_none bytes d (Err e) p q = json_or_none (after_header bytes) d e p q
 
@@ -113,7 +115,8 @@ module _ {Y : Type 0} where
     pub value_once : (d : Data) (a b : Result Y Error) → ValueHasResult Decodes d a → ValueHasResult Decodes d b → a ≡ b
     value_once d a b p q = record_once (record_of d) a b p q
 
-    pub bytes_once : (bytes : List ℕ) (a b : Result Y Error) → BytesHaveResult Decodes bytes a → BytesHaveResult Decodes bytes b → AreSame a b
+    pub bytes_once : (bytes : List ℕ) (a b : Result Y Error) → BytesHaveResult Decodes bytes a
+        → BytesHaveResult Decodes bytes b → AreSame a b
     bytes_once bytes a b (inl p) (inl q) =
         let same : q.0 ≡ p.0 = json_once bytes q.0 p.0 q.1 p.1 in
         same_answer a b (value_once p.0 a b p.2 (rw (← same) q.2))
@@ -121,7 +124,8 @@ module _ {Y : Type 0} where
     bytes_once bytes a b (inr p) (inl q) = absurd (value_or_none bytes q.0 a q.1 p)
     bytes_once bytes a b (inr p) (inr q) = none_once bytes a b p q
 
-    pub url_once : (url : List ℕ) (a b : Result Y Error) → UrlHasResult Decodes url a → UrlHasResult Decodes url b → AreSame a b
+    pub url_once : (url : List ℕ) (a b : Result Y Error) → UrlHasResult Decodes url a → UrlHasResult Decodes url b
+        → AreSame a b
     url_once url a b (inl p) (inl q) =
         let both = one_answer url (Ok p.0) (Ok q.0) p.1 q.1 in
         let same : q.0 ≡ p.0 = cc in
@@ -149,7 +153,8 @@ module _ {Y : Type 0} where
     answer_weaker P Q f (Ok x) h = f (Ok (view x)) h
     answer_weaker P Q f (Err e) h = UnlessMemory-weaker e (f (Err e)) h
 
-    answer_read : (Answers : Result Y Error → Type 0) (r : Result X Error) → IsAnswer view Answers r → IsAnswerRead view Answers r
+    answer_read : (Answers : Result Y Error → Type 0) (r : Result X Error) → IsAnswer view Answers r
+        → IsAnswerRead view Answers r
     answer_read Answers (Ok x) h = h
     answer_read Answers (Err e) h = unless_read e _ h
 
@@ -157,13 +162,16 @@ module _ {Y : Type 0} where
     -- out
     pub answer_only : (Answers : Result Y Error → Type 0) (Same : Result Y Error → Result Y Error → Type 0)
         → ((a b : Result Y Error) → Answers a → Answers b → Same a b)
-        → (r : Result X Error) → IsAnswer view Answers r → (due : Result Y Error) → Answers due → IsAnswer view (Same due) r
+        → (r : Result X Error) → IsAnswer view Answers r → (due : Result Y Error) → Answers due
+        → IsAnswer view (Same due) r
     answer_only Answers Same once (Ok x) given due is = once due (Ok (view x)) is given
     answer_only Answers Same once (Err e) given due is = UnlessMemory-weaker e (once due (Err e) is) given
 
     -- if `r` is a result for the `bytes` that the reader returned, then `r` is a result for the reader
-    pub answer_of_reader : (Answers : List ℕ → Result Y Error → Type 0) (known : Option (List ℕ)) (bytes : List ℕ) (r : Result X Error)
-        → IfSome known (λ remaining. bytes ≡ remaining) → IsAnswer view (Answers bytes) r → Reading known (λ bytes. IsAnswerRead view (Answers bytes) r)
+    pub answer_of_reader : (Answers : List ℕ → Result Y Error → Type 0) (known : Option (List ℕ)) (bytes : List ℕ)
+        (r : Result X Error)
+        → IfSome known (λ remaining. bytes ≡ remaining) → IsAnswer view (Answers bytes) r
+        → Reading known (λ bytes. IsAnswerRead view (Answers bytes) r)
     answer_of_reader Answers known bytes r same h = (bytes, same, answer_read (Answers bytes) r h)
 
     -- if `e` says that a read failed or that memory ran out, a call may return `e`, whatever `Answers` allows
@@ -182,7 +190,8 @@ module _ {Y : Type 0} where
       pub answer_of_record : (d : Data) (t : Tree) → due (record_of d) ≡ Ok t
           → (r : Result X Error) → IsAnswer view (Decodes t) r → IsAnswer view (ValueHasResult Decodes d) r
       answer_of_record d t is r h =
-          answer_weaker (Decodes t) (ValueHasResult Decodes d) (value_of_record Decodes d t (some_of_due (record_of d) t is)) r h
+          answer_weaker (Decodes t) (ValueHasResult Decodes d)
+          (value_of_record Decodes d t (some_of_due (record_of d) t is)) r h
 
       -- a result for the record of bytes is a result for the bytes
       pub answer_of_bytes : (bytes : List ℕ) (t : Tree) → HoldRecord bytes t
@@ -195,7 +204,8 @@ module _ {Y : Type 0} where
       no_record bytes e (inl h) = inl (h.0, h.1, of_no_record (record_of h.0) h.2 (Err e) (ap Err h.3))
       no_record bytes e (inr h) = inr h
 
-      pub error_of_bytes : (bytes : List ℕ) (e : Error) → UnlessMemory e (HoldNoRecord bytes e) → UnlessMemory e (BytesHaveResult Decodes bytes (Err e))
+      pub error_of_bytes : (bytes : List ℕ) (e : Error) → UnlessMemory e (HoldNoRecord bytes e)
+          → UnlessMemory e (BytesHaveResult Decodes bytes (Err e))
       error_of_bytes bytes e h = UnlessMemory-weaker e (no_record bytes e) h
 
       module _ (once : (t : Tree) (a b : Result Y Error) → Decodes t a → Decodes t b → a ≡ b) where
@@ -210,7 +220,8 @@ module _ {Y : Type 0} where
         -- failed, or memory ran out
         pub reader_only : (known : Option (List ℕ)) (bytes : List ℕ) (r : Result X Error)
             → IfSome known (λ xs. bytes ≡ xs) → IsAnswer view (BytesHaveResult Decodes bytes) r
-            → IfSome known (λ xs. (due : Result Y Error) → BytesHaveResult Decodes xs due → IsAnswerRead view (AreSame due) r)
+            → IfSome known
+            (λ xs. (due : Result Y Error) → BytesHaveResult Decodes xs due → IsAnswerRead view (AreSame due) r)
         reader_only None bytes r same h = tt
         reader_only (Some xs) bytes r same h =
             λ due is. answer_read (AreSame due) r (bytes_only xs r (rw (← same) h) due is)

@@ -30,21 +30,25 @@ not_equal Less a b e = refl
 not_equal Equal a b e = absurd (true≢false e)
 not_equal Greater a b e = refl
 
-pub skips : (q k : List ℕ) (d : Data) (ms : Members) → bytes_eq q k ≡ false → get_member q (member k d ms) ≡ get_member q ms
+pub skips : (q k : List ℕ) (d : Data) (ms : Members) → bytes_eq q k ≡ false
+    → get_member q (member k d ms) ≡ get_member q ms
 skips q k d ms other = not_equal (slice_cmp nat_cmp q k) _ _ (is_eq-slice_cmp q k ∙ other)
 
-removed_at : (b : Bool) (key other : List ℕ) (e : Entry) (es rest : List Entry) → is_eq (slice_cmp nat_cmp key (string_bytes e.0)) ≡ b → bytes_eq other key ≡ false
+removed_at : (b : Bool) (key other : List ℕ) (e : Entry) (es rest : List Entry)
+    → is_eq (slice_cmp nat_cmp key (string_bytes e.0)) ≡ b → bytes_eq other key ≡ false
     → get_member other (members_view rest) ≡ get_member other (members_view es)
     → get_member other (members_view (cond b es (e ∷ rest))) ≡ get_member other (members_view (e ∷ es))
 removed_at true key other e es rest is apart later =
-    let same : key ≡ string_bytes e.0 = (bytes_eq-Decides key (string_bytes e.0)).0 (sym (is_eq-slice_cmp key (string_bytes e.0)) ∙ is) in
+    let same : key ≡ string_bytes e.0 =
+    (bytes_eq-Decides key (string_bytes e.0)).0 (sym (is_eq-slice_cmp key (string_bytes e.0)) ∙ is) in
     sym (skips other (string_bytes e.0) (view e.1) (members_view es) (sym (ap (bytes_eq other) same) ∙ apart))
 removed_at false key other e es rest is apart later =
     ap (λ r. match_ordering (slice_cmp nat_cmp other (string_bytes e.0)) r (Some (view e.1)) r) later
 
 -- removing `key` does not change the value of any other key
 pub remove_other : (key other : List ℕ) (es : List Entry) → bytes_eq other key ≡ false
-    → get_member other (members_view (remove_entry (is_at (λ k. slice_cmp nat_cmp key (string_bytes k))) es)) ≡ get_member other (members_view es)
+    → get_member other (members_view (remove_entry (is_at (λ k. slice_cmp nat_cmp key (string_bytes k))) es))
+    ≡ get_member other (members_view es)
 remove_other key other [] apart = refl
 remove_other key other (e ∷ es) apart = removed_at _ key other e es _ refl apart (remove_other key other es apart)
 

@@ -1,5 +1,6 @@
 pub mod BytesLemmas
 pub mod DepthLemmas
+mod DetectionLemmas
 pub mod FieldLemmas
 pub mod FromJsonLemmas
 pub mod JsontypesLemmas

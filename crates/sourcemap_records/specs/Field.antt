@@ -20,7 +20,8 @@ with x next = option_and_then next x
 
 -- all members except the one at `key` are as before
 abbrev pub KeepsOthers : List ℕ → Members → Members → Type 0
-KeepsOthers key before after = (other : List ℕ) → bytes_eq other key ≡ false → get_member other after ≡ get_member other before
+KeepsOthers key before after =
+    (other : List ℕ) → bytes_eq other key ≡ false → get_member other after ≡ get_member other before
 
 -- if the result is `Ok x`, then `reading` is `Some (see x)`. If the result is an error, the error is `OutOfMemory`, or
 -- the error is `BadJson(Shape)` and `reading` is `None`

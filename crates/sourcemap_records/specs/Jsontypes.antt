@@ -147,7 +147,8 @@ section_head_in ms =
 -- the record of a value, with its sections and their maps
 abbrev mutual
   pub record_of : Data → Option Tree
-  record_of (object ms) = with (sections_in ms) (λ sections. with (fields_in ms) (λ fields. Some (tree_with fields sections)))
+  record_of (object ms) =
+      with (sections_in ms) (λ sections. with (fields_in ms) (λ fields. Some (tree_with fields sections)))
   record_of _ = None
 
   pub sections_of : Data → Option Sections
@@ -156,7 +157,8 @@ abbrev mutual
 
   pub sections_read : Items → Option Sections
   sections_read no_items = Some no_more
-  sections_read (item d ds) = with (section_of d) (λ section. with (sections_read ds) (λ rest. Some (section_with section.head section.map rest)))
+  sections_read (item d ds) = with (section_of d)
+      (λ section. with (sections_read ds) (λ rest. Some (section_with section.head section.map rest)))
 
   pub section_of : Data → Option Section
   section_of (object ms) = with (map_in ms) (λ t. with (section_head_in ms) (λ head. Some (section_at head t)))
@@ -165,12 +167,14 @@ abbrev mutual
   -- the member `sections`, which may be missing or null
   pub sections_in : Members → Option (Option Sections)
   sections_in no_members = Some None
-  sections_in (member key d ms) = match_ordering (slice_cmp nat_cmp (codes "sections") key) (sections_in ms) (or_null_of d (sections_of d)) (sections_in ms)
+  sections_in (member key d ms) = match_ordering (slice_cmp nat_cmp (codes "sections") key) (sections_in ms)
+      (or_null_of d (sections_of d)) (sections_in ms)
 
   -- the member `map`, which may be missing or null
   pub map_in : Members → Option (Option Tree)
   map_in no_members = Some None
-  map_in (member key d ms) = match_ordering (slice_cmp nat_cmp (codes "map") key) (map_in ms) (or_null_of d (record_of d)) (map_in ms)
+  map_in (member key d ms) =
+      match_ordering (slice_cmp nat_cmp (codes "map") key) (map_in ms) (or_null_of d (record_of d)) (map_in ms)
 
 -- ---- the keys by which a map is detected
 
@@ -236,7 +240,8 @@ written_section head t = object (put_all (
 abbrev mutual
   pub written : Tree → Data
   written (plain fields) = object (written_fields fields)
-  written (indexed fields sections) = object (put_if (codes "sections") (Some (array (written_sections sections))) (written_fields fields))
+  written (indexed fields sections) =
+      object (put_if (codes "sections") (Some (array (written_sections sections))) (written_fields fields))
 
   pub written_sections : Sections → Items
   written_sections no_more = no_items

@@ -36,7 +36,12 @@ abbrev pub file_keys_of : Fields → FileKeys
 file_keys_of f = record { version = f.version; file = f.file; sources = f.sources; source_root = f.source_root }
 
 abbrev pub content_keys_of : Fields → ContentKeys
-content_keys_of f = record { sources_content = f.sources_content; names = f.names; range_mappings = f.range_mappings; mappings = f.mappings }
+content_keys_of f = record {
+  sources_content = f.sources_content;
+  names = f.names;
+  range_mappings = f.range_mappings;
+  mappings = f.mappings;
+}
 
 abbrev pub extra_keys_of : Fields → ExtraKeys
 extra_keys_of f = record {
@@ -90,7 +95,8 @@ extra_keys_view x = record {
 }
 
 abbrev pub groups_view : RawGroups → Fields
-groups_view g = fields_from (file_keys_view g.file_keys) (content_keys_view g.content_keys) (extra_keys_view g.extra_keys) g.debug_id
+groups_view g = fields_from (file_keys_view g.file_keys) (content_keys_view g.content_keys)
+    (extra_keys_view g.extra_keys) g.debug_id
 
 -- ---- which values a group may have
 
@@ -98,7 +104,8 @@ abbrev pub AreFileKeysInRange : FileKeys → Type 0
 AreFileKeysInRange h = IfSome h.version FitsU32
 
 abbrev pub AreExtraKeysInRange : ExtraKeys → Type 0
-AreExtraKeysInRange x = IfSome x.ignore_list (AllByRecursion FitsU32) × IfSome x.x_facebook_offsets (AllByRecursion (λ n. IfSome n FitsU32))
+AreExtraKeysInRange x =
+    IfSome x.ignore_list (AllByRecursion FitsU32) × IfSome x.x_facebook_offsets (AllByRecursion (λ n. IfSome n FitsU32))
 
 -- ---- reading
 
@@ -116,7 +123,12 @@ content_keys_in ms =
     with (at (codes "names") (list any) ms) (λ names.
     with (at (codes "rangeMappings") text ms) (λ range_mappings.
     with (at (codes "mappings") text ms) (λ mappings.
-    Some (record { sources_content = sources_content; names = names; range_mappings = range_mappings; mappings = mappings })))))
+    Some (record {
+      sources_content = sources_content;
+      names = names;
+      range_mappings = range_mappings;
+      mappings = mappings;
+    })))))
 
 abbrev pub extra_keys_in : Members → Option ExtraKeys
 extra_keys_in ms =
@@ -143,7 +155,8 @@ content_key_names = codes "mappings" ∷ codes "rangeMappings" ∷ codes "names"
 
 -- all members but those with these names are as before
 abbrev pub KeepsBut : List (List ℕ) → Members → Members → Type 0
-KeepsBut names before after = (other : List ℕ) → list_any (bytes_eq other) names ≡ false → get_member other after ≡ get_member other before
+KeepsBut names before after =
+    (other : List ℕ) → list_any (bytes_eq other) names ≡ false → get_member other after ≡ get_member other before
 
 -- ---- writing
 

@@ -1,4 +1,5 @@
 pub mod Bytes
+pub mod Detection
 pub mod Field
 pub mod Jsontypes
 pub mod Keys

@@ -1,7 +1,9 @@
 -- The reference of a text, found line by line.
-use Rattle.std.specs.Prelude.{◌≡◌, ℕ, ◌+◌, ◌<◌, ◌≤◌, List, [], ◌∷◌, Option, None, Some, IfSome, Bool, true, false, drop, length, nat_lt, slice_index, slice_range, take, if◌then◌else◌}
+use Rattle.std.specs.Prelude.{◌≡◌, ℕ, ◌+◌, ◌<◌, ◌≤◌, List, [], ◌∷◌, Option, None, Some, IfSome, Bool, true, false, drop}
+use Rattle.std.specs.Prelude.{length, nat_lt, slice_index, slice_range, take, if◌then◌else◌}
 use Rattle.std.specs.Str.{IsCharBoundary, IsUtf8, is_utf8}
-use Rattle.sourcemap_references.specs.Reference.{Reference, first_on, first_reference, line_reference, or_later, reference_on, text_lines}
+use Rattle.sourcemap_references.specs.Reference.{Reference, first_on, first_reference, line_reference, or_later}
+use Rattle.sourcemap_references.specs.Reference.{reference_on, text_lines}
 use Rattle.sourcemap_references.specs.declared.lines.Line.{Line}
 use Rattle.sourcemap_references.specs.declared.lines.Lines.{Lines}
 use Rattle.sourcemap_references.specs.declared.lines.Lines.TheVariants.{Marked, Unmarked}
@@ -26,7 +28,8 @@ if_text bytes due = if is_utf8 bytes then due else None
 -- `line.end` is UTF-8, `line` also starts at a char boundary, and `first_reference` is the reference on `line`.
 -- Otherwise `first_reference` is `None`
 pub record IsFirstMarked (text : List ℕ) (line : Line) : Type 0 where
-  pub first : first_reference text ≡ if_text (take line.end text) (Some (reference_on (drop line.start (take line.end text))))
+  pub first : first_reference text
+      ≡ if_text (take line.end text) (Some (reference_on (drop line.start (take line.end text))))
   pub ends : IsCharBoundary text line.end
   pub starts : IsUtf8 (take line.end text) → IsCharBoundary (take line.end text) line.start
 
@@ -60,4 +63,5 @@ LeavesOnly text None = first_reference text ≡ Some None
 abbrev pub ReadsLine : Option (List ℕ) → Option (List ℕ) → Bool → List ℕ → Type 0
 ReadsLine known left false line = IfSome known (λ text. first_reference text ≡ Some None)
 ReadsLine known left true line = IfSome known (λ text.
-    (rest : List ℕ) × (left ≡ Some rest) × (first_reference text ≡ or_later (line_reference line) (first_reference rest)))
+    (rest : List ℕ) × (left ≡ Some rest)
+    × (first_reference text ≡ or_later (line_reference line) (first_reference rest)))

@@ -1,5 +1,6 @@
 -- The URL and the path of a reference, resolved against the file that holds it.
-use Rattle.std.specs.Prelude.{◌≡◌, ◌⊎◌, ℕ, ◌+◌, Bool, false, if◌then◌else◌, List, length, codes, nat_eq, Option, Some, None, option_map, Result, Ok, Err, IsOkAnd}
+use Rattle.std.specs.Prelude.{◌≡◌, ◌⊎◌, ℕ, ◌+◌, Bool, false, if◌then◌else◌, List, length, codes, nat_eq, Option, Some}
+use Rattle.std.specs.Prelude.{None, option_map, Result, Ok, Err, IsOkAnd}
 use Rattle.std.specs.List.{starts_with}
 use Rattle.std.specs.Result.{result_ok}
 use Rattle.url.specs.Parts.{serialize}
@@ -31,7 +32,8 @@ resolved_path path url = if is_data_url url then None else resolved_file_path pa
 -- second case requires that `base` is not rejected. Parsing and resolving may add escapes, so the parsed `base` or the
 -- resolved URL of a long join may exceed 4 GB
 abbrev pub IsLongJoin : List ℕ → List ℕ → Type 0
-IsLongJoin base url = IsLong (length base) ⊎ IsOkAnd (parse_url None base) (λ from. IsLong (length (serialize from) + length url))
+IsLongJoin base url =
+    IsLong (length base) ⊎ IsOkAnd (parse_url None base) (λ from. IsLong (length (serialize from) + length url))
 
 -- the result is `due`, or out of memory; if `long` holds, the result may also be `None`
 abbrev pub UnlessLong : {X : Type 0} → Option X → Type 0 → Result (Option X) Error → Type 0

@@ -1,5 +1,6 @@
 //! References to source maps.
-ghost use Rattle.std.specs.Prelude.{◌≡◌, ◌+◌, ◌<◌, ◌≤◌, ℕ, drop, Err, IsOkUnless, List, MatchOption, MatchResult, None, Ok, Option, Some, false, is_some, length, option_map, string_bytes, true};
+ghost use Rattle.std.specs.Prelude.{◌≡◌, ◌+◌, ◌<◌, ◌≤◌, ℕ, drop, Err, IsOkUnless, List, MatchOption, MatchResult, None};
+ghost use Rattle.std.specs.Prelude.{Ok, Option, Some, false, is_some, length, option_map, string_bytes, true};
 ghost use Rattle.std.specs.Io.BufRead.{strip_last};
 ghost use Rattle.std.specs.Io.Buffered.{reader_remaining};
 ghost use Rattle.std.specs.Result.{result_ok};
@@ -12,7 +13,8 @@ ghost use Rattle.sourcemap_file_urls.specs.Places.{url_text};
 ghost use Rattle.sourcemap_file_urls.specs.Urls.{IsLong};
 ghost use Rattle.sourcemap_references.specs.Lines.{AreUnmarked, IsFirstMarked, LeavesOnly, ReadsLine};
 ghost use Rattle.sourcemap_references.specs.Reference.{first_reference, line_reference, reference_on, url_after_mark};
-ghost use Rattle.sourcemap_references.specs.References.{IsInvalidData, IsReadError, Locates, LocatesRead, reference, url_of};
+ghost use Rattle.sourcemap_references.specs.References.{IsInvalidData, IsReadError, Locates, LocatesRead, reference};
+ghost use Rattle.sourcemap_references.specs.References.{url_of};
 ghost use Rattle.sourcemap_references.specs.declared.detector.SourceMapRef.{SourceMapRef};
 ghost use Rattle.sourcemap_references.specs.Resolution.{IsLongJoin, UnlessLong, is_data_url, resolved, resolved_path};
 
@@ -52,12 +54,6 @@ impl SourceMapRef {
         }
     }
 
-    fn is_data_url(&self) -> bool
-        ensures { result ≡ is_data_url (url_of self.now) }
-    {
-        self.get_url().as_bytes().starts_with(b"data:")
-    }
-
     /// Resolves the URL of the source map against the URL of the file that holds the reference.
     ///
     /// Returns `None` if the URL in the reference starts with `data:`, or if either URL is
@@ -70,7 +66,7 @@ impl SourceMapRef {
             (UnlessLong (resolved minified_url.now (url_of self.now))
             (IsLongJoin minified_url.now (url_of self.now))) result }
     {
-        if self.is_data_url() {
+        if is_data_url(self.get_url()) {
             return Ok(None);
         }
         match urls::parse(*self.url().allocator(), minified_url)? {
@@ -95,7 +91,7 @@ impl SourceMapRef {
             (UnlessLong (resolved_path minified_path.now (url_of self.now))
             (IsLongJoin (url_text minified_path.now false) (url_of self.now))) result }
     {
-        if self.is_data_url() {
+        if is_data_url(self.get_url()) {
             return Ok(None);
         }
         let alloc = *self.url().allocator();
@@ -104,6 +100,13 @@ impl SourceMapRef {
             None => Ok(None),
         }
     }
+}
+
+/// Whether a URL starts with `data:`.
+pub fn is_data_url(url: &str) -> bool
+    ensures { result ≡ is_data_url url.now }
+{
+    url.as_bytes().starts_with(b"data:")
 }
 
 // The text of `reference` resolved against `base`. `None` if `reference` is rejected. The result

@@ -1,4 +1,5 @@
-//! Searches generated code for references to source maps, and resolves these references.
+//! Finds the references to source maps in generated code and resolves them; knows nothing of what
+//! the maps contain.
 #![tactic(auto)]
 
 pub mod detector;

@@ -1,5 +1,6 @@
 -- Contents of sources, loaded from files: the folder, the paths of the files, and what may change.
-use Rattle.std.specs.Prelude.{◌≡◌, ℕ, zero, suc, ◌+◌, true, ◌&&◌, if◌then◌else◌, List, [], ◌++◌, length, codes, slice_get, Option, Some, None, is_none, is_some, IsSome, option_and_then, unwrap_or}
+use Rattle.std.specs.Prelude.{◌≡◌, ℕ, zero, suc, ◌+◌, true, ◌&&◌, if◌then◌else◌, List, [], ◌++◌, length, codes}
+use Rattle.std.specs.Prelude.{slice_get, Option, Some, None, is_none, is_some, IsSome, option_and_then, unwrap_or}
 use Rattle.std.specs.IoError.{error_kind}
 use Rattle.std.specs.declared.io.ErrorKind.TheVariants.{InvalidInput}
 use Rattle.sourcemap_errors.specs.declared.errors.Error.{Error}

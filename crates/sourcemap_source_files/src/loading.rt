@@ -1,5 +1,6 @@
 //! Contents of sources, loaded from files.
-ghost use Rattle.std.specs.Prelude.{◌≡◌, ◌≤◌, ◌⊎◌, ◌&&◌, Ok, None, List, ℕ, map, length, vec_len, string_bytes, is_none, is_some, IsSome, IfSome, IfNone, IfOk, IfErr, OnOk, OnErr, option_map};
+ghost use Rattle.std.specs.Prelude.{◌≡◌, ◌≤◌, ◌⊎◌, ◌&&◌, Ok, None, List, ℕ, map, length, vec_len, string_bytes};
+ghost use Rattle.std.specs.Prelude.{is_none, is_some, IsSome, IfSome, IfNone, IfOk, IfErr, OnOk, OnErr, option_map};
 ghost use Rattle.std.specs.Option.{option_copied};
 ghost use Rattle.sourcemap_errors.specs.declared.errors.Error.TheVariants.{OutOfMemory};
 ghost use Rattle.sourcemap_errors.specs.Answer.{Gives};

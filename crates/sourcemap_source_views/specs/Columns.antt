@@ -1,5 +1,6 @@
 -- Columns of a line in UTF-16 units: their offsets in bytes, and the slice between two columns.
-use Rattle.std.specs.Prelude.{◌≡◌, ℕ, ◌+◌, ◌-◌, cond, nat_lt, nat_le, List, [], ◌∷◌, length, take, drop, map, Option, None, Some, option_map}
+use Rattle.std.specs.Prelude.{◌≡◌, ℕ, ◌+◌, ◌-◌, cond, nat_lt, nat_le, List, [], ◌∷◌, length, take, drop, map, Option}
+use Rattle.std.specs.Prelude.{None, Some, option_map}
 use Rattle.std.specs.List.{find}
 use Rattle.std.specs.Str.{IsCharBoundary, chars, encode_utf8_all}
 

@@ -12,7 +12,8 @@ is_start c = (((c == 36) || (c == 95)) || is_ascii_alphabetic c) || (nat_le 128 
 -- a character that can continue an identifier: one that can start it, an ASCII digit, U+200C, U+200D,
 -- or non-ASCII with XID_Continue
 abbrev pub is_part : ℕ → Bool
-is_part c = (((is_start c || is_ascii_digit c) || (c == 0x200C)) || (c == 0x200D)) || (nat_le 128 c && is_xid_continue c)
+is_part c =
+    (((is_start c || is_ascii_digit c) || (c == 0x200C)) || (c == 0x200D)) || (nat_le 128 c && is_xid_continue c)
 
 -- there is a first character, and it passes a test
 abbrev pub first_passes : (ℕ → Bool) → List ℕ → Bool

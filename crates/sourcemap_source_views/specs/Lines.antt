@@ -1,5 +1,6 @@
 -- The lines of a text, and their ranges.
-use Rattle.std.specs.Prelude.{ℕ, ◌+◌, ◌<◌, ◌≤◌, ◌==◌, Bool, ◌&&◌, ◌||◌, cond, List, [], ◌∷◌, ◌++◌, length, slice_index, drop, map, not, false, ◌≡◌}
+use Rattle.std.specs.Prelude.{ℕ, ◌+◌, ◌<◌, ◌≤◌, ◌==◌, Bool, ◌&&◌, ◌||◌, cond, List, [], ◌∷◌, ◌++◌, length, slice_index}
+use Rattle.std.specs.Prelude.{drop, map, not, false, ◌≡◌}
 use Rattle.std.specs.List.{list_any}
 
 -- a line: its text, and its terminator `\n`, `\r` or `\r\n`; the last line has none

@@ -15,5 +15,6 @@ tokens_from seen before None = []
 tokens_from seen before (Some token) = seen token ∷ before token
 
 -- the items that the iterator has not returned yet
-abbrev pub walk_left : {T S : Type 0} → (T → S) → (T → List S) → (S → ℕ × ℕ) → RevTokenIter T → List (S × Option (List ℕ))
+abbrev pub walk_left : {T S : Type 0} → (T → S) → (T → List S) → (S → ℕ × ℕ) → RevTokenIter T
+    → List (S × Option (List ℕ))
 walk_left seen before position_value it = walked position_value it.view.now (tokens_from seen before it.token)

@@ -1,5 +1,6 @@
 //! Byte offsets of UTF-16 columns in a line.
-ghost use Rattle.std.specs.Prelude.{◌≡◌, ◌<◌, ◌≤◌, ◌-◌, IfNone, IfSome, IsAscii, Some, length, option_map, slice_range, take};
+ghost use Rattle.std.specs.Prelude.{◌≡◌, ◌<◌, ◌≤◌, ◌-◌, IfNone, IfSome, IsAscii, Some, length, option_map, slice_range};
+ghost use Rattle.std.specs.Prelude.{take};
 ghost use Rattle.std.specs.Bool.{OnTrue};
 ghost use Rattle.std.specs.Str.{IsCharBoundary, chars};
 ghost use Rattle.sourcemap_source_views.specs.Columns.{IsOffset, column_offset, reached_offset, slice_of, width};

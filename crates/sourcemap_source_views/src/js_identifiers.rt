@@ -3,7 +3,8 @@ ghost use Rattle.std.specs.Prelude.{◌≡◌, length, option_map};
 ghost use Rattle.std.specs.Prelude.{drop, true};
 ghost use Rattle.std.specs.Str.{IsCharBoundary, chars, encode_utf8_all, trim_start};
 ghost use Rattle.std.specs.List.{take_while};
-ghost use Rattle.sourcemap_source_views.specs.Identifiers.{first_passes, identifier_at_start, is_identifier, is_part, is_start, is_text, token_at_start, unless_empty};
+ghost use Rattle.sourcemap_source_views.specs.Identifiers.{first_passes, identifier_at_start, is_identifier, is_part};
+ghost use Rattle.sourcemap_source_views.specs.Identifiers.{is_start, is_text, token_at_start, unless_empty};
 
 use unicode_ident::{is_xid_continue, is_xid_start};
 

@@ -1,4 +1,5 @@
-//! Views of source texts: lines, UTF-16 columns, and the identifiers at positions.
+//! Views of source texts, with their lines, UTF-16 columns and the identifiers at positions; knows
+//! nothing of tokens.
 #![tactic(auto)]
 
 pub mod columns;

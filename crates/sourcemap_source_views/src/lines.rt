@@ -1,11 +1,13 @@
 //! A table of the lines of a text.
-ghost use Rattle.std.specs.Prelude.{◌≡◌, ◌+◌, ◌++◌, ◌<◌, ◌≤◌, ◌==◌, [], ◌∷◌, MatchResult, Ok, ℕ, cond, drop, false, length, map, slice_get, slice_index, take, true};
+ghost use Rattle.std.specs.Prelude.{◌≡◌, ◌+◌, ◌++◌, ◌<◌, ◌≤◌, ◌==◌, [], ◌∷◌, MatchResult, Ok, ℕ, cond, drop, false};
+ghost use Rattle.std.specs.Prelude.{length, map, slice_get, slice_index, take, true};
 ghost use Rattle.std.specs.List.{AllByRecursion};
 ghost use Rattle.std.specs.Simd.Lanes.{mask_l};
 ghost use Rattle.sourcemap_errors.specs.Answer.{Changes, Gives};
 ghost use Rattle.sourcemap_errors.specs.declared.errors.Error.TheVariants.{OutOfMemory};
 ghost use Rattle.sourcemap_source_views.specs.Columns.{column_offset};
-ghost use Rattle.sourcemap_source_views.specs.Lines.{IsPartialTable, HasNoTerminator, count_ends, is_terminator, joined, line_ranges, lines_of, starts_with_crlf};
+ghost use Rattle.sourcemap_source_views.specs.Lines.{IsPartialTable, HasNoTerminator, count_ends, is_terminator};
+ghost use Rattle.sourcemap_source_views.specs.Lines.{joined, line_ranges, lines_of, starts_with_crlf};
 
 use crate::columns::reach;
 use memchr::memchr2;

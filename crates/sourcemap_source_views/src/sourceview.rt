@@ -1,5 +1,6 @@
 //! Views of source texts: a text with the table of its lines.
-ghost use Rattle.std.specs.Prelude.{◌≡◌, ◌<◌, ◌≤◌, ◌^◌, IsOkUnless, Ok, drop, length, option_map, slice_get, string_bytes, take};
+ghost use Rattle.std.specs.Prelude.{◌≡◌, ◌<◌, ◌≤◌, ◌^◌, IsOkUnless, Ok, drop, length, option_map, slice_get};
+ghost use Rattle.std.specs.Prelude.{string_bytes, take};
 ghost use Rattle.std.specs.Bool.{Decides};
 ghost use Rattle.std.specs.Cmp.{partial_equiv_from_equiv};
 ghost use Rattle.sourcemap_errors.specs.Answer.{Gives};

@@ -1,10 +1,12 @@
 //! A walk back along the tokens of a map, to guess the name of a function.
-ghost use Rattle.std.specs.Prelude.{◌≡◌, ◌≤◌, ℕ, List, [], ◌∷◌, IfSome, Option, Some, drop, nat_le, option_map, take, true};
+ghost use Rattle.std.specs.Prelude.{◌≡◌, ◌≤◌, ℕ, List, [], ◌∷◌, IfSome, Option, Some, drop, nat_le, option_map, take};
+ghost use Rattle.std.specs.Prelude.{true};
 ghost use Rattle.std.specs.Option.{MatchOption, option_and_then, option_copied};
 ghost use Rattle.std.specs.Str.{IsCharBoundary, chars};
 ghost use Rattle.sourcemap_source_views.specs.Columns.{IsOffset, column_offset, reached_offset};
 ghost use Rattle.sourcemap_source_views.specs.Identifiers.{is_identifier, is_text, token_at_start};
-ghost use Rattle.sourcemap_source_views.specs.Walk.{HasLine, IsWord, IsWordEnd, function_token, guessed_name, identifier_from, position_in, sets, walked};
+ghost use Rattle.sourcemap_source_views.specs.Walk.{HasLine, IsWord, IsWordEnd, function_token, guessed_name};
+ghost use Rattle.sourcemap_source_views.specs.Walk.{identifier_from, position_in, sets, walked};
 
 use crate::columns::{LineOffset, reach_from, reach_or_end};
 use crate::js_identifiers::{

@@ -1,2 +1,3 @@
 pub mod PathsLemmas
 pub mod PrefixesLemmas
+pub mod TextsLemmas

@@ -1,12 +1,15 @@
 -- The common first parts of two paths, byte by byte.
-use Rattle.std.proofs.Common.{◌≡◌, ◌≢◌, refl, sym, ap, subst, ◌∙◌, ℕ, zero, suc, ◌+◌, ◌<◌, ◌≤◌, ◌==◌, ◌&&◌, ◌||◌, List, [], ◌∷◌, ◌++◌, length, take, drop, get_or, nat_le, Bool, true, false, cond, Some, None, Option, option_map, unwrap_or, filter, map, Bor, arith, inl, inr, eq-eqb, add-one}
+use Rattle.std.proofs.Common.{◌≡◌, ◌≢◌, refl, sym, ap, subst, ◌∙◌, ℕ, zero, suc, ◌+◌, ◌<◌, ◌≤◌, ◌==◌, ◌&&◌, ◌||◌, List}
+use Rattle.std.proofs.Common.{[], ◌∷◌, ◌++◌, length, take, drop, get_or, nat_le, Bool, true, false, cond, Some, None}
+use Rattle.std.proofs.Common.{Option, option_map, unwrap_or, filter, map, Bor, arith, inl, inr, eq-eqb, add-one}
 use Rattle.std.specs.List.{concat}
 use Rattle.std.specs.Str.{bytes_eq, IsUtf8, IsCharBoundary}
 use Rattle.std.proofs.Math.Seq.{drop-cons}
 use Rattle.std.proofs.lemmas.Bool.{cases_Bool, cases_lt, or_cases, eqb-true, ne_eqb, le-leb, lt-leb}
 use Rattle.std.proofs.lemmas.Slice.Eq.{bytes_eq-Decides}
 use Rattle.std.proofs.lemmas.Str.{IsCharBoundary-start, IsCharBoundary-end, IsCharBoundary-before_ascii}
-use Rattle.sourcemap_texts.specs.Paths.{is_absolute, is_separator, with_first_byte, path_parts, common_parts, first_parts}
+use Rattle.sourcemap_texts.specs.Paths.{is_absolute, is_separator, with_first_byte, path_parts, common_parts}
+use Rattle.sourcemap_texts.specs.Paths.{first_parts}
 
 -- ---- parts
 
@@ -15,11 +18,13 @@ abbrev pub ends_part : List ℕ → Bool
 ends_part [] = true
 ends_part (byte ∷ text) = is_separator byte
 
-path_parts-cut : (byte : ℕ) (text : List ℕ) → ends_part text ≡ true → path_parts (byte ∷ text) ≡ (byte ∷ []) ∷ path_parts text
+path_parts-cut : (byte : ℕ) (text : List ℕ) → ends_part text ≡ true
+    → path_parts (byte ∷ text) ≡ (byte ∷ []) ∷ path_parts text
 path_parts-cut byte [] e = refl
 path_parts-cut byte (next ∷ text) e = rw e refl
 
-path_parts-joined : (byte : ℕ) (text : List ℕ) → ends_part text ≡ false → path_parts (byte ∷ text) ≡ with_first_byte byte (path_parts text)
+path_parts-joined : (byte : ℕ) (text : List ℕ) → ends_part text ≡ false
+    → path_parts (byte ∷ text) ≡ with_first_byte byte (path_parts text)
 path_parts-joined byte [] e = cc
 path_parts-joined byte (next ∷ text) e = rw e refl
 
@@ -35,7 +40,11 @@ starts byte (next ∷ text) =
     let later = starts next text in
     elim (cases_Bool (is_separator next)) [
       | inl e ↦ record { part = []; others = path_parts (next ∷ text); is = path_parts-cut byte (next ∷ text) e }
-      | inr e ↦ record { part = next ∷ later.part; others = later.others; is = path_parts-joined byte (next ∷ text) e ∙ ap (with_first_byte byte) later.is }
+      | inr e ↦ record {
+        part = next ∷ later.part;
+        others = later.others;
+        is = path_parts-joined byte (next ∷ text) e ∙ ap (with_first_byte byte) later.is;
+      }
     ]
 
 -- joining `with_first_byte byte parts` gives `byte`, followed by the joined `parts`. `concat-path_parts` uses this to
@@ -50,7 +59,8 @@ concat-path_parts (byte ∷ text) =
     let rest : concat (path_parts text) ≡ text = concat-path_parts text in
     elim (cases_Bool (ends_part text)) [
       | inl e ↦ ap concat (path_parts-cut byte text e) ∙ ap (λ t. byte ∷ t) rest
-      | inr e ↦ ap concat (path_parts-joined byte text e) ∙ concat-with_first_byte byte (path_parts text) ∙ ap (λ t. byte ∷ t) rest
+      | inr e ↦ ap concat (path_parts-joined byte text e) ∙ concat-with_first_byte byte (path_parts text)
+          ∙ ap (λ t. byte ∷ t) rest
     ]
 
 -- ---- common parts
@@ -62,45 +72,54 @@ common_parts-nil : (ps : List (List ℕ)) → common_parts ps [] ≡ []
 common_parts-nil [] = refl
 common_parts-nil (p ∷ ps) = refl
 
-common_parts-same : (p q : List ℕ) (ps qs : List (List ℕ)) → bytes_eq p q ≡ true → common_parts (p ∷ ps) (q ∷ qs) ≡ p ∷ common_parts ps qs
+common_parts-same : (p q : List ℕ) (ps qs : List (List ℕ)) → bytes_eq p q ≡ true
+    → common_parts (p ∷ ps) (q ∷ qs) ≡ p ∷ common_parts ps qs
 common_parts-same p q ps qs e = rw e refl
 
 common_parts-apart : (p q : List ℕ) (ps qs : List (List ℕ)) → bytes_eq p q ≡ false → common_parts (p ∷ ps) (q ∷ qs) ≡ []
 common_parts-apart p q ps qs e = rw e refl
 
-common_parts-assoc : (ps qs rs : List (List ℕ)) → common_parts (common_parts ps qs) rs ≡ common_parts ps (common_parts qs rs)
+common_parts-assoc : (ps qs rs : List (List ℕ))
+    → common_parts (common_parts ps qs) rs ≡ common_parts ps (common_parts qs rs)
 common_parts-assoc [] qs rs = refl
 common_parts-assoc (p ∷ ps) [] rs = refl
 common_parts-assoc (p ∷ ps) (q ∷ qs) [] = common_parts-nil (common_parts (p ∷ ps) (q ∷ qs))
 common_parts-assoc (p ∷ ps) (q ∷ qs) (r ∷ rs) =
-    let tails : common_parts (common_parts ps qs) rs ≡ common_parts ps (common_parts qs rs) = common_parts-assoc ps qs rs in
+    let tails : common_parts (common_parts ps qs) rs ≡ common_parts ps (common_parts qs rs) =
+    common_parts-assoc ps qs rs in
     elim (cases_Bool (bytes_eq p q)) [
       | inl e ↦
           let same : p ≡ q = (bytes_eq-Decides p q).0 e in
           elim (cases_Bool (bytes_eq q r)) [
             | inl f ↦
                 let across : bytes_eq p r ≡ true = subst (λ t. bytes_eq t r ≡ true) (sym same) f in
-                ap (λ l. common_parts l (r ∷ rs)) (common_parts-same p q ps qs e) ∙ common_parts-same p r (common_parts ps qs) rs across ∙ ap (λ l. p ∷ l) tails
-                ∙ sym (ap (common_parts (p ∷ ps)) (common_parts-same q r qs rs f) ∙ common_parts-same p q ps (common_parts qs rs) e)
+                ap (λ l. common_parts l (r ∷ rs)) (common_parts-same p q ps qs e)
+                ∙ common_parts-same p r (common_parts ps qs) rs across ∙ ap (λ l. p ∷ l) tails
+                ∙ sym (ap (common_parts (p ∷ ps)) (common_parts-same q r qs rs f)
+                ∙ common_parts-same p q ps (common_parts qs rs) e)
             | inr f ↦
                 let across : bytes_eq p r ≡ false = subst (λ t. bytes_eq t r ≡ false) (sym same) f in
-                ap (λ l. common_parts l (r ∷ rs)) (common_parts-same p q ps qs e) ∙ common_parts-apart p r (common_parts ps qs) rs across
+                ap (λ l. common_parts l (r ∷ rs)) (common_parts-same p q ps qs e)
+                ∙ common_parts-apart p r (common_parts ps qs) rs across
                 ∙ sym (ap (common_parts (p ∷ ps)) (common_parts-apart q r qs rs f))
           ]
       | inr e ↦
           ap (λ l. common_parts l (r ∷ rs)) (common_parts-apart p q ps qs e) ∙
           sym (elim (cases_Bool (bytes_eq q r)) [
-            | inl f ↦ ap (common_parts (p ∷ ps)) (common_parts-same q r qs rs f) ∙ common_parts-apart p q ps (common_parts qs rs) e
+            | inl f ↦ ap (common_parts (p ∷ ps)) (common_parts-same q r qs rs f)
+                ∙ common_parts-apart p q ps (common_parts qs rs) e
             | inr f ↦ ap (common_parts (p ∷ ps)) (common_parts-apart q r qs rs f)
           ])
     ]
 
 -- if `last` is appended to one or more lists of parts, the new common first parts are `common_parts` of the old common
 -- first parts and `last`
-first_parts-append : (parts : List (List ℕ)) (lists : List (List (List ℕ))) (last : List (List ℕ)) → first_parts ((parts ∷ lists) ++ last ∷ []) ≡ common_parts (first_parts (parts ∷ lists)) last
+first_parts-append : (parts : List (List ℕ)) (lists : List (List (List ℕ))) (last : List (List ℕ))
+    → first_parts ((parts ∷ lists) ++ last ∷ []) ≡ common_parts (first_parts (parts ∷ lists)) last
 first_parts-append parts [] last = refl
 first_parts-append parts (next ∷ lists) last =
-    ap (common_parts parts) (first_parts-append next lists last) ∙ sym (common_parts-assoc parts (first_parts (next ∷ lists)) last)
+    ap (common_parts parts) (first_parts-append next lists last)
+    ∙ sym (common_parts-assoc parts (first_parts (next ∷ lists)) last)
 
 -- the common first parts of the lists, `None` for no list
 abbrev pub start_of : List (List (List ℕ)) → Option (List (List ℕ))
@@ -113,7 +132,8 @@ abbrev pub start_with : Option (List (List ℕ)) → List (List ℕ) → List (L
 start_with None parts = parts
 start_with (Some start) parts = common_parts start parts
 
-pub start_of-append : (lists : List (List (List ℕ))) (last : List (List ℕ)) → start_of (lists ++ last ∷ []) ≡ Some (start_with (start_of lists) last)
+pub start_of-append : (lists : List (List (List ℕ))) (last : List (List ℕ))
+    → start_of (lists ++ last ∷ []) ≡ Some (start_with (start_of lists) last)
 start_of-append [] last = refl
 start_of-append (parts ∷ lists) last = ap Some (first_parts-append parts lists last)
 
@@ -123,36 +143,47 @@ start_of-append (parts ∷ lists) last = ap Some (first_parts-append parts lists
 abbrev pub parts_among : List (Bor (List ℕ)) → List (List (List ℕ))
 parts_among texts = map path_parts (filter is_absolute (map (λ text. text.now) texts))
 
-pub parts_among-taken : (texts : List (Bor (List ℕ))) (text : Bor (List ℕ)) → is_absolute text.now ≡ true → parts_among (texts ++ text ∷ []) ≡ parts_among texts ++ path_parts text.now ∷ []
+pub parts_among-taken : (texts : List (Bor (List ℕ))) (text : Bor (List ℕ)) → is_absolute text.now ≡ true
+    → parts_among (texts ++ text ∷ []) ≡ parts_among texts ++ path_parts text.now ∷ []
 parts_among-taken [] text e = rw e refl
 parts_among-taken (first ∷ texts) text e =
-    let rest : parts_among (texts ++ text ∷ []) ≡ parts_among texts ++ path_parts text.now ∷ [] = parts_among-taken texts text e in
-    elim (is_absolute first.now) as (λ b. map path_parts (cond b (first.now ∷ filter is_absolute (map (λ t. t.now) (texts ++ text ∷ []))) (filter is_absolute (map (λ t. t.now) (texts ++ text ∷ []))))
-    ≡ map path_parts (cond b (first.now ∷ filter is_absolute (map (λ t. t.now) texts)) (filter is_absolute (map (λ t. t.now) texts))) ++ path_parts text.now ∷ [])
+    let rest : parts_among (texts ++ text ∷ []) ≡ parts_among texts ++ path_parts text.now ∷ [] =
+    parts_among-taken texts text e in
+    elim (is_absolute first.now) as (λ b. map path_parts (cond b (first.now ∷ filter is_absolute
+    (map (λ t. t.now) (texts ++ text ∷ []))) (filter is_absolute (map (λ t. t.now) (texts ++ text ∷ []))))
+    ≡ map path_parts (cond b (first.now ∷ filter is_absolute (map (λ t. t.now) texts))
+    (filter is_absolute (map (λ t. t.now) texts))) ++ path_parts text.now ∷ [])
     [ true ↦ ap (λ l. path_parts first.now ∷ l) rest | false ↦ rest ]
 
-pub parts_among-skipped : (texts : List (Bor (List ℕ))) (text : Bor (List ℕ)) → is_absolute text.now ≡ false → parts_among (texts ++ text ∷ []) ≡ parts_among texts
+pub parts_among-skipped : (texts : List (Bor (List ℕ))) (text : Bor (List ℕ)) → is_absolute text.now ≡ false
+    → parts_among (texts ++ text ∷ []) ≡ parts_among texts
 parts_among-skipped [] text e = rw e refl
 parts_among-skipped (first ∷ texts) text e =
     let rest : parts_among (texts ++ text ∷ []) ≡ parts_among texts = parts_among-skipped texts text e in
-    elim (is_absolute first.now) as (λ b. map path_parts (cond b (first.now ∷ filter is_absolute (map (λ t. t.now) (texts ++ text ∷ []))) (filter is_absolute (map (λ t. t.now) (texts ++ text ∷ []))))
-    ≡ map path_parts (cond b (first.now ∷ filter is_absolute (map (λ t. t.now) texts)) (filter is_absolute (map (λ t. t.now) texts))))
+    elim (is_absolute first.now) as (λ b. map path_parts (cond b (first.now ∷ filter is_absolute
+    (map (λ t. t.now) (texts ++ text ∷ []))) (filter is_absolute (map (λ t. t.now) (texts ++ text ∷ []))))
+    ≡ map path_parts
+    (cond b (first.now ∷ filter is_absolute (map (λ t. t.now) texts)) (filter is_absolute (map (λ t. t.now) texts))))
     [ true ↦ ap (λ l. path_parts first.now ∷ l) rest | false ↦ rest ]
 
 -- `start_with` gives the common first parts after one more absolute path `text`
-pub start_of-taken : (texts : List (Bor (List ℕ))) (text : Bor (List ℕ)) → is_absolute text.now ≡ true → start_of (parts_among (texts ++ text ∷ [])) ≡ Some (start_with (start_of (parts_among texts)) (path_parts text.now))
-start_of-taken texts text e = ap start_of (parts_among-taken texts text e) ∙ start_of-append (parts_among texts) (path_parts text.now)
+pub start_of-taken : (texts : List (Bor (List ℕ))) (text : Bor (List ℕ)) → is_absolute text.now ≡ true → start_of
+    (parts_among (texts ++ text ∷ [])) ≡ Some (start_with (start_of (parts_among texts)) (path_parts text.now))
+start_of-taken texts text e =
+    ap start_of (parts_among-taken texts text e) ∙ start_of-append (parts_among texts) (path_parts text.now)
 
 -- let `joined` be the text in `start`, or empty if `start` is `None`. If `lists` is not empty, let `start` hold a text
 -- that splits into the common first parts of `lists`. If `lists` is empty, let `start` be `None`. Then `joined` is the
 -- common first parts of `lists`, put together
-pub concat-first_parts : (lists : List (List (List ℕ))) (start : Option (Bor (List ℕ))) (none joined : Bor (List ℕ)) → none.now ≡ [] → joined ≡ unwrap_or start none
+pub concat-first_parts : (lists : List (List (List ℕ))) (start : Option (Bor (List ℕ))) (none joined : Bor (List ℕ))
+    → none.now ≡ [] → joined ≡ unwrap_or start none
     → option_map (λ s. path_parts s.now) start ≡ start_of lists → joined.now ≡ concat (first_parts lists)
 concat-first_parts [] None none joined empty is same = ap (λ t. t.now) is ∙ empty
 concat-first_parts [] (Some s) none joined empty is same = cc
 concat-first_parts (parts ∷ lists) None none joined empty is same = cc
 concat-first_parts (parts ∷ lists) (Some s) none joined empty is same =
-    let first : path_parts s.now ≡ first_parts (parts ∷ lists) = cc in ap (λ t. t.now) is ∙ sym (concat-path_parts s.now) ∙ ap concat first
+    let first : path_parts s.now ≡ first_parts (parts ∷ lists) = cc in
+    ap (λ t. t.now) is ∙ sym (concat-path_parts s.now) ∙ ap concat first
 
 -- ---- where two texts differ
 
@@ -212,39 +243,50 @@ take-empty zero x a e = refl
 take-empty (suc n) x a e = let h = starts x (take n a) in let clash : [] ≡ (x ∷ h.part) ∷ h.others = sym e ∙ h.is in cc
 
 -- a case of `parts-step`: both texts end a part after the first byte `x`
-parts-both_end : (x : ℕ) (a b : List ℕ) → ends_part a ≡ true → ends_part b ≡ true → path_parts (take (shared a b) a) ≡ common_parts (path_parts a) (path_parts b)
+parts-both_end : (x : ℕ) (a b : List ℕ) → ends_part a ≡ true → ends_part b ≡ true
+    → path_parts (take (shared a b) a) ≡ common_parts (path_parts a) (path_parts b)
     → path_parts (take (shared (x ∷ a) (x ∷ b)) (x ∷ a)) ≡ common_parts (path_parts (x ∷ a)) (path_parts (x ∷ b))
 parts-both_end x a b e f tails =
-    let count : shared (x ∷ a) (x ∷ b) ≡ suc (shared a b) = shared-same x a b ∙ ap (λ t. extended (shared a b) (t && ends_part b)) e ∙ ap (extended (shared a b)) f ∙ extended-true (shared a b) in
-    ap (λ n. path_parts (take n (x ∷ a))) count ∙ path_parts-cut x (take (shared a b) a) (ends_part-take (shared a b) a e) ∙ ap (λ l. (x ∷ []) ∷ l) tails
-    ∙ sym (ap (λ l. common_parts l (path_parts (x ∷ b))) (path_parts-cut x a e) ∙ ap (common_parts ((x ∷ []) ∷ path_parts a)) (path_parts-cut x b f)
+    let count : shared (x ∷ a) (x ∷ b) ≡ suc (shared a b) = shared-same x a b ∙ ap (λ t. extended (shared a b)
+    (t && ends_part b)) e ∙ ap (extended (shared a b)) f ∙ extended-true (shared a b) in
+    ap (λ n. path_parts (take n (x ∷ a))) count
+    ∙ path_parts-cut x (take (shared a b) a) (ends_part-take (shared a b) a e) ∙ ap (λ l. (x ∷ []) ∷ l) tails
+    ∙ sym (ap (λ l. common_parts l (path_parts (x ∷ b))) (path_parts-cut x a e)
+    ∙ ap (common_parts ((x ∷ []) ∷ path_parts a)) (path_parts-cut x b f)
     ∙ common_parts-same (x ∷ []) (x ∷ []) (path_parts a) (path_parts b) (bytes_eq-refl (x ∷ [])))
 
 -- neither text ends a part after x
 parts-neither_ends : (x c d : ℕ) (a b : List ℕ) → is_separator c ≡ false → is_separator d ≡ false
     → path_parts (take (shared (c ∷ a) (d ∷ b)) (c ∷ a)) ≡ common_parts (path_parts (c ∷ a)) (path_parts (d ∷ b))
-    → path_parts (take (shared (x ∷ c ∷ a) (x ∷ d ∷ b)) (x ∷ c ∷ a)) ≡ common_parts (path_parts (x ∷ c ∷ a)) (path_parts (x ∷ d ∷ b))
+    → path_parts (take (shared (x ∷ c ∷ a) (x ∷ d ∷ b)) (x ∷ c ∷ a))
+    ≡ common_parts (path_parts (x ∷ c ∷ a)) (path_parts (x ∷ d ∷ b))
 parts-neither_ends x c d a b e f tails =
     let left = starts c a in
     let right = starts d b in
     let p = c ∷ left.part in
     let q = d ∷ right.part in
-    let both : common_parts (path_parts (c ∷ a)) (path_parts (d ∷ b)) ≡ common_parts (p ∷ left.others) (q ∷ right.others) =
+    let both : common_parts (path_parts (c ∷ a)) (path_parts (d ∷ b))
+    ≡ common_parts (p ∷ left.others) (q ∷ right.others) =
     ap (λ l. common_parts l (path_parts (d ∷ b))) left.is ∙ ap (common_parts (p ∷ left.others)) right.is in
-    let longer : common_parts (path_parts (x ∷ c ∷ a)) (path_parts (x ∷ d ∷ b)) ≡ common_parts ((x ∷ p) ∷ left.others) ((x ∷ q) ∷ right.others) =
+    let longer : common_parts (path_parts (x ∷ c ∷ a)) (path_parts (x ∷ d ∷ b))
+    ≡ common_parts ((x ∷ p) ∷ left.others) ((x ∷ q) ∷ right.others) =
     ap (λ l. common_parts l (path_parts (x ∷ d ∷ b))) (path_parts-joined x (c ∷ a) e ∙ ap (with_first_byte x) left.is)
     ∙ ap (common_parts ((x ∷ p) ∷ left.others)) (path_parts-joined x (d ∷ b) f ∙ ap (with_first_byte x) right.is) in
     let count : shared (x ∷ c ∷ a) (x ∷ d ∷ b) ≡ extended (shared (c ∷ a) (d ∷ b)) false =
     shared-same x (c ∷ a) (d ∷ b) ∙ ap (λ t. extended (shared (c ∷ a) (d ∷ b)) (t && is_separator d)) e in
     elim (cases_Bool (bytes_eq p q)) [
       | inl s ↦
-          let same : bytes_eq (x ∷ p) (x ∷ q) ≡ true = (bytes_eq-Decides (x ∷ p) (x ∷ q)).1 (ap (λ t. x ∷ t) ((bytes_eq-Decides p q).0 s)) in
-          let kept : path_parts (take (shared (c ∷ a) (d ∷ b)) (c ∷ a)) ≡ p ∷ common_parts left.others right.others = tails ∙ both ∙ common_parts-same p q left.others right.others s in
-          ap (λ n. path_parts (take n (x ∷ c ∷ a))) count ∙ grown (shared (c ∷ a) (d ∷ b)) p (common_parts left.others right.others) kept
+          let same : bytes_eq (x ∷ p) (x ∷ q) ≡ true =
+          (bytes_eq-Decides (x ∷ p) (x ∷ q)).1 (ap (λ t. x ∷ t) ((bytes_eq-Decides p q).0 s)) in
+          let kept : path_parts (take (shared (c ∷ a) (d ∷ b)) (c ∷ a)) ≡ p ∷ common_parts left.others right.others =
+          tails ∙ both ∙ common_parts-same p q left.others right.others s in
+          ap (λ n. path_parts (take n (x ∷ c ∷ a))) count
+          ∙ grown (shared (c ∷ a) (d ∷ b)) p (common_parts left.others right.others) kept
           ∙ sym (longer ∙ common_parts-same (x ∷ p) (x ∷ q) left.others right.others same)
       | inr s ↦
           let differ : bytes_eq (x ∷ p) (x ∷ q) ≡ false = rw (eq-eqb x x refl) s in
-          let none : shared (c ∷ a) (d ∷ b) ≡ 0 = take-empty (shared (c ∷ a) (d ∷ b)) c a (tails ∙ both ∙ common_parts-apart p q left.others right.others s) in
+          let none : shared (c ∷ a) (d ∷ b) ≡ 0 =
+          take-empty (shared (c ∷ a) (d ∷ b)) c a (tails ∙ both ∙ common_parts-apart p q left.others right.others s) in
           ap (λ n. path_parts (take n (x ∷ c ∷ a))) (count ∙ ap (λ n. extended n false) none)
           ∙ sym (longer ∙ common_parts-apart (x ∷ p) (x ∷ q) left.others right.others differ)
     ]
@@ -256,10 +298,12 @@ parts-neither_ends x c d a b e f tails =
 
 -- only the first text ends a part after x
 parts-left_ends : (x d : ℕ) (a b : List ℕ) → ends_part a ≡ true → is_separator d ≡ false
-    → path_parts (take (shared (x ∷ a) (x ∷ d ∷ b)) (x ∷ a)) ≡ common_parts (path_parts (x ∷ a)) (path_parts (x ∷ d ∷ b))
+    → path_parts (take (shared (x ∷ a) (x ∷ d ∷ b)) (x ∷ a))
+    ≡ common_parts (path_parts (x ∷ a)) (path_parts (x ∷ d ∷ b))
 parts-left_ends x d a b e f =
     let right = starts d b in
-    let count : shared (x ∷ a) (x ∷ d ∷ b) ≡ 0 = shared-same x a (d ∷ b) ∙ ap (λ n. extended n (ends_part a && is_separator d)) (shared-ends_left a (d ∷ b) e f)
+    let count : shared (x ∷ a) (x ∷ d ∷ b) ≡ 0 =
+    shared-same x a (d ∷ b) ∙ ap (λ n. extended n (ends_part a && is_separator d)) (shared-ends_left a (d ∷ b) e f)
     ∙ ap (λ t. extended 0 (t && is_separator d)) e ∙ ap (λ t. extended 0 t) f in
     let differ : bytes_eq (x ∷ []) (x ∷ d ∷ right.part) ≡ false = rw (eq-eqb x x refl) refl in
     ap (λ n. path_parts (take n (x ∷ a))) count
@@ -269,14 +313,17 @@ parts-left_ends x d a b e f =
 
 -- only the second text ends a part after x
 parts-right_ends : (x c : ℕ) (a b : List ℕ) → is_separator c ≡ false → ends_part b ≡ true
-    → path_parts (take (shared (x ∷ c ∷ a) (x ∷ b)) (x ∷ c ∷ a)) ≡ common_parts (path_parts (x ∷ c ∷ a)) (path_parts (x ∷ b))
+    → path_parts (take (shared (x ∷ c ∷ a) (x ∷ b)) (x ∷ c ∷ a))
+    ≡ common_parts (path_parts (x ∷ c ∷ a)) (path_parts (x ∷ b))
 parts-right_ends x c a b e f =
     let left = starts c a in
-    let count : shared (x ∷ c ∷ a) (x ∷ b) ≡ 0 = shared-same x (c ∷ a) b ∙ ap (λ n. extended n (is_separator c && ends_part b)) (shared-ends_right (c ∷ a) b e f)
+    let count : shared (x ∷ c ∷ a) (x ∷ b) ≡ 0 =
+    shared-same x (c ∷ a) b ∙ ap (λ n. extended n (is_separator c && ends_part b)) (shared-ends_right (c ∷ a) b e f)
     ∙ ap (λ t. extended 0 (t && ends_part b)) e in
     let differ : bytes_eq (x ∷ c ∷ left.part) (x ∷ []) ≡ false = rw (eq-eqb x x refl) refl in
     ap (λ n. path_parts (take n (x ∷ c ∷ a))) count
-    ∙ sym (ap (λ l. common_parts l (path_parts (x ∷ b))) (path_parts-joined x (c ∷ a) e ∙ ap (with_first_byte x) left.is)
+    ∙ sym
+    (ap (λ l. common_parts l (path_parts (x ∷ b))) (path_parts-joined x (c ∷ a) e ∙ ap (with_first_byte x) left.is)
     ∙ ap (common_parts ((x ∷ c ∷ left.part) ∷ left.others)) (path_parts-cut x b f)
     ∙ common_parts-apart (x ∷ c ∷ left.part) (x ∷ []) left.others (path_parts b) differ)
 
@@ -315,13 +362,15 @@ path_parts-shared (x ∷ a) [] = sym (common_parts-nil (path_parts (x ∷ a)))
 path_parts-shared (x ∷ a) (y ∷ b) =
     let tails : path_parts (take (shared a b) a) ≡ common_parts (path_parts a) (path_parts b) = path_parts-shared a b in
     elim (cases_Bool (x == y)) [
-      | inl e ↦ subst (λ z. path_parts (take (shared (x ∷ a) (z ∷ b)) (x ∷ a)) ≡ common_parts (path_parts (x ∷ a)) (path_parts (z ∷ b))) (eqb-true x y e) (parts-step x a b tails)
+      | inl e ↦ subst (λ z. path_parts (take (shared (x ∷ a) (z ∷ b)) (x ∷ a))
+          ≡ common_parts (path_parts (x ∷ a)) (path_parts (z ∷ b))) (eqb-true x y e) (parts-step x a b tails)
       | inr e ↦
           let left = starts x a in
           let right = starts y b in
           let differ : bytes_eq (x ∷ left.part) (y ∷ right.part) ≡ false = rw e refl in
           ap (λ n. path_parts (take n (x ∷ a))) (shared-apart x y a b e)
-          ∙ sym (ap (λ l. common_parts l (path_parts (y ∷ b))) left.is ∙ ap (common_parts ((x ∷ left.part) ∷ left.others)) right.is
+          ∙ sym (ap (λ l. common_parts l (path_parts (y ∷ b))) left.is
+          ∙ ap (common_parts ((x ∷ left.part) ∷ left.others)) right.is
           ∙ common_parts-apart (x ∷ left.part) (y ∷ right.part) left.others right.others differ)
     ]
 
@@ -340,7 +389,8 @@ shared_at at (suc count) both_end kept = at + suc count
 pub record IsWalk (a b : List ℕ) (at kept : ℕ) : Type 0 where
   pub within_a : at ≤ length a
   pub within_b : at ≤ length b
-  pub value : shared a b ≡ shared_at at (shared (drop at a) (drop at b)) (ends_part (drop at a) && ends_part (drop at b)) kept
+  pub value : shared a b
+      ≡ shared_at at (shared (drop at a) (drop at b)) (ends_part (drop at a) && ends_part (drop at b)) kept
 
 shared_at-start : (count : ℕ) (both_end : Bool) → count ≡ shared_at 0 count both_end 0
 shared_at-start zero true = refl
@@ -348,9 +398,14 @@ shared_at-start zero false = refl
 shared_at-start (suc count) both_end = omega arith
 
 pub IsWalk-start : (a b : List ℕ) → IsWalk a b 0 0
-IsWalk-start a b = record { within_a = omega arith; within_b = omega arith; value = shared_at-start (shared a b) (ends_part a && ends_part b) }
+IsWalk-start a b = record {
+  within_a = omega arith;
+  within_b = omega arith;
+  value = shared_at-start (shared a b) (ends_part a && ends_part b);
+}
 
-shared_at-step : (at count kept : ℕ) (cut both_end : Bool) → shared_at at (extended count both_end) (cut && cut) kept ≡ shared_at (at + 1) count both_end (cond cut at kept)
+shared_at-step : (at count kept : ℕ) (cut both_end : Bool)
+    → shared_at at (extended count both_end) (cut && cut) kept ≡ shared_at (at + 1) count both_end (cond cut at kept)
 shared_at-step at zero kept cut true = refl
 shared_at-step at zero kept true false = refl
 shared_at-step at zero kept false false = refl
@@ -359,7 +414,8 @@ shared_at-step at (suc count) kept cut both_end = omega arith
 drop-within : (at : ℕ) (a : List ℕ) → at < length a → drop at a ≡ get_or a at 0 ∷ drop (at + 1) a
 drop-within at a l = rw (add-one, drop-cons a at 0) refl
 
-pub IsWalk-step : {a b : List ℕ} {at kept : ℕ} → IsWalk a b at kept → at < length a → at < length b → get_or a at 0 ≡ get_or b at 0
+pub IsWalk-step : {a b : List ℕ} {at kept : ℕ} → IsWalk a b at kept → at < length a → at < length b
+    → get_or a at 0 ≡ get_or b at 0
     → IsWalk a b (at + 1) (cond (is_separator (get_or a at 0)) at kept)
 IsWalk-step {a} {b} {at} {kept} walk la lb same =
     let x = get_or a at 0 in
@@ -369,7 +425,8 @@ IsWalk-step {a} {b} {at} {kept} walk la lb same =
     let right : drop at b ≡ x ∷ t = subst (λ y. drop at b ≡ y ∷ t) (sym same) (drop-within at b lb) in
     let here : shared a b ≡ shared_at at (shared (x ∷ s) (x ∷ t)) (is_separator x && is_separator x) kept =
     subst (λ m. shared a b ≡ shared_at at (shared (x ∷ s) m) (is_separator x && ends_part m) kept) right
-    (subst (λ m. shared a b ≡ shared_at at (shared m (drop at b)) (ends_part m && ends_part (drop at b)) kept) left walk.value) in
+    (subst (λ m. shared a b
+    ≡ shared_at at (shared m (drop at b)) (ends_part m && ends_part (drop at b)) kept) left walk.value) in
     record {
       within_a = omega arith;
       within_b = omega arith;
@@ -378,7 +435,8 @@ IsWalk-step {a} {b} {at} {kept} walk la lb same =
     }
 
 -- nothing more is shared if the next bytes differ, or a text ends
-shared-differs : (at : ℕ) (a b : List ℕ) → (at < length a → at < length b → get_or a at 0 ≢ get_or b at 0) → shared (drop at a) (drop at b) ≡ 0
+shared-differs : (at : ℕ) (a b : List ℕ) → (at < length a → at < length b → get_or a at 0 ≢ get_or b at 0)
+    → shared (drop at a) (drop at b) ≡ 0
 shared-differs zero [] b differ = refl
 shared-differs zero (x ∷ a) [] differ = refl
 shared-differs zero (x ∷ a) (y ∷ b) differ = shared-apart x y a b (ne_eqb x y (differ (omega arith) (omega arith)))
@@ -395,18 +453,23 @@ nat_le-suc m n =
 
 ends_part-drop : (at : ℕ) (a : List ℕ) → (nat_le (length a) at || is_separator (get_or a at 0)) ≡ ends_part (drop at a)
 ends_part-drop zero [] = refl
-ends_part-drop zero (x ∷ a) = let no : nat_le (suc (length a)) 0 ≡ false = lt-leb (suc (length a)) 0 (omega arith) in rw no refl
+ends_part-drop zero (x ∷ a) = let no : nat_le (suc (length a)) 0 ≡ false =
+    lt-leb (suc (length a)) 0 (omega arith) in rw no refl
 ends_part-drop (suc at) [] = let yes : nat_le 0 (suc at) ≡ true = le-leb 0 (suc at) (omega arith) in rw yes refl
 ends_part-drop (suc at) (x ∷ a) = rw (nat_le-suc (length a) at) (ends_part-drop at a)
 
 -- the walk ends where the bytes differ or a text ends. If both texts end a part there, `at` bytes are shared,
 -- otherwise `kept`
-module _ {a b : List ℕ} {at kept : ℕ} (walk : IsWalk a b at kept) (differ : at < length a → at < length b → get_or a at 0 ≢ get_or b at 0)
-    (x y : Bool) (left : x ≡ (nat_le (length a) at || is_separator (get_or a at 0))) (right : y ≡ (nat_le (length b) at || is_separator (get_or b at 0))) where
+module _ {a b : List ℕ} {at kept : ℕ} (walk : IsWalk a b at kept)
+    (differ : at < length a → at < length b → get_or a at 0 ≢ get_or b at 0)
+    (x y : Bool) (left : x ≡ (nat_le (length a) at || is_separator (get_or a at 0)))
+    (right : y ≡ (nat_le (length b) at || is_separator (get_or b at 0))) where
   IsWalk-end : shared a b ≡ cond (x && y) at kept
   IsWalk-end =
-      walk.value ∙ ap (λ n. shared_at at n (ends_part (drop at a) && ends_part (drop at b)) kept) (shared-differs at a b differ)
-      ∙ sym (ap (λ t. cond (t && y) at kept) (left ∙ ends_part-drop at a) ∙ ap (λ t. cond (ends_part (drop at a) && t) at kept) (right ∙ ends_part-drop at b))
+      walk.value
+      ∙ ap (λ n. shared_at at n (ends_part (drop at a) && ends_part (drop at b)) kept) (shared-differs at a b differ)
+      ∙ sym (ap (λ t. cond (t && y) at kept) (left ∙ ends_part-drop at a)
+      ∙ ap (λ t. cond (ends_part (drop at a) && t) at kept) (right ∙ ends_part-drop at b))
 
   pub IsWalk-cut : (x && y) ≡ true → shared a b ≡ at
   IsWalk-cut e = IsWalk-end ∙ ap (λ t. cond t at kept) e
@@ -425,12 +488,19 @@ IsCut-zero : (a : List ℕ) → IsCut a 0
 IsCut-zero a = record { within = omega arith; before = λ l. absurd (omega arith) }
 
 IsCut-extended : (x : ℕ) (a b : List ℕ) (n : ℕ) → IsCut a n → IsCut (x ∷ a) (extended n (ends_part a && ends_part b))
-IsCut-extended x a b (suc n) cut = record { within = omega (arith, cut.within); before = λ l m. cut.before (omega arith) (omega arith) }
+IsCut-extended x a b (suc n) cut =
+    record { within = omega (arith, cut.within); before = λ l m. cut.before (omega arith) (omega arith) }
 IsCut-extended x [] b zero cut =
-    elim (ends_part b) as (λ t. IsCut (x ∷ []) (cond t 1 0)) [ true ↦ record { within = omega arith; before = λ l m. absurd (omega arith) } | false ↦ IsCut-zero (x ∷ []) ]
+    elim (ends_part b) as (λ t. IsCut (x ∷ []) (cond t 1 0)) [
+      | true ↦ record { within = omega arith; before = λ l m. absurd (omega arith) }
+      | false ↦ IsCut-zero (x ∷ [])
+    ]
 IsCut-extended x (c ∷ a) b zero cut =
     elim (cases_Bool (is_separator c)) [
-      | inl e ↦ elim (is_separator c && ends_part b) as (λ t. IsCut (x ∷ c ∷ a) (cond t 1 0)) [ true ↦ record { within = omega arith; before = λ l m. e } | false ↦ IsCut-zero (x ∷ c ∷ a) ]
+      | inl e ↦ elim (is_separator c && ends_part b) as (λ t. IsCut (x ∷ c ∷ a) (cond t 1 0)) [
+        | true ↦ record { within = omega arith; before = λ l m. e }
+        | false ↦ IsCut-zero (x ∷ c ∷ a)
+      ]
       | inr e ↦ rw e (IsCut-zero (x ∷ c ∷ a))
     ]
 
@@ -439,14 +509,21 @@ IsCut-shared [] b = IsCut-zero []
 IsCut-shared (x ∷ a) [] = IsCut-zero (x ∷ a)
 IsCut-shared (x ∷ a) (y ∷ b) =
     let later : IsCut a (shared a b) = IsCut-shared a b in
-    elim (x == y) as (λ t. IsCut (x ∷ a) (cond t (extended (shared a b) (ends_part a && ends_part b)) 0)) [ true ↦ IsCut-extended x a b (shared a b) later | false ↦ IsCut-zero (x ∷ a) ]
+    elim (x == y) as (λ t. IsCut (x ∷ a) (cond t (extended (shared a b) (ends_part a && ends_part b)) 0)) [
+      | true ↦ IsCut-extended x a b (shared a b) later
+      | false ↦ IsCut-zero (x ∷ a)
+    ]
 
 separator-ascii : (c : ℕ) → is_separator c ≡ true → c < 128
 separator-ascii c e =
-    elim (or_cases (c == 47) (c == 92) e) [ inl h ↦ (let is : c ≡ 47 = eqb-true c 47 h in omega arith) | inr h ↦ (let is : c ≡ 92 = eqb-true c 92 h in omega arith) ]
+    elim (or_cases (c == 47) (c == 92) e) [
+      | inl h ↦ (let is : c ≡ 47 = eqb-true c 47 h in omega arith)
+      | inr h ↦ (let is : c ≡ 92 = eqb-true c 92 h in omega arith)
+    ]
 
 -- a UTF-8 text may be split at its start, at its end and before a separator
-pub IsCharBoundary-cut : (a : List ℕ) (n : ℕ) → IsUtf8 a → n ≤ length a → (0 < n → n < length a → is_separator (get_or a n 0) ≡ true) → IsCharBoundary a n
+pub IsCharBoundary-cut : (a : List ℕ) (n : ℕ) → IsUtf8 a → n ≤ length a
+    → (0 < n → n < length a → is_separator (get_or a n 0) ≡ true) → IsCharBoundary a n
 IsCharBoundary-cut a zero utf8 within before = IsCharBoundary-start a utf8
 IsCharBoundary-cut a (suc n) utf8 within before =
     elim (cases_lt (suc n) (length a)) [

@@ -1,5 +1,6 @@
 -- Prefixes that are stripped.
-use Rattle.std.proofs.Common.{◌≡◌, ℕ, List, [], ◌∷◌, ◌++◌, length, drop, codes, nat_eq, true, false, ◌&&◌, if◌then◌else◌, Option, Some, None, option_and_then, refl, sym, ap, ◌∙◌, Bor, MatchOption}
+use Rattle.std.proofs.Common.{◌≡◌, ℕ, List, [], ◌∷◌, ◌++◌, length, drop, codes, nat_eq, true, false, ◌&&◌}
+use Rattle.std.proofs.Common.{if◌then◌else◌, Option, Some, None, option_and_then, refl, sym, ap, ◌∙◌, Bor, MatchOption}
 use Rattle.std.specs.List.{starts_with, ends_with}
 use Rattle.std.specs.Option.{option_copied}
 use Rattle.std.specs.Str.Pattern.{FindsTextPrefix, StripsPrefix}
@@ -19,7 +20,8 @@ stripped-append (x ∷ p) q (y ∷ t) =
     ≡ option_and_then (stripped q) (if b && starts_with nat_eq t p then Some (drop (length p) t) else None))
     [ true ↦ stripped-append p q t | false ↦ refl ]
 
-pub strips : (p t : List ℕ) (r : Option (Bor (List ℕ))) → MatchOption r (FindsTextPrefix p t None) (λ x. StripsPrefix (FindsTextPrefix p) t x.now)
+pub strips : (p t : List ℕ) (r : Option (Bor (List ℕ)))
+    → MatchOption r (FindsTextPrefix p t None) (λ x. StripsPrefix (FindsTextPrefix p) t x.now)
     → option_copied r ≡ stripped p t
 strips p t None h = let no : false ≡ starts_with nat_eq t p = starts_text false p t h in rw (← no) refl
 strips p t (Some x) (n, (is, split, bound), rest, many) =
@@ -28,7 +30,8 @@ strips p t (Some x) (n, (is, split, bound), rest, many) =
 
 -- to strip `with_slash p`, strip `p` first. Then, if `p` does not end with a slash, strip a slash from the rest
 pub stripped-with_slash : (p t : List ℕ) → stripped (with_slash p) t
-    ≡ option_and_then (λ rest. if ends_with nat_eq p (codes "/") then Some rest else stripped (codes "/") rest) (stripped p t)
+    ≡ option_and_then (λ rest. if ends_with nat_eq p (codes "/") then Some rest else stripped (codes "/") rest)
+    (stripped p t)
 stripped-with_slash p t =
     elim (ends_with nat_eq p (codes "/")) as (λ b. stripped (if b then p else p ++ codes "/") t
     ≡ option_and_then (λ rest. if b then Some rest else stripped (codes "/") rest) (stripped p t))

@@ -1,5 +1,6 @@
 -- The common prefix of absolute paths, by parts.
-use Rattle.std.specs.Prelude.{ℕ, ◌==◌, nat_lt, Bool, false, ◌&&◌, ◌||◌, cond, List, [], ◌∷◌, length, Option, Some, None, slice_index, filter, map, codes}
+use Rattle.std.specs.Prelude.{ℕ, ◌==◌, nat_lt, Bool, false, ◌&&◌, ◌||◌, cond, List, [], ◌∷◌, length, Option, Some, None}
+use Rattle.std.specs.Prelude.{slice_index, filter, map, codes}
 use Rattle.std.specs.List.{concat}
 use Rattle.std.specs.Char.{is_ascii_alphabetic}
 use Rattle.std.specs.Str.{bytes_eq}
@@ -28,7 +29,8 @@ with_first_byte byte (part ∷ parts) = (byte ∷ part) ∷ parts
 -- a text, split before every separator
 abbrev pub path_parts : List ℕ → List (List ℕ)
 path_parts [] = []
-path_parts (byte ∷ text) = cond (is_separated text) ((byte ∷ []) ∷ path_parts text) (with_first_byte byte (path_parts text))
+path_parts (byte ∷ text) =
+    cond (is_separated text) ((byte ∷ []) ∷ path_parts text) (with_first_byte byte (path_parts text))
 
 -- the longest common prefix of two lists of parts
 abbrev pub common_parts : List (List ℕ) → List (List ℕ) → List (List ℕ)

@@ -12,4 +12,5 @@ with_slash prefix = if ends_with nat_eq prefix (codes "/") then prefix else pref
 abbrev pub without_prefix : List (List ℕ) → List ℕ → List ℕ
 without_prefix [] text = text
 without_prefix (prefix ∷ prefixes) text =
-    if starts_with nat_eq text (with_slash prefix) then drop (length (with_slash prefix)) text else without_prefix prefixes text
+    if starts_with nat_eq text (with_slash prefix) then drop (length (with_slash prefix)) text
+    else without_prefix prefixes text

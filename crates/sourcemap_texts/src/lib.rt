@@ -1,4 +1,4 @@
-//! Strings: copies, the common prefix of paths, and stripped prefixes.
+//! Copies of strings, the common prefix of paths, and stripped prefixes; knows nothing of maps.
 #![tactic(auto)]
 
 pub mod copies;

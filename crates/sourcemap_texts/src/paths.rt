@@ -1,10 +1,12 @@
 //! The common prefix of absolute paths.
-ghost use Rattle.std.specs.Prelude.{◌≡◌, ◌≢◌, ◌<◌, ◌≤◌, Ok, map, option_map, string_bytes, slice_index, length, take, nat_le, ◌||◌, true};
+ghost use Rattle.std.specs.Prelude.{◌≡◌, ◌≢◌, ◌<◌, ◌≤◌, Ok, map, option_map, string_bytes, slice_index, length, take};
+ghost use Rattle.std.specs.Prelude.{nat_le, ◌||◌, true};
 ghost use Rattle.std.specs.Bool.{OnTrue, OnFalse};
 ghost use Rattle.std.specs.Iterator.{IsFinite};
 ghost use Rattle.std.specs.Iterator.Runs.{WholeRun};
 ghost use Rattle.sourcemap_errors.specs.Answer.{Gives};
-ghost use Rattle.sourcemap_texts.specs.Paths.{is_absolute as starts_at_root, is_separator as separates, common_prefix, unless_root, path_parts, common_parts};
+ghost use Rattle.sourcemap_texts.specs.Paths.{is_absolute as starts_at_root, is_separator as separates, common_prefix};
+ghost use Rattle.sourcemap_texts.specs.Paths.{unless_root, path_parts, common_parts};
 
 use sourcemap_errors::errors::Result;
 use std::alloc::Global;

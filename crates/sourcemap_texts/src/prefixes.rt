@@ -1,5 +1,6 @@
 //! Prefixes that are stripped from strings.
-ghost use Rattle.std.specs.Prelude.{◌≡◌, Some, None, Ok, if◌then◌else◌, length, drop, map, nat_eq, option_map, unwrap_or, string_bytes};
+ghost use Rattle.std.specs.Prelude.{◌≡◌, Some, None, Ok, if◌then◌else◌, length, drop, map, nat_eq, option_map};
+ghost use Rattle.std.specs.Prelude.{unwrap_or, string_bytes};
 ghost use Rattle.std.specs.List.{starts_with};
 ghost use Rattle.std.specs.Option.{option_copied};
 ghost use Rattle.sourcemap_errors.specs.Answer.{Gives};

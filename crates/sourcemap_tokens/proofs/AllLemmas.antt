@@ -43,7 +43,8 @@ module _ {X Y : Type 0} (P : Y → Type 0) (f : X → List Y) where
   All-flat_map [] all = tt
   All-flat_map (x ∷ xs) all = All-append P (f x) (flat_map f xs) all.0 (All-flat_map xs all.1)
 
-  pub All-from_flat_map : (xs : List X) → AllByRecursion P (flat_map f xs) → AllByRecursion (λ x. AllByRecursion P (f x)) xs
+  pub All-from_flat_map : (xs : List X) → AllByRecursion P (flat_map f xs)
+      → AllByRecursion (λ x. AllByRecursion P (f x)) xs
   All-from_flat_map [] all = tt
   All-from_flat_map (x ∷ xs) all =
       let parts = All-parts P (f x) (flat_map f xs) all in

@@ -1,6 +1,7 @@
 -- Lists of tokens: sorting and search by generated position, limits on ids, and the list to which encoded tokens
 -- decode (`reduced`).
-use Rattle.std.specs.Prelude.{◌≡◌, ℕ, ◌≤◌, Bool, ◌&&◌, cond, List, [], ◌∷◌, map, Option, ◌==◌, nat_lt, if◌then◌else◌, IsSortedByKey}
+use Rattle.std.specs.Prelude.{◌≡◌, ℕ, ◌≤◌, Bool, ◌&&◌, cond, List, [], ◌∷◌, map, Option, ◌==◌, nat_lt, if◌then◌else◌}
+use Rattle.std.specs.Prelude.{IsSortedByKey}
 use Rattle.std.specs.List.{AllByRecursion}
 use Rattle.std.specs.Ordering.{nat_cmp, ordering_then, is_lt}
 use Rattle.std.specs.declared.cmp.Ordering.{Ordering}
@@ -69,7 +70,8 @@ are_same s t =
 -- removes each token that is equal to the token before it; the token before the first one is `previous`
 abbrev pub changes_after : RawToken → List RawToken → List RawToken
 changes_after previous [] = []
-changes_after previous (token ∷ rest) = cond (are_same token previous) (changes_after token rest) (token ∷ changes_after token rest)
+changes_after previous (token ∷ rest) =
+    cond (are_same token previous) (changes_after token rest) (token ∷ changes_after token rest)
 
 -- removes each token that is equal to the token before it
 abbrev pub without_repeats : List RawToken → List RawToken

@@ -1,4 +1,5 @@
-//! Tokens and their order, the item closest to a key, and items by id.
+//! Tokens and their order, the item closest to a key, and items by id; knows nothing of the texts
+//! behind the ids.
 #![tactic(auto)]
 
 pub mod items;

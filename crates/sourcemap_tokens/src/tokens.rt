@@ -1,8 +1,10 @@
 //! Raw tokens, their order, and the token closest to a generated position.
-ghost use Rattle.std.specs.Prelude.{◌≡◌, ℕ, ◌+◌, List, IsOk, IsTrue, ◌↔◌, OnOk, OnErr, IfErr, IfSome, Some, false, option_map, slice_get, true};
+ghost use Rattle.std.specs.Prelude.{◌≡◌, ℕ, ◌+◌, List, IsOk, IsTrue, ◌↔◌, OnOk, OnErr, IfErr, IfSome, Some, false};
+ghost use Rattle.std.specs.Prelude.{option_map, slice_get, true};
 ghost use Rattle.std.specs.Ordering.{is_eq, is_lt};
 ghost use Rattle.std.specs.List.Sorted.{IsStableByKey};
-ghost use Rattle.sourcemap_tokens.specs.Tokens.{AreInOrder, closest_token, destination, in_order, position_cmp, reduced, with_valid_name};
+ghost use Rattle.sourcemap_tokens.specs.Tokens.{AreInOrder, closest_token, destination, in_order, position_cmp};
+ghost use Rattle.sourcemap_tokens.specs.Tokens.{reduced, with_valid_name};
 ghost use Rattle.sourcemap_tokens.specs.Search.{closest_item};
 ghost use Rattle.sourcemap_tokens.specs.declared.tokens.RawToken.{RawToken};
 ghost use Rattle.sourcemap_errors.specs.declared.errors.Error.TheVariants.{OutOfMemory};

@@ -30,7 +30,8 @@ made m tokens names sources source gave no_names one_source =
 -- `text`. If decoding `text` as a regular map restores `m`, decoding `text` as a map of any kind restores `due`
 pub reads_back : (m due : MapValue) (text : List ℕ) → m ≡ due
     → ((back : MapValue) → BytesHaveResult RegularDecodes text (Ok back) ↔ BytesDecode text (Ok (leaf (regular back))))
-    → ReadsBack (BytesHaveResult RegularDecodes text) (RestoresRegular m) → ReadsBack (BytesDecode text) (Restores (leaf (regular due)))
+    → ReadsBack (BytesHaveResult RegularDecodes text) (RestoresRegular m)
+    → ReadsBack (BytesDecode text) (Restores (leaf (regular due)))
 reads_back m due text is any (back, decodes, restored) =
     let whole : Restores (leaf (regular m)) (leaf (regular back)) = (restored.0, restored) in (
       leaf (regular back),

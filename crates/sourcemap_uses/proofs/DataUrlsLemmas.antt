@@ -21,6 +21,7 @@ unfolding error_or
 held url e differs (inl is) = is
 held url e differs (inr is) = absurd (differs (ap (error_or e) is.0))
 
-pub held_unless_memory : (url : List ℕ) (e : Error) → e ≢ InvalidDataUrl → UnlessMemory e (UrlDecodes url (Err e)) → UnlessMemory e (PayloadError url e)
+pub held_unless_memory : (url : List ℕ) (e : Error) → e ≢ InvalidDataUrl → UnlessMemory e (UrlDecodes url (Err e))
+    → UnlessMemory e (PayloadError url e)
 held_unless_memory url OutOfMemory differs h = tt
 held_unless_memory url e differs h = held url e differs h

@@ -13,7 +13,8 @@ use Rattle.sourcemap_uses.proofs.RefusalLemmas.{unless_memory}
 
 -- the map of a URL that does not start with `data:` is in the file that the URL resolves to, or nowhere
 pub no_map_held : (url path : List ℕ) → EmbeddedAnswer url (Ok None)
-    → (r : Result FoundMap Error) → IsAnswer found_value (FileOfUrl url path) r → IsAnswer found_value (MapOfUrl url path) r
+    → (r : Result FoundMap Error) → IsAnswer found_value (FileOfUrl url path) r
+    → IsAnswer found_value (MapOfUrl url path) r
 no_map_held url path none (Ok found) file = inl (None, none, file)
 no_map_held url path none (Err e) file =
     unless_memory e (FileOfUrl url path (Err e)) (MapOfUrl url path (Err e)) (λ due. inl (None, none, due)) file

@@ -1,5 +1,6 @@
 -- An index map with one section replaced.
-use Rattle.std.proofs.Common.{◌≡◌, ◌≢◌, ◌∙◌, refl, sym, ap, subst, ℕ, zero, suc, List, [], ◌∷◌, slice_get, slice_set, Option, Some, None, option_map, Result, Ok, Err}
+use Rattle.std.proofs.Common.{◌≡◌, ◌≢◌, ◌∙◌, refl, sym, ap, subst, ℕ, zero, suc, List, [], ◌∷◌, slice_get, slice_set}
+use Rattle.std.proofs.Common.{Option, Some, None, option_map, Result, Ok, Err}
 use Rattle.std.specs.Prelude.{IfNone, unwrap_or}
 use Rattle.sourcemap.specs.Answer.{Changes}
 use Rattle.sourcemap.specs.Index.{with_section}
@@ -8,7 +9,8 @@ use Rattle.sourcemap.specs.Trees.{IndexValue, MapSection}
 use Rattle.sourcemap.specs.declared.errors.Error.{Error}
 use Rattle.sourcemap_uses.specs.Linking.{linked}
 
-pub get_other : {X : Type 0} (xs : List X) (id other : ℕ) (x : X) → other ≢ id → slice_get (slice_set xs id x) other ≡ slice_get xs other
+pub get_other : {X : Type 0} (xs : List X) (id other : ℕ) (x : X) → other ≢ id
+    → slice_get (slice_set xs id x) other ≡ slice_get xs other
 get_other [] id other x differs = refl
 get_other (y ∷ ys) zero zero x differs = absurd (differs refl)
 get_other (y ∷ ys) zero (suc other) x differs = refl
@@ -25,8 +27,10 @@ pub linked_none : (i : IndexValue) (id : ℕ) (url : List ℕ) → None ≡ slic
 linked_none i id url none = ap (λ o. unwrap_or (option_map (λ s. with_section i id (with_url s (Some url))) o) i) none
 
 -- setting the URL of a section changes the index accordingly; after an error the index is unchanged
-pub linked_as : {T : Type 0} (r : Result T Error) (before after : IndexValue) (id : ℕ) (old new : MapSection) (url : List ℕ)
-    → Some old ≡ slice_get before.sections id → after ≡ with_section before id new → Changes r old new (with_url old (Some url))
+pub linked_as : {T : Type 0} (r : Result T Error) (before after : IndexValue) (id : ℕ) (old new : MapSection)
+    (url : List ℕ)
+    → Some old ≡ slice_get before.sections id → after ≡ with_section before id new
+    → Changes r old new (with_url old (Some url))
     → Changes r before after (linked before id url)
 linked_as (Ok t) before after id old new url there is changed =
     is ∙ ap (λ s. with_section before id s) changed

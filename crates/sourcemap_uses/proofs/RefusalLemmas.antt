@@ -17,7 +17,8 @@ never_due due e Q wrong = absurd (cc)
 pub due_refused : {Y : Type 0} (due : Y) (e : Error) (Q : Type 0) → UnlessMemory e (Ok due ≡ Err e) → UnlessMemory e Q
 due_refused due e Q h = unless_memory e (Ok due ≡ Err e) Q (never_due due e Q) h
 
-pub never_refused : {X Y : Type 0} (view : X → Y) (due : Y) (r : Result X Error) (Q : Error → Type 0) → Gives view r (Ok due) → IfErr r (λ e. UnlessMemory e (Q e))
+pub never_refused : {X Y : Type 0} (view : X → Y) (due : Y) (r : Result X Error) (Q : Error → Type 0)
+    → Gives view r (Ok due) → IfErr r (λ e. UnlessMemory e (Q e))
 never_refused view due (Ok x) Q gave = tt
 never_refused view due (Err e) Q gave = due_refused due e (Q e) gave
 
@@ -31,5 +32,6 @@ memory_alone OutOfMemory h = refl
 memory_alone _ h = absurd h
 
 -- if the only error of a call is out of memory, any claim about its other errors holds
-pub memory_refused : {X : Type 0} (Q : Error → Type 0) (r : Result X Error) → IsOkUnless r OutOfMemory → IfErr r (λ e. UnlessMemory e (Q e))
+pub memory_refused : {X : Type 0} (Q : Error → Type 0) (r : Result X Error) → IsOkUnless r OutOfMemory
+    → IfErr r (λ e. UnlessMemory e (Q e))
 memory_refused Q r h = IfErr-weaker r (λ e. e ≡ OutOfMemory) (λ e. UnlessMemory e (Q e)) (λ e is. rw is tt) h

@@ -1,17 +1,24 @@
 -- Rewriting that removes names and contents, and rewriting with default options.
-use Rattle.std.proofs.Common.{◌≡◌, ◌∙◌, refl, sym, ap, subst, ℕ, ◌<◌, List, [], ◌∷◌, map, length, false, Option, Some, None, option_map, Result, Ok, Err, IfOk, IsOkUnless}
+use Rattle.std.proofs.Common.{◌≡◌, ◌∙◌, refl, sym, ap, subst, ℕ, ◌<◌, List, [], ◌∷◌, map, length, false, Option, Some}
+use Rattle.std.proofs.Common.{None, option_map, Result, Ok, Err, IfOk, IsOkUnless}
 use Rattle.sourcemap.specs.Answer.{Gives, IsAnswer, UnlessMemory}
 use Rattle.sourcemap.specs.Due.{Gives-given}
 use Rattle.sourcemap.specs.Encoder.{ReadsBack, Restores}
 use Rattle.sourcemap.specs.Prefixes.{without_prefix}
 use Rattle.sourcemap.specs.Reading.{BytesHaveResult, RegularDecodes}
-use Rattle.sourcemap.specs.Rewrite.{IsDefault, LacksFolder, MeansLess, no_removal, removal_of, rewritten, without_removed, used_sources, Gives-rewritten, Rewrites, lacks_none, without_loading}
+use Rattle.sourcemap.specs.Rewrite.{IsDefault, LacksFolder, MeansLess, no_removal, removal_of, rewritten, Removal}
+use Rattle.sourcemap.specs.Rewrite.{without_removed, used_sources, Gives-rewritten, Rewrites, lacks_none}
+use Rattle.sourcemap.specs.Rewrite.{without_loading}
 use Rattle.sourcemap.specs.Types.{MapValue, Meaning, contents_of, meaning}
 use Rattle.sourcemap.specs.declared.errors.Error.{Error}
 use Rattle.sourcemap.specs.declared.errors.Error.TheVariants.{OutOfMemory}
 use Rattle.sourcemap.specs.declared.types.RewriteOptions.{RewriteOptions}
 use Rattle.sourcemap_uses.proofs.RefusalLemmas.{memory_alone, unless_memory}
-use Rattle.sourcemap_uses.specs.Publishing.{Publishes, without_name, no_details}
+use Rattle.sourcemap_uses.specs.Publishing.{Publishes, without_name}
+
+-- removes names and source contents; the sources keep their prefixes
+abbrev no_details : Removal
+no_details = record { with_names = false; with_contents = false; prefixes = [] }
 
 whole : (source : Option (List ℕ)) → option_map (without_prefix []) source ≡ source
 whole None = refl
@@ -37,13 +44,16 @@ details options names contents prefixes = λ i. record {
   prefixes = map (λ prefix. prefix.now) (prefixes i);
 }
 
-pub bare_due : (options : RewriteOptions) (m bare : MapValue) → options.with_names ≡ false → options.with_source_contents ≡ false
+pub bare_due : (options : RewriteOptions) (m bare : MapValue) → options.with_names ≡ false
+    → options.with_source_contents ≡ false
     → options.load_local_source_contents ≡ false → options.strip_prefixes.now ≡ []
     → Rewrites options m (Ok bare) → bare ≡ rewritten no_details m
 bare_due options m bare names contents no_files prefixes is =
-    without_loading options m bare no_files is ∙ ap (λ removal. rewritten removal m) (details options names contents prefixes)
+    without_loading options m bare no_files is
+    ∙ ap (λ removal. rewritten removal m) (details options names contents prefixes)
 
-pub but_details : (options : RewriteOptions) (m bare : MapValue) → options.with_names ≡ false → options.with_source_contents ≡ false
+pub but_details : (options : RewriteOptions) (m bare : MapValue) → options.with_names ≡ false
+    → options.with_source_contents ≡ false
     → options.strip_prefixes.now ≡ [] → MeansLess (removal_of options) m bare → MeansLess no_details m bare
 but_details options m bare names contents prefixes =
     subst (λ removal. MeansLess removal m bare) (details options names contents prefixes)
@@ -67,7 +77,8 @@ published_as m bare bytes text decodes is less (back, reads, restored) = (
 -- if the options load no contents, the only error of `rewrite` is out of memory
 pub bare_refused : (options : RewriteOptions) (e : Error) (P : Type 0) → options.load_local_source_contents ≡ false
     → UnlessMemory e (LacksFolder options e) → UnlessMemory e P
-bare_refused options e P no_files = unless_memory e (LacksFolder options e) P (λ lacks. absurd (lacks_none options e no_files lacks))
+bare_refused options e P no_files =
+    unless_memory e (LacksFolder options e) P (λ lacks. absurd (lacks_none options e no_files lacks))
 
 -- Default options.
 
@@ -78,18 +89,22 @@ default_removal options defaults = λ i. record {
   prefixes = map (λ prefix. prefix.now) (defaults.no_prefixes i);
 }
 
-pub default_whole : (options : RewriteOptions) (m : MapValue) (r : Result MapValue Error) → IsDefault options → removal_of options ≡ no_removal
+pub default_whole : (options : RewriteOptions) (m : MapValue) (r : Result MapValue Error) → IsDefault options
+    → removal_of options ≡ no_removal
     → IsAnswer (λ m. m) (Rewrites options m) r → IfOk r (λ small. small ≡ rewritten no_removal m)
 default_whole options m r defaults removal answered =
     Gives-given (λ m. m) (rewritten no_removal m) r
-    (subst (λ removal. Gives (λ m. m) r (Ok (rewritten removal m))) removal (Gives-rewritten (λ m. m) options m r defaults.no_files answered))
+    (subst (λ removal. Gives (λ m. m) r (Ok (rewritten removal m))) removal
+    (Gives-rewritten (λ m. m) options m r defaults.no_files answered))
 
 pub default_memory : (options : RewriteOptions) (m : MapValue) (r : Result MapValue Error) → IsDefault options
     → IsAnswer (λ m. m) (Rewrites options m) r → IsOkUnless r OutOfMemory
 default_memory options m (Ok small) defaults answered = tt
-default_memory options m (Err e) defaults answered = memory_alone e (bare_refused options e ⊥ defaults.no_files answered)
+default_memory options m (Err e) defaults answered =
+    memory_alone e (bare_refused options e ⊥ defaults.no_files answered)
 
-pub whole_so : (P : MapValue → Type 0) (r : Result MapValue Error) (due : MapValue) → IfOk r (λ small. small ≡ due) → P due → IfOk r P
+pub whole_so : (P : MapValue → Type 0) (r : Result MapValue Error) (due : MapValue) → IfOk r (λ small. small ≡ due)
+    → P due → IfOk r P
 whole_so P (Ok small) due is holds = subst P (sym is) holds
 whole_so P (Err e) due is holds = tt
 

@@ -1,10 +1,16 @@
 -- Advice on each error, and an exit status for each kind.
 use Rattle.std.specs.Prelude.{ℕ}
 use Rattle.sourcemap.specs.declared.errors.Error.{Error}
-use Rattle.sourcemap.specs.declared.errors.Error.TheVariants.{Io, Utf8, Scroll, BadJson, VlqLeftover, VlqNoValues, VlqOverflow, BadSegmentSize, BadSourceReference, BadNameReference, InvalidBase64, InvalidRangeMappingIndex, IncompatibleSourceMap, InvalidDataUrl, CannotFlatten, InvalidRamBundleMagic, InvalidRamBundleIndex, InvalidRamBundleEntry, NotARamBundle, OutOfMemory}
+use Rattle.sourcemap.specs.declared.errors.Error.TheVariants.{Io, Utf8, Scroll, BadJson, VlqLeftover, VlqNoValues}
+use Rattle.sourcemap.specs.declared.errors.Error.TheVariants.{VlqOverflow, BadSegmentSize, BadSourceReference}
+use Rattle.sourcemap.specs.declared.errors.Error.TheVariants.{BadNameReference, InvalidBase64, InvalidRangeMappingIndex}
+use Rattle.sourcemap.specs.declared.errors.Error.TheVariants.{IncompatibleSourceMap, InvalidDataUrl, CannotFlatten}
+use Rattle.sourcemap.specs.declared.errors.Error.TheVariants.{InvalidRamBundleMagic, InvalidRamBundleIndex}
+use Rattle.sourcemap.specs.declared.errors.Error.TheVariants.{InvalidRamBundleEntry, NotARamBundle, OutOfMemory}
 use Rattle.sourcemap.specs.declared.errors.JsonFault.TheVariants.{Parse, Shape}
 use Rattle.sourcemap_uses.specs.declared.error_advice.Advice.{Advice}
-use Rattle.sourcemap_uses.specs.declared.error_advice.Advice.TheVariants.{ReadAgain, LookAtInput, MendWriter, UseOtherCall, LookAtBundle, FreeMemory}
+use Rattle.sourcemap_uses.specs.declared.error_advice.Advice.TheVariants.{ReadAgain, LookAtInput, MendWriter}
+use Rattle.sourcemap_uses.specs.declared.error_advice.Advice.TheVariants.{UseOtherCall, LookAtBundle, FreeMemory}
 
 abbrev pub advice_on : Error → Advice
 advice_on (Io _) = ReadAgain

@@ -32,7 +32,8 @@ file_at None = nowhere
 -- `url` and the parsed `file` URL together have 2^28 bytes or more (`IsLongJoin`). The only error is `OutOfMemory`
 abbrev pub FileOfUrl : List ℕ → List ℕ → Result FoundValue Error → Type 0
 FileOfUrl url path answer =
-    Then (UnlessLong (resolved_path path url) (IsLongJoin (url_text path false) url)) (λ found a. a ≡ Ok (file_at found)) answer
+    Then (UnlessLong (resolved_path path url) (IsLongJoin (url_text path false) url))
+    (λ found a. a ≡ Ok (file_at found)) answer
 
 -- the map embedded in a `data:` URL, or the error of decoding this URL; for any other URL, the file that the URL
 -- resolves to, or `nowhere`

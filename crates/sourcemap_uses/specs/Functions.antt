@@ -13,4 +13,5 @@ IsNameIn h offset name = IsInOrderOf h (lookup h.map (0, offset)) → name ≡ f
 
 -- `IsNameIn` holds for the Hermes map that the bytes decode to
 abbrev pub IsNameAt : (bytes : List ℕ) → ℕ → Option (List ℕ) → Type 0
-IsNameAt bytes offset name = (h : HermesValue) × BytesHaveResult RecordDecodesAsHermes bytes (Ok h) × IsNameIn h offset name
+IsNameAt bytes offset name =
+    (h : HermesValue) × BytesHaveResult RecordDecodesAsHermes bytes (Ok h) × IsNameIn h offset name

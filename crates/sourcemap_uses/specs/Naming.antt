@@ -13,4 +13,5 @@ IsNameOf bytes text p minified name =
 -- the text of the source line that a token maps to; `None` if the map lacks the contents of the token's source, or if
 -- the contents have no such line
 abbrev pub source_line_of : TokenValue → Option (List ℕ)
-source_line_of t = option_and_then (λ text. slice_get (line_bodies text) t.raw.src_line) (contents_of t.map_of t.raw.src_id)
+source_line_of t =
+    option_and_then (λ text. slice_get (line_bodies text) t.raw.src_line) (contents_of t.map_of t.raw.src_id)

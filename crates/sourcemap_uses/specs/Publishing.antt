@@ -1,12 +1,7 @@
 -- Maps without names and source contents.
-use Rattle.std.specs.Prelude.{◌≡◌, ℕ, ◌<◌, List, [], length, false, None, option_map, Ok}
+use Rattle.std.specs.Prelude.{◌≡◌, ℕ, ◌<◌, List, [], length, None, option_map, Ok}
 use Rattle.sourcemap.specs.Reading.{BytesHaveResult, RegularDecodes}
-use Rattle.sourcemap.specs.Rewrite.{Removal}
 use Rattle.sourcemap.specs.Types.{MapValue, Meaning, meaning, contents_of}
-
--- removes names and source contents; the sources keep their prefixes
-abbrev pub no_details : Removal
-no_details = record { with_names = false; with_contents = false; prefixes = [] }
 
 abbrev pub without_name : Meaning → Meaning
 without_name says = record says { name = None }
@@ -22,4 +17,5 @@ pub record IsBare (old new : MapValue) : Type 0 where
 -- both byte lists decode to regular maps, and `IsBare` holds of these maps
 abbrev pub Publishes : (old new : List ℕ) → Type 0
 Publishes old new =
-    (m n : MapValue) × BytesHaveResult RegularDecodes old (Ok m) × BytesHaveResult RegularDecodes new (Ok n) × IsBare m n
+    (m n : MapValue) × BytesHaveResult RegularDecodes old (Ok m) × BytesHaveResult RegularDecodes new (Ok n)
+    × IsBare m n

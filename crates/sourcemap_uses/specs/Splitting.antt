@@ -33,7 +33,8 @@ TracesFirst i modules p answer = Then (Splits i modules) (λ split a. a ≡ firs
 -- `flat` is the flattened map of the index map. `found` is the first module whose offset in `x_facebook_offsets` is not
 -- null. `first` is this offset: the line of the bundle on which `found` begins. No module before `found` gives an
 -- error.
-pub record IsFirstModule (i : IndexValue) (modules : List (Result ModuleValue Error)) (flat : MapValue) (found : ModuleValue) (first : ℕ) : Type 0 where
+pub record IsFirstModule (i : IndexValue) (modules : List (Result ModuleValue Error)) (flat : MapValue)
+    (found : ModuleValue) (first : ℕ) : Type 0 where
   pub flat_is : flat_of (index_tree i) ≡ Ok flat
   pub offsets : List (Option ℕ)
   pub offsets_are : i.parts.x_facebook_offsets ≡ Some offsets

@@ -1,5 +1,5 @@
-//! Common tasks with source maps, one short function each. Each function is proved with only the
-//! public contracts and laws of `sourcemap`.
+//! Common tasks with source maps, one short function each; knows nothing of `sourcemap` but its
+//! public contracts and laws.
 #![tactic(auto)]
 
 pub mod adjusting;

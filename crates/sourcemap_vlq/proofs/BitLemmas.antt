@@ -1,5 +1,7 @@
 -- The bits of a text, and the shortest text for a list of bits. A list of bits has at most one shortest text.
-use Rattle.std.proofs.Common.{◌≡◌, ◌≢◌, ℕ, zero, suc, ◌+◌, ◌*◌, ◌/◌, ◌%◌, ◌^◌, ◌<◌, ◌≤◌, ◌==◌, Bool, true, false, List, [], ◌∷◌, ◌++◌, length, take, drop, get_or, slice_get, Option, Some, None, unwrap_or, refl, sym, ◌∙◌, ap, arith, inl, inr, if◌then◌else◌, Result, Ok, Err}
+use Rattle.std.proofs.Common.{◌≡◌, ◌≢◌, ℕ, zero, suc, ◌+◌, ◌*◌, ◌/◌, ◌%◌, ◌^◌, ◌<◌, ◌≤◌, ◌==◌, Bool, true, false, List}
+use Rattle.std.proofs.Common.{[], ◌∷◌, ◌++◌, length, take, drop, get_or, slice_get, Option, Some, None, unwrap_or, refl}
+use Rattle.std.proofs.Common.{sym, ◌∙◌, ap, arith, inl, inr, if◌then◌else◌, Result, Ok, Err}
 use Rattle.std.specs.Prelude.{is_none}
 use Rattle.std.specs.List.{slice_index_or}
 use Rattle.std.specs.Option.{option_and_then}
@@ -11,39 +13,48 @@ use Rattle.std.proofs.lemmas.Bool.{cases_lt, eqb-true, eqb-false, eq-eqb, ne_eqb
 use Rattle.sourcemap_errors.specs.declared.errors.Error.{Error}
 use Rattle.sourcemap_errors.specs.declared.errors.Error.TheVariants.{InvalidBase64}
 use Rattle.sourcemap_vlq.specs.Vlq.{digit_value, glyph}
-use Rattle.sourcemap_vlq.specs.Bits.{value_at, bit_of, six_of, first_non_digit, IsNonDigitError, AreBitsOf, BitAnswers, IsBitText}
+use Rattle.sourcemap_vlq.specs.Bits.{value_at, bit_of, six_of, first_non_digit, IsNonDigitError, AreBitsOf, BitAnswers}
+use Rattle.sourcemap_vlq.specs.Bits.{IsBitText}
 use Rattle.sourcemap_vlq.proofs.DigitLemmas.{digit_value-below, glyph-digit_value, digit_value-glyph}
 
 -- ---- the first byte that is not a digit
 
-first_digit : (c : ℕ) (cs : List ℕ) → first_non_digit (c ∷ cs) ≡ None → (v : ℕ) × (digit_value c ≡ Some v) × (first_non_digit cs ≡ None)
+first_digit : (c : ℕ) (cs : List ℕ) → first_non_digit (c ∷ cs) ≡ None
+    → (v : ℕ) × (digit_value c ≡ Some v) × (first_non_digit cs ≡ None)
 first_digit c cs none = of_value (digit_value c) refl none where
-  of_value : (o : Option ℕ) → digit_value c ≡ o → (if is_none o then Some c else first_non_digit cs) ≡ None → (v : ℕ) × (digit_value c ≡ Some v) × (first_non_digit cs ≡ None)
+  of_value : (o : Option ℕ) → digit_value c ≡ o → (if is_none o then Some c else first_non_digit cs) ≡ None
+      → (v : ℕ) × (digit_value c ≡ Some v) × (first_non_digit cs ≡ None)
   of_value None e h = absurd (cc h)
   of_value (Some v) e h = (v, e, h)
 
-pub first_non_digit-push : (xs : List ℕ) (c v : ℕ) → first_non_digit xs ≡ None → digit_value c ≡ Some v → first_non_digit (xs ++ c ∷ []) ≡ None
+pub first_non_digit-push : (xs : List ℕ) (c v : ℕ) → first_non_digit xs ≡ None → digit_value c ≡ Some v
+    → first_non_digit (xs ++ c ∷ []) ≡ None
 first_non_digit-push [] c v none e = rw e refl
 first_non_digit-push (x ∷ xs) c v none e =
     let first = first_digit x xs none in
     rw first.1 (first_non_digit-push xs c v first.2 e)
 
-pub first_non_digit-at : (xs ys : List ℕ) (c : ℕ) → first_non_digit xs ≡ None → digit_value c ≡ None → first_non_digit (xs ++ c ∷ ys) ≡ Some c
+pub first_non_digit-at : (xs ys : List ℕ) (c : ℕ) → first_non_digit xs ≡ None → digit_value c ≡ None
+    → first_non_digit (xs ++ c ∷ ys) ≡ Some c
 first_non_digit-at [] ys c none e = rw e refl
 first_non_digit-at (x ∷ xs) ys c none e =
     let first = first_digit x xs none in
     rw first.1 (first_non_digit-at xs ys c first.2 e)
 
-pub IsNonDigitError-at : (text : List ℕ) (n c : ℕ) → n < length text → first_non_digit (take n text) ≡ None → get_or text n 0 ≡ c → digit_value c ≡ None
+pub IsNonDigitError-at : (text : List ℕ) (n c : ℕ) → n < length text → first_non_digit (take n text) ≡ None
+    → get_or text n 0 ≡ c → digit_value c ≡ None
     → IsNonDigitError text (InvalidBase64 c)
 IsNonDigitError-at text n c h none at e =
     let split : text ≡ take n text ++ c ∷ drop (n + 1) text =
-    sym (take-append-drop n text) ∙ (ap (λ rest. take n text ++ rest) (drop_more text n 0 h) ∙ ap (λ x. take n text ++ x ∷ drop (n + 1) text) at) in
+    sym (take-append-drop n text)
+    ∙ (ap (λ rest. take n text ++ rest) (drop_more text n 0 h) ∙ ap (λ x. take n text ++ x ∷ drop (n + 1) text) at) in
     (c, ap first_non_digit split ∙ first_non_digit-at (take n text) (drop (n + 1) text) c none e, refl)
 
-pub first_non_digit-more : (text : List ℕ) (n v : ℕ) → n < length text → first_non_digit (take n text) ≡ None → digit_value (get_or text n 0) ≡ Some v
+pub first_non_digit-more : (text : List ℕ) (n v : ℕ) → n < length text → first_non_digit (take n text) ≡ None
+    → digit_value (get_or text n 0) ≡ Some v
     → first_non_digit (take (n + 1) text) ≡ None
-first_non_digit-more text n v h none e = ap first_non_digit (take_more text n 0 h) ∙ first_non_digit-push (take n text) (get_or text n 0) v none e
+first_non_digit-more text n v h none e =
+    ap first_non_digit (take_more text n 0 h) ∙ first_non_digit-push (take n text) (get_or text n 0) v none e
 
 -- ---- the bits of all digits
 
@@ -82,7 +93,8 @@ AreBitsOf-bits_of text none =
     let len : length (bits_of text) ≡ 6 * length text = length-bits_of text in
     record { digits = none; six_a_digit = len; each = λ j h. slice_get-bits_of text j (omega arith) }
 
-same_lists : {X : Type 0} (xs ys : List X) → length xs ≡ length ys → ((j : ℕ) → j < length xs → slice_get xs j ≡ slice_get ys j) → xs ≡ ys
+same_lists : {X : Type 0} (xs ys : List X) → length xs ≡ length ys
+    → ((j : ℕ) → j < length xs → slice_get xs j ≡ slice_get ys j) → xs ≡ ys
 same_lists [] [] len same = refl
 same_lists [] (y ∷ ys) len same = absurd (omega arith)
 same_lists (x ∷ xs) [] len same = absurd (omega arith)
@@ -96,8 +108,10 @@ pub BitAnswers-same : (text : List ℕ) (a b : Result (List Bool) Error) → Bit
 BitAnswers-same text (Ok a) (Ok b) of_a of_b =
     let len : length a ≡ length b = of_a.six_a_digit ∙ sym of_b.six_a_digit in
     ap Ok (same_lists a b len (λ j h. of_a.each j h ∙ sym (of_b.each j (omega arith))))
-BitAnswers-same text (Ok a) (Err e) of_a of_b = let clash : Some of_b.0 ≡ None = sym of_b.1 ∙ of_a.digits in absurd (cc clash)
-BitAnswers-same text (Err e) (Ok b) of_a of_b = let clash : Some of_a.0 ≡ None = sym of_a.1 ∙ of_b.digits in absurd (cc clash)
+BitAnswers-same text (Ok a) (Err e) of_a of_b = let clash : Some of_b.0 ≡ None = sym of_b.1 ∙ of_a.digits in
+    absurd (cc clash)
+BitAnswers-same text (Err e) (Ok b) of_a of_b = let clash : Some of_a.0 ≡ None = sym of_a.1 ∙ of_b.digits in
+    absurd (cc clash)
 BitAnswers-same text (Err e) (Err f) of_a of_b =
     let same : Some of_a.0 ≡ Some of_b.0 = sym of_a.1 ∙ of_b.1 in
     let byte : of_a.0 ≡ of_b.0 = cc same in
@@ -141,7 +155,8 @@ bit_of-past text j h = bit_of-none text j (value_at-past text (j / 6) h)
 
 -- six bits, each times its weight, sum to a value with these bits
 pub value_of_bits : (bits : ℕ → Bool) (a b c d e f : ℕ) → a ≤ 1 → b ≤ 1 → c ≤ 1 → d ≤ 1 → e ≤ 1 → f ≤ 1
-    → (a == 1) ≡ bits 0 → (b == 1) ≡ bits 1 → (c == 1) ≡ bits 2 → (d == 1) ≡ bits 3 → (e == 1) ≡ bits 4 → (f == 1) ≡ bits 5
+    → (a == 1) ≡ bits 0 → (b == 1) ≡ bits 1 → (c == 1) ≡ bits 2 → (d == 1) ≡ bits 3 → (e == 1) ≡ bits 4
+    → (f == 1) ≡ bits 5
     → (k : ℕ) → k < 6 → (bit_at (a + 2 * b + 4 * c + 8 * d + 16 * e + 32 * f) k == 1) ≡ bits k
 value_of_bits bits a b c d e f la lb lc ld le lf ea eb ec ed ee ef zero h =
     let same : (a + 2 * b + 4 * c + 8 * d + 16 * e + 32 * f) / 1 % 2 ≡ a = omega arith in ap (λ v. v == 1) same ∙ ea
@@ -155,7 +170,8 @@ value_of_bits bits a b c d e f la lb lc ld le lf ea eb ec ed ee ef (suc (suc (su
     let same : (a + 2 * b + 4 * c + 8 * d + 16 * e + 32 * f) / 16 % 2 ≡ e = omega arith in ap (λ v. v == 1) same ∙ ee
 value_of_bits bits a b c d e f la lb lc ld le lf ea eb ec ed ee ef (suc (suc (suc (suc (suc zero))))) h =
     let same : (a + 2 * b + 4 * c + 8 * d + 16 * e + 32 * f) / 32 % 2 ≡ f = omega arith in ap (λ v. v == 1) same ∙ ef
-value_of_bits bits a b c d e f la lb lc ld le lf ea eb ec ed ee ef (suc (suc (suc (suc (suc (suc k)))))) h = absurd (omega arith)
+value_of_bits bits a b c d e f la lb lc ld le lf ea eb ec ed ee ef (suc (suc (suc (suc (suc (suc k)))))) h =
+    absurd (omega arith)
 
 -- each byte of `part` is a digit; bit `j` of `part` is bit `j` of `bits`, or false past the end of `bits`
 pub record Begins (bits : List Bool) (part : List ℕ) : Type 0 where
@@ -177,8 +193,10 @@ Begins-push bits part v begins low six =
         | inr here ↦
             let q : j / 6 ≡ length part = omega arith in
             let index : 6 * length part + j % 6 ≡ j = omega arith in
-            let value : value_at (part ++ glyph v ∷ []) (j / 6) ≡ v = ap (λ k. value_at (part ++ glyph v ∷ []) k) q ∙ value_at-last part (glyph v) v e in
-            ap (λ w. bit_at w (j % 6) == 1) value ∙ (six (j % 6) (omega arith) ∙ ap (λ k. slice_index_or bits k false) index)
+            let value : value_at (part ++ glyph v ∷ []) (j / 6) ≡ v =
+            ap (λ k. value_at (part ++ glyph v ∷ []) k) q ∙ value_at-last part (glyph v) v e in
+            ap (λ w. bit_at w (j % 6) == 1) value
+            ∙ (six (j % 6) (omega arith) ∙ ap (λ k. slice_index_or bits k false) index)
       ];
     }
 
@@ -217,12 +235,18 @@ same_bit m n h i e = elim (cases_lt m 1) [
 
 same_value : (v w : ℕ) → v < 64 → w < 64 → ((k : ℕ) → k < 6 → (bit_at v k == 1) ≡ (bit_at w k == 1)) → v ≡ w
 same_value v w lv lw same =
-    let b0 : v / 1 % 2 ≡ w / 1 % 2 = same_bit (v / 1 % 2) (w / 1 % 2) (omega arith) (omega arith) (same 0 (omega arith)) in
-    let b1 : v / 2 % 2 ≡ w / 2 % 2 = same_bit (v / 2 % 2) (w / 2 % 2) (omega arith) (omega arith) (same 1 (omega arith)) in
-    let b2 : v / 4 % 2 ≡ w / 4 % 2 = same_bit (v / 4 % 2) (w / 4 % 2) (omega arith) (omega arith) (same 2 (omega arith)) in
-    let b3 : v / 8 % 2 ≡ w / 8 % 2 = same_bit (v / 8 % 2) (w / 8 % 2) (omega arith) (omega arith) (same 3 (omega arith)) in
-    let b4 : v / 16 % 2 ≡ w / 16 % 2 = same_bit (v / 16 % 2) (w / 16 % 2) (omega arith) (omega arith) (same 4 (omega arith)) in
-    let b5 : v / 32 % 2 ≡ w / 32 % 2 = same_bit (v / 32 % 2) (w / 32 % 2) (omega arith) (omega arith) (same 5 (omega arith)) in
+    let b0 : v / 1 % 2 ≡ w / 1 % 2 =
+    same_bit (v / 1 % 2) (w / 1 % 2) (omega arith) (omega arith) (same 0 (omega arith)) in
+    let b1 : v / 2 % 2 ≡ w / 2 % 2 =
+    same_bit (v / 2 % 2) (w / 2 % 2) (omega arith) (omega arith) (same 1 (omega arith)) in
+    let b2 : v / 4 % 2 ≡ w / 4 % 2 =
+    same_bit (v / 4 % 2) (w / 4 % 2) (omega arith) (omega arith) (same 2 (omega arith)) in
+    let b3 : v / 8 % 2 ≡ w / 8 % 2 =
+    same_bit (v / 8 % 2) (w / 8 % 2) (omega arith) (omega arith) (same 3 (omega arith)) in
+    let b4 : v / 16 % 2 ≡ w / 16 % 2 =
+    same_bit (v / 16 % 2) (w / 16 % 2) (omega arith) (omega arith) (same 4 (omega arith)) in
+    let b5 : v / 32 % 2 ≡ w / 32 % 2 =
+    same_bit (v / 32 % 2) (w / 32 % 2) (omega arith) (omega arith) (same 5 (omega arith)) in
     omega arith
 
 values-same : (a b : List ℕ) → ((j : ℕ) → bit_of a j ≡ bit_of b j) → (k : ℕ) → value_at a k ≡ value_at b k
@@ -233,14 +257,17 @@ values-same a b same k =
     let bit : bit_of a (6 * k + i) ≡ bit_of b (6 * k + i) = same (6 * k + i) in
     rw (q, r) at bit)
 
-not_shorter : (a b : List ℕ) → ((k : ℕ) → value_at a k ≡ value_at b k) → ((k : ℕ) → length b ≡ k + 1 → value_at b k ≢ 0) → length b ≤ length a
+not_shorter : (a b : List ℕ) → ((k : ℕ) → value_at a k ≡ value_at b k) → ((k : ℕ) → length b ≡ k + 1 → value_at b k ≢ 0)
+    → length b ≤ length a
 not_shorter a [] same short = omega arith
 not_shorter a (c ∷ cs) same short = elim (cases_lt (length a) (length (c ∷ cs))) [
-  | inl less ↦ absurd (short (length cs) (omega arith) (sym (same (length cs)) ∙ value_at-past a (length cs) (omega arith)))
+  | inl less ↦
+      absurd (short (length cs) (omega arith) (sym (same (length cs)) ∙ value_at-past a (length cs) (omega arith)))
   | inr more ↦ more
 ]
 
-digits-same : (a b : List ℕ) → first_non_digit a ≡ None → first_non_digit b ≡ None → length a ≡ length b → ((k : ℕ) → value_at a k ≡ value_at b k) → a ≡ b
+digits-same : (a b : List ℕ) → first_non_digit a ≡ None → first_non_digit b ≡ None → length a ≡ length b
+    → ((k : ℕ) → value_at a k ≡ value_at b k) → a ≡ b
 digits-same [] [] of_a of_b len same = refl
 digits-same [] (d ∷ ds) of_a of_b len same = absurd (omega arith)
 digits-same (c ∷ cs) [] of_a of_b len same = absurd (omega arith)
@@ -251,7 +278,8 @@ digits-same (c ∷ cs) (d ∷ ds) of_a of_b len same =
     let left_value : unwrap_or (digit_value c) 0 ≡ left.0 = ap (λ o. unwrap_or o 0) left.1 in
     let right_value : unwrap_or (digit_value d) 0 ≡ right.0 = ap (λ o. unwrap_or o 0) right.1 in
     let value : left.0 ≡ right.0 = sym left_value ∙ (head_value ∙ right_value) in
-    let head : c ≡ d = sym (glyph-digit_value c left.0 left.1) ∙ (ap glyph value ∙ glyph-digit_value d right.0 right.1) in
+    let head : c ≡ d =
+    sym (glyph-digit_value c left.0 left.1) ∙ (ap glyph value ∙ glyph-digit_value d right.0 right.1) in
     let rest : cs ≡ ds = digits-same cs ds left.2 right.2 (omega arith) (λ k. same (suc k)) in
     cc (head, rest)
 

@@ -1,18 +1,26 @@
 -- Numbers as groups of digits, which are read and written one digit at a time. Decoding a text has at most one result.
 -- Encoding a list of numbers has at most one result.
-use Rattle.std.proofs.Common.{◌≡◌, ◌≢◌, ℕ, zero, suc, ◌+◌, ◌*◌, ◌/◌, ◌%◌, ◌^◌, ◌<◌, ◌≤◌, ◌==◌, ◌&&◌, ◌||◌, Bool, true, false, nat_lt, nat_le, List, [], ◌∷◌, ◌++◌, length, take, drop, get_or, Option, Some, None, unwrap_or, refl, sym, ◌∙◌, ap, subst, arith, inl, inr, ◌⊎◌, if◌then◌else◌, Result, Ok, Err, ℤ, pos, negsuc, unsigned_abs, Any}
+use Rattle.std.proofs.Common.{◌≡◌, ◌≢◌, ℕ, zero, suc, ◌+◌, ◌*◌, ◌/◌, ◌%◌, ◌^◌, ◌<◌, ◌≤◌, ◌==◌, ◌&&◌, ◌||◌, Bool, true}
+use Rattle.std.proofs.Common.{false, nat_lt, nat_le, List, [], ◌∷◌, ◌++◌, length, take, drop, get_or, Option, Some}
+use Rattle.std.proofs.Common.{None, unwrap_or, refl, sym, ◌∙◌, ap, subst, arith, inl, inr, ◌⊎◌, if◌then◌else◌, Result}
+use Rattle.std.proofs.Common.{Ok, Err, ℤ, pos, negsuc, unsigned_abs, Any}
 use Rattle.std.specs.List.{AllByRecursion}
 use lib.IntN.{neg_ℤ}
 use lib.Signed.{lt_z}
 use mir.Val.{bool_byte}
 use Rattle.std.proofs.Math.Pow.{pow_mono}
 use Rattle.std.proofs.lemmas.Nat.{pow-add, pow_pos, mul-le}
-use Rattle.std.proofs.lemmas.List.{length_push, length-append, append-nil, append_assoc, take_more, take-append-drop, drop_more, length-take-le, get_or_default}
-use Rattle.std.proofs.lemmas.Bool.{and_parts, and_from, or_cases, or_parts, and_cases, cases_lt, cases_eq, eqb-true, eqb-false, leb-true, ltb-true, ltb-false, lt-ltb, le-leb, le-ltb, false_from_ne_true}
+use Rattle.std.proofs.lemmas.List.{length_push, length-append, append-nil, append_assoc, take_more, take-append-drop}
+use Rattle.std.proofs.lemmas.List.{drop_more, length-take-le, get_or_default}
+use Rattle.std.proofs.lemmas.Bool.{and_parts, and_from, or_cases, or_parts, and_cases, cases_lt, cases_eq, eqb-true}
+use Rattle.std.proofs.lemmas.Bool.{eqb-false, leb-true, ltb-true, ltb-false, lt-ltb, le-leb, le-ltb, false_from_ne_true}
 use Rattle.std.proofs.lemmas.List.Elements.{All-from_recursion}
 use Rattle.sourcemap_errors.specs.declared.errors.Error.{Error}
-use Rattle.sourcemap_errors.specs.declared.errors.Error.TheVariants.{VlqLeftover, VlqNoValues, VlqOverflow, InvalidBase64}
-use Rattle.sourcemap_vlq.specs.Vlq.{digit_value, glyph, HasContinuation, IsLast, data_of, raw_of, number_of, IsChain, FitsOneNumber, IsGroup, Reads, IsUnfinished, GoesTo, NumberError, BeginsWith, IsSound, HasError, SegmentAnswers, IsShortest, Spells, IsTooLarge, SpellingAnswers}
+use Rattle.sourcemap_errors.specs.declared.errors.Error.TheVariants.{VlqLeftover, VlqNoValues, VlqOverflow}
+use Rattle.sourcemap_errors.specs.declared.errors.Error.TheVariants.{InvalidBase64}
+use Rattle.sourcemap_vlq.specs.Vlq.{digit_value, glyph, HasContinuation, IsLast, data_of, raw_of, number_of, IsChain}
+use Rattle.sourcemap_vlq.specs.Vlq.{FitsOneNumber, IsGroup, Reads, IsUnfinished, GoesTo, NumberError, BeginsWith}
+use Rattle.sourcemap_vlq.specs.Vlq.{IsSound, HasError, SegmentAnswers, IsShortest, Spells, IsTooLarge, SpellingAnswers}
 use Rattle.sourcemap_errors.specs.Answer.{UnlessMemory}
 use Rattle.sourcemap_errors.proofs.AnswerLemmas.{UnlessMemory-weaker}
 use Rattle.sourcemap_vlq.proofs.DigitLemmas.{digit_value-below, glyph-digit_value, digit_value-glyph}
@@ -48,7 +56,8 @@ raw_of-below (x ∷ xs) =
     let small : data_of x < 32 = omega arith in
     rw weight-suc (omega arith)
 
-pub HasContinuation-push : (xs : List ℕ) (c : ℕ) → AllByRecursion HasContinuation xs → HasContinuation c → AllByRecursion HasContinuation (xs ++ c ∷ [])
+pub HasContinuation-push : (xs : List ℕ) (c : ℕ) → AllByRecursion HasContinuation xs → HasContinuation c
+    → AllByRecursion HasContinuation (xs ++ c ∷ [])
 HasContinuation-push [] c all here = (here, tt)
 HasContinuation-push (x ∷ xs) c all here = (all.0, HasContinuation-push xs c all.1 here)
 
@@ -69,7 +78,8 @@ fits_in_number-small part c n unfinished e within =
     elim (or_cases (nat_lt n 12) ((n == 12) && nat_lt (data_of c) 8) within) [
       | inl early ↦
           let lt : n < 12 = ltb-true n 12 early in
-          let mono : 2 ^ (5 * length (part ++ c ∷ [])) ≤ 2 ^ 60 = pow_mono {i = 5 * length (part ++ c ∷ [])} {j = 60} (omega arith) in
+          let mono : 2 ^ (5 * length (part ++ c ∷ [])) ≤ 2 ^ 60 =
+          pow_mono {i = 5 * length (part ++ c ∷ [])} {j = 60} (omega arith) in
           record { few = omega arith; small = omega arith }
       | inr twelfth ↦
           let parts = and_parts (n == 12) (nat_lt (data_of c) 8) twelfth in
@@ -113,7 +123,8 @@ IsUnfinished-nil = record { continues = tt; fits = record { few = omega arith; s
 split_at : (text : List ℕ) (n : ℕ) → n < length text → text ≡ take n text ++ get_or text n 0 ∷ drop (n + 1) text
 split_at text n h = sym (take-append-drop n text) ∙ ap (λ rest. take n text ++ rest) (drop_more text n 0 h)
 
-pub GoesTo-at : (text : List ℕ) (n : ℕ) → n < length text → IsUnfinished (take n text) → GoesTo text (take n text) (get_or text n 0)
+pub GoesTo-at : (text : List ℕ) (n : ℕ) → n < length text → IsUnfinished (take n text)
+    → GoesTo text (take n text) (get_or text n 0)
 GoesTo-at text n h unfinished = record { more = drop (n + 1) text; split = split_at text n h; unfinished = unfinished }
 
 -- a digit that has the continuation bit and does not overflow extends an unfinished number
@@ -136,7 +147,8 @@ pub raw_of-more : (text : List ℕ) (n v : ℕ) → n < length text → digit_va
 raw_of-more text n v h e =
     let len : length (take n text) ≡ n = length-take-le n text (omega arith) in
     let bits : data_of (get_or text n 0) ≡ v % 32 = data_of-digit (get_or text n 0) v e in
-    let pushed : raw_of (take n text ++ get_or text n 0 ∷ []) ≡ raw_of (take n text) + 2 ^ (5 * length (take n text)) * data_of (get_or text n 0) = raw_of-push (take n text) (get_or text n 0) in
+    let pushed : raw_of (take n text ++ get_or text n 0 ∷ []) ≡ raw_of (take n text) + 2 ^ (5
+    * length (take n text)) * data_of (get_or text n 0) = raw_of-push (take n text) (get_or text n 0) in
     ap raw_of (take_more text n 0 h) ∙ (pushed ∙ (rw (len, bits) (omega arith)))
 
 -- a digit that has no continuation bit and does not overflow ends the number
@@ -171,8 +183,13 @@ NumberError-great text n v h unfinished e within =
     let c : ℕ = get_or text n 0 in
     let len : n ≡ length (take n text) = sym (length-take-le n text (omega arith)) in
     let bits : data_of c ≡ v % 32 = data_of-digit c v e in
-    let within' : (nat_lt n 12 || ((n == 12) && nat_lt (data_of c) 8)) ≡ false = rw bits within in
-    (take n text, c, GoesTo-at text n h unfinished, (λ none. cc (e, none)), fits_in_number-great (take n text) c n len within')
+    let within' : (nat_lt n 12 || ((n == 12) && nat_lt (data_of c) 8)) ≡ false = rw bits within in (
+      take n text,
+      c,
+      GoesTo-at text n h unfinished,
+      (λ none. cc (e, none)),
+      fits_in_number-great (take n text) c n len within',
+    )
 
 pub FitsOneNumber-more : (text : List ℕ) (n v : ℕ) → n < length text → IsUnfinished (take n text)
     → digit_value (get_or text n 0) ≡ Some v
@@ -203,12 +220,14 @@ sum_of-more text n v raw bits h unfinished e within is_raw is_bits =
 
 -- ---- sequences of numbers
 
-pub Reads-push : (front group : List ℕ) (numbers : List ℤ) (n : ℤ) → Reads front numbers → IsGroup group n → Reads (front ++ group) (numbers ++ n ∷ [])
+pub Reads-push : (front group : List ℕ) (numbers : List ℤ) (n : ℤ) → Reads front numbers → IsGroup group n
+    → Reads (front ++ group) (numbers ++ n ∷ [])
 Reads-push front group [] n reads is_group =
     let e : front ++ group ≡ group ++ [] = ap (λ xs. xs ++ group) reads ∙ sym (append-nil group) in
     (group, [], is_group, e, refl)
 Reads-push front group (m ∷ ms) n reads is_group =
-    let e : front ++ group ≡ reads.0 ++ (reads.1 ++ group) = ap (λ xs. xs ++ group) reads.3 ∙ append_assoc reads.0 reads.1 group in
+    let e : front ++ group ≡ reads.0 ++ (reads.1 ++ group) =
+    ap (λ xs. xs ++ group) reads.3 ∙ append_assoc reads.0 reads.1 group in
     (reads.0, reads.1 ++ group, reads.2, e, Reads-push reads.1 group ms n reads.4 is_group)
 
 -- let `text` be `front` followed by `rest`, and let `rest` be the digits of `n` followed by `tail`. If `front` reads as
@@ -252,7 +271,8 @@ with_numbers (n ∷ ns) r = with_number n (with_numbers ns r)
 after_digit : List ℕ → ℕ → Option ℕ → Result (List ℤ) Error → Result (List ℤ) Error → Result (List ℤ) Error
 after_digit whole c None more next = Err (InvalidBase64 c)
 after_digit whole c (Some v) more next =
-    if is_small whole then (if nat_lt v 32 then with_number (number_of (raw_of whole)) next else more) else Err VlqOverflow
+    if is_small whole then (if nat_lt v 32 then with_number (number_of (raw_of whole)) next else more)
+    else Err VlqOverflow
 
 at_end : List ℕ → Result (List ℤ) Error
 at_end [] = Ok []
@@ -260,7 +280,8 @@ at_end (c ∷ cs) = Err VlqLeftover
 
 scan_from : List ℕ → List ℕ → Result (List ℤ) Error
 scan_from part [] = at_end part
-scan_from part (c ∷ cs) = after_digit (part ++ c ∷ []) c (digit_value c) (scan_from (part ++ c ∷ []) cs) (scan_from [] cs)
+scan_from part (c ∷ cs) =
+    after_digit (part ++ c ∷ []) c (digit_value c) (scan_from (part ++ c ∷ []) cs) (scan_from [] cs)
 
 not_none : Result (List ℤ) Error → Result (List ℤ) Error
 not_none (Ok []) = Err VlqNoValues
@@ -271,14 +292,16 @@ answer_of : List ℕ → Result (List ℤ) Error
 answer_of text = not_none (scan_from [] text)
 
 -- the scan adds a digit `c` with the continuation bit to `part`, if `part` with `c` fits one number
-scan-continues : (part cs : List ℕ) (c : ℕ) → HasContinuation c → FitsOneNumber (part ++ c ∷ []) → scan_from part (c ∷ cs) ≡ scan_from (part ++ c ∷ []) cs
+scan-continues : (part cs : List ℕ) (c : ℕ) → HasContinuation c → FitsOneNumber (part ++ c ∷ [])
+    → scan_from part (c ∷ cs) ≡ scan_from (part ++ c ∷ []) cs
 unfolding scan_from after_digit
 scan-continues part cs c (v, e, goes) small =
     let fits : is_small (part ++ c ∷ []) ≡ true = is_small-true (part ++ c ∷ []) small in
     let test : nat_lt v 32 ≡ false = le-ltb v 32 goes in
     rw (e, fits, test) refl
 
-scan-last : (part cs : List ℕ) (c : ℕ) → IsLast c → FitsOneNumber (part ++ c ∷ []) → scan_from part (c ∷ cs) ≡ with_number (number_of (raw_of (part ++ c ∷ []))) (scan_from [] cs)
+scan-last : (part cs : List ℕ) (c : ℕ) → IsLast c → FitsOneNumber (part ++ c ∷ [])
+    → scan_from part (c ∷ cs) ≡ with_number (number_of (raw_of (part ++ c ∷ []))) (scan_from [] cs)
 unfolding scan_from after_digit
 scan-last part cs c (v, e, last) small =
     let fits : is_small (part ++ c ∷ []) ≡ true = is_small-true (part ++ c ∷ []) small in
@@ -298,9 +321,11 @@ one_by_one : (part cs : List ℕ) (c : ℕ) → part ++ c ∷ cs ≡ (part ++ c 
 one_by_one part cs c = sym (append_assoc part (c ∷ []) cs)
 
 FitsOneNumber-first : (part cs : List ℕ) (c : ℕ) → FitsOneNumber (part ++ c ∷ cs) → FitsOneNumber (part ++ c ∷ [])
-FitsOneNumber-first part cs c small = let P : List ℕ → Type 0 = FitsOneNumber in FitsOneNumber-front (part ++ c ∷ []) cs (subst P (one_by_one part cs c) small)
+FitsOneNumber-first part cs c small = let P : List ℕ → Type 0 = FitsOneNumber in
+    FitsOneNumber-front (part ++ c ∷ []) cs (subst P (one_by_one part cs c) small)
 
-scan-unfinished : (part xs rest : List ℕ) → AllByRecursion HasContinuation xs → FitsOneNumber (part ++ xs) → scan_from part (xs ++ rest) ≡ scan_from (part ++ xs) rest
+scan-unfinished : (part xs rest : List ℕ) → AllByRecursion HasContinuation xs → FitsOneNumber (part ++ xs)
+    → scan_from part (xs ++ rest) ≡ scan_from (part ++ xs) rest
 scan-unfinished part [] rest all small = ap (λ p. scan_from p rest) (sym (append-nil part))
 scan-unfinished part (c ∷ cs) rest all small =
     let P : List ℕ → Type 0 = FitsOneNumber in
@@ -319,11 +344,13 @@ scan-chain part (c ∷ d ∷ cs) rest chain small =
     ∙ (scan-chain (part ++ c ∷ []) (d ∷ cs) rest chain.1 (subst P e small)
     ∙ ap (λ p. with_number (number_of (raw_of p)) (scan_from [] rest)) (sym e))
 
-scan-group : (group rest : List ℕ) (n : ℤ) → IsGroup group n → scan_from [] (group ++ rest) ≡ with_number n (scan_from [] rest)
+scan-group : (group rest : List ℕ) (n : ℤ) → IsGroup group n
+    → scan_from [] (group ++ rest) ≡ with_number n (scan_from [] rest)
 scan-group group rest n g =
     scan-chain [] group rest g.chain g.fits ∙ ap (λ m. with_number m (scan_from [] rest)) (sym g.value)
 
-scan-reads : (front rest : List ℕ) (numbers : List ℤ) → Reads front numbers → scan_from [] (front ++ rest) ≡ with_numbers numbers (scan_from [] rest)
+scan-reads : (front rest : List ℕ) (numbers : List ℤ) → Reads front numbers
+    → scan_from [] (front ++ rest) ≡ with_numbers numbers (scan_from [] rest)
 unfolding with_numbers
 scan-reads front rest [] reads = ap (λ xs. scan_from [] (xs ++ rest)) reads
 scan-reads front rest (n ∷ ns) (group, tail, g, e, reads) =
@@ -333,17 +360,21 @@ scan-reads front rest (n ∷ ns) (group, tail, g, e, reads) =
 
 -- let `text` begin with the digits `part` of an unfinished number, and let the byte `c` come next. Then the scan of
 -- `text` has the same result as the scan from `c` on with `part` as the current group
-scan-goes_to : (text part : List ℕ) (c : ℕ) → (to : GoesTo text part c) → scan_from [] text ≡ scan_from part (c ∷ to.more)
-scan-goes_to text part c to = ap (λ xs. scan_from [] xs) to.split ∙ scan-unfinished [] part (c ∷ to.more) to.unfinished.continues to.unfinished.fits
+scan-goes_to : (text part : List ℕ) (c : ℕ) → (to : GoesTo text part c)
+    → scan_from [] text ≡ scan_from part (c ∷ to.more)
+scan-goes_to text part c to = ap (λ xs. scan_from [] xs) to.split ∙ scan-unfinished [] part (c
+    ∷ to.more) to.unfinished.continues to.unfinished.fits
 
 scan-non_digit : (part cs : List ℕ) (c : ℕ) → digit_value c ≡ None → scan_from part (c ∷ cs) ≡ Err (InvalidBase64 c)
 unfolding scan_from after_digit
 scan-non_digit part cs c e = rw e refl
 
-scan-great : (part cs : List ℕ) (c : ℕ) → digit_value c ≢ None → ¬ FitsOneNumber (part ++ c ∷ []) → scan_from part (c ∷ cs) ≡ Err VlqOverflow
+scan-great : (part cs : List ℕ) (c : ℕ) → digit_value c ≢ None → ¬ FitsOneNumber (part ++ c ∷ [])
+    → scan_from part (c ∷ cs) ≡ Err VlqOverflow
 unfolding scan_from after_digit
 scan-great part cs c ne great =
-    let no : is_small (part ++ c ∷ []) ≡ false = false_from_ne_true _ (λ t. great (is_small-FitsOneNumber (part ++ c ∷ []) t)) in
+    let no : is_small (part ++ c ∷ []) ≡ false =
+    false_from_ne_true _ (λ t. great (is_small-FitsOneNumber (part ++ c ∷ []) t)) in
     elim (digit_value_cases c) [
       | inl none ↦ absurd (ne none)
       | inr (v, e) ↦ rw (e, no) refl
@@ -356,7 +387,8 @@ scan-leftover c cs u =
 
 scan-error : (rest : List ℕ) (e : Error) → NumberError rest e → rest ≢ [] → scan_from [] rest ≡ Err e
 scan-error rest (InvalidBase64 c) (part, to, none) ne = scan-goes_to rest part c to ∙ scan-non_digit part to.more c none
-scan-error rest VlqOverflow (part, c, to, some, great) ne = scan-goes_to rest part c to ∙ scan-great part to.more c some great
+scan-error rest VlqOverflow (part, c, to, some, great) ne =
+    scan-goes_to rest part c to ∙ scan-great part to.more c some great
 scan-error [] VlqLeftover u ne = absurd (ne refl)
 scan-error (c ∷ cs) VlqLeftover u ne = scan-leftover c cs u
 scan-error rest _ error ne = absurd error
@@ -381,7 +413,8 @@ unfolding answer_of not_none
 same-numbers text [] reads ne = absurd (ne refl)
 same-numbers text (n ∷ ns) reads ne = sym (ap not_none (scan-numbers text (n ∷ ns) reads))
 
-same-error : (text rest : List ℕ) (e : Error) → IsSound text rest → rest ≢ [] → NumberError rest e → Err e ≡ answer_of text
+same-error : (text rest : List ℕ) (e : Error) → IsSound text rest → rest ≢ [] → NumberError rest e
+    → Err e ≡ answer_of text
 unfolding answer_of not_none
 same-error text rest e sound ne error =
     let scanned : scan_from [] text ≡ Err e =
@@ -396,10 +429,12 @@ answer-same text (Err VlqNoValues) due = sym (ap answer_of due)
 answer-same text (Err e) due = same-error text due.0 e due.1 due.2 due.3
 
 -- decoding a text has at most one result
-pub SegmentAnswers-same : (text : List ℕ) (a b : Result (List ℤ) Error) → SegmentAnswers text a → SegmentAnswers text b → a ≡ b
+pub SegmentAnswers-same : (text : List ℕ) (a b : Result (List ℤ) Error) → SegmentAnswers text a
+    → SegmentAnswers text b → a ≡ b
 SegmentAnswers-same text a b of_a of_b = answer-same text a of_a ∙ sym (answer-same text b of_b)
 
-pub HasError-later : (text rest : List ℕ) → IsSound text rest → rest ≢ [] → (e : Error) → NumberError rest e → HasError text e
+pub HasError-later : (text rest : List ℕ) → IsSound text rest → rest ≢ [] → (e : Error) → NumberError rest e
+    → HasError text e
 HasError-later text rest sound ne VlqNoValues error = absurd error
 HasError-later text rest sound ne e error = (rest, sound, ne, error)
 
@@ -480,14 +515,16 @@ same_cons c d xs ys e f = cc (e, f)
 same_chain : (xs ys : List ℕ) → IsChain xs → IsChain ys → length xs ≡ length ys → raw_of xs ≡ raw_of ys → xs ≡ ys
 same_chain [] ys left right len raw = absurd left
 same_chain (c ∷ xs) [] left right len raw = absurd right
-same_chain (c ∷ []) (d ∷ []) left right len raw = same_cons c d [] [] (digit_from-last c d left right (omega arith)) refl
+same_chain (c ∷ []) (d ∷ []) left right len raw =
+    same_cons c d [] [] (digit_from-last c d left right (omega arith)) refl
 same_chain (c ∷ []) (d ∷ e ∷ ys) left right len raw = absurd (omega arith)
 same_chain (c ∷ b ∷ xs) (d ∷ []) left right len raw = absurd (omega arith)
 same_chain (c ∷ b ∷ xs) (d ∷ e ∷ ys) left right len raw =
     let bits : data_of c ≡ data_of d = omega arith in
     let rest : raw_of (b ∷ xs) ≡ raw_of (e ∷ ys) = omega arith in
     let len' : length (b ∷ xs) ≡ length (e ∷ ys) = omega arith in
-    same_cons c d (b ∷ xs) (e ∷ ys) (digit_from-continues c d left.0 right.0 bits) (same_chain (b ∷ xs) (e ∷ ys) left.1 right.1 len' rest)
+    same_cons c d (b ∷ xs) (e ∷ ys) (digit_from-continues c d left.0 right.0 bits)
+    (same_chain (b ∷ xs) (e ∷ ys) left.1 right.1 len' rest)
 
 IsShortest-raw : (digits : List ℕ) (n : ℤ) → IsShortest digits n → raw_of digits ≡ total_of n
 IsShortest-raw digits n s = elim (IsGroup-raw digits n s.is_group) [
@@ -500,7 +537,8 @@ pub IsShortest-same : (xs ys : List ℕ) (n : ℤ) → IsShortest xs n → IsSho
 IsShortest-same xs ys n left right =
     let one_way : length xs ≤ length ys = left.shortest ys right.is_group in
     let other_way : length ys ≤ length xs = right.shortest xs left.is_group in
-    same_chain xs ys left.is_group.chain right.is_group.chain (omega arith) (IsShortest-raw xs n left ∙ sym (IsShortest-raw ys n right))
+    same_chain xs ys left.is_group.chain right.is_group.chain (omega arith)
+    (IsShortest-raw xs n left ∙ sym (IsShortest-raw ys n right))
 
 -- numbers have at most one text of shortest groups
 pub Spells-same : (numbers : List ℤ) (a b : List ℕ) → Spells numbers a → Spells numbers b → a ≡ b
@@ -512,9 +550,11 @@ Spells-same (n ∷ ns) a b (xs, rest, shortest, e, tail) (ys, rest', shortest', 
 
 pub Spells-Reads : (numbers : List ℤ) (text : List ℕ) → Spells numbers text → Reads text numbers
 Spells-Reads [] text e = e
-Spells-Reads (n ∷ ns) text (group, rest, shortest, e, tail) = (group, rest, shortest.is_group, e, Spells-Reads ns rest tail)
+Spells-Reads (n ∷ ns) text (group, rest, shortest, e, tail) =
+    (group, rest, shortest.is_group, e, Spells-Reads ns rest tail)
 
-pub Spells-push : (numbers : List ℤ) (text group : List ℕ) (n : ℤ) → Spells numbers text → IsShortest group n → Spells (numbers ++ n ∷ []) (text ++ group)
+pub Spells-push : (numbers : List ℤ) (text group : List ℕ) (n : ℤ) → Spells numbers text → IsShortest group n
+    → Spells (numbers ++ n ∷ []) (text ++ group)
 Spells-push [] text group n e shortest =
     let all : text ++ group ≡ group ++ [] = ap (λ xs. xs ++ group) e ∙ sym (append-nil group) in
     (group, [], shortest, all, refl)
@@ -543,18 +583,22 @@ IsGroup-near group n g =
       | inr same ↦ omega arith
     ]
 
-Spells-near : (numbers : List ℤ) (text : List ℕ) → Spells numbers text → AllByRecursion (λ n. unsigned_abs n < 2 ^ 62) numbers
+Spells-near : (numbers : List ℤ) (text : List ℕ) → Spells numbers text
+    → AllByRecursion (λ n. unsigned_abs n < 2 ^ 62) numbers
 Spells-near [] text e = tt
-Spells-near (n ∷ ns) text (group, rest, shortest, e, tail) = (IsGroup-near group n shortest.is_group, Spells-near ns rest tail)
+Spells-near (n ∷ ns) text (group, rest, shortest, e, tail) =
+    (IsGroup-near group n shortest.is_group, Spells-near ns rest tail)
 
 Spells-not_far : (numbers : List ℤ) (text : List ℕ) → Spells numbers text → Any IsTooLarge numbers → ⊥
 Spells-not_far numbers text spells (k, n, lt, at, far) =
-    let near : unsigned_abs (get_or numbers k n) < 2 ^ 62 = All-from_recursion (λ m. unsigned_abs m < 2 ^ 62) numbers (Spells-near numbers text spells) k n lt in
+    let near : unsigned_abs (get_or numbers k n) < 2 ^ 62 =
+    All-from_recursion (λ m. unsigned_abs m < 2 ^ 62) numbers (Spells-near numbers text spells) k n lt in
     let same : unsigned_abs (get_or numbers k n) ≡ unsigned_abs n = ap unsigned_abs at in
     omega arith
 
 -- encoding numbers has at most one result
-pub SpellingAnswers-same : (numbers : List ℤ) (a b : Result (List ℕ) Error) → SpellingAnswers numbers a → SpellingAnswers numbers b → a ≡ b
+pub SpellingAnswers-same : (numbers : List ℤ) (a b : Result (List ℕ) Error) → SpellingAnswers numbers a
+    → SpellingAnswers numbers b → a ≡ b
 SpellingAnswers-same numbers (Ok a) (Ok b) of_a of_b = ap Ok (Spells-same numbers a b of_a of_b)
 SpellingAnswers-same numbers (Ok a) (Err VlqOverflow) of_a of_b = absurd (Spells-not_far numbers a of_a of_b)
 SpellingAnswers-same numbers (Ok a) (Err _) of_a of_b = absurd of_b
@@ -576,16 +620,20 @@ IsLast-glyph v h = (v, digit_value-glyph v (omega arith), h)
 -- holds if a digit with the lowest five bits of `left` and the continuation bit is appended to `part`, and `left` is
 -- divided by 32 and rounded down
 pub raw_of-split : (part : List ℕ) (total left : ℕ) → total ≡ raw_of part + 2 ^ (5 * length part) * left
-    → total ≡ raw_of (part ++ glyph (left % 32 + 32) ∷ []) + 2 ^ (5 * length (part ++ glyph (left % 32 + 32) ∷ [])) * (left / 32)
+    → total ≡ raw_of (part ++ glyph (left % 32 + 32) ∷ []) + 2 ^ (5
+    * length (part ++ glyph (left % 32 + 32) ∷ [])) * (left / 32)
 raw_of-split part total left e =
     let c : ℕ = glyph (left % 32 + 32) in
-    let bits : data_of c ≡ (left % 32 + 32) % 32 = data_of-digit c (left % 32 + 32) (digit_value-glyph (left % 32 + 32) (omega arith)) in
+    let bits : data_of c ≡ (left % 32 + 32) % 32 =
+    data_of-digit c (left % 32 + 32) (digit_value-glyph (left % 32 + 32) (omega arith)) in
     let bits' : data_of c ≡ left % 32 = omega arith in
     let pushed : raw_of (part ++ c ∷ []) ≡ raw_of part + 2 ^ (5 * length part) * data_of c = raw_of-push part c in
     let len : length (part ++ c ∷ []) ≡ suc (length part) = omega (arith, length_push part c) in
-    let w : 2 ^ (5 * length (part ++ c ∷ [])) ≡ 32 * 2 ^ (5 * length part) = ap (λ k. 2 ^ (5 * k)) len ∙ weight-suc (length part) in
+    let w : 2 ^ (5 * length (part ++ c ∷ [])) ≡ 32 * 2 ^ (5 * length part) =
+    ap (λ k. 2 ^ (5 * k)) len ∙ weight-suc (length part) in
     let whole : left ≡ 32 * (left / 32) + left % 32 = omega arith in
-    let product : 2 ^ (5 * length part) * left ≡ 2 ^ (5 * length part) * (32 * (left / 32) + left % 32) = ap (λ k. 2 ^ (5 * length part) * k) whole in
+    let product : 2 ^ (5 * length part) * left ≡ 2 ^ (5 * length part) * (32 * (left / 32) + left % 32) =
+    ap (λ k. 2 ^ (5 * length part) * k) whole in
     rw (pushed, w, bits') (omega arith)
 
 pub total_of-parts : (n : ℤ) → total_of n ≡ 2 * unsigned_abs n + bool_byte (lt_z n (pos 0))
@@ -623,10 +671,12 @@ few_digits k m total e small heavy =
 pub few_so_far : (part : List ℕ) (total left : ℕ) → total < 2 ^ 63 → total ≡ raw_of part + 2 ^ (5 * length part) * left
     → (0 < length part → 0 < left) → length part ≤ 12
 few_so_far part total left small e some =
-    let most : length part + 1 ≤ 13 = few_digits (length part) (length part + 1) total refl small (λ h. weighs (raw_of part) (2 ^ (5 * length part)) left total (some h) e) in
+    let most : length part + 1 ≤ 13 = few_digits (length part) (length part
+    + 1) total refl small (λ h. weighs (raw_of part) (2 ^ (5 * length part)) left total (some h) e) in
     omega arith
 
-no_shorter : (k m : ℕ) (n : ℤ) (other : List ℕ) → IsGroup other n → m ≡ k + 1 → (0 < k → 2 ^ (5 * k) ≤ total_of n) → m ≤ length other
+no_shorter : (k m : ℕ) (n : ℤ) (other : List ℕ) → IsGroup other n → m ≡ k + 1 → (0 < k → 2 ^ (5 * k) ≤ total_of n)
+    → m ≤ length other
 no_shorter k m n other g e heavy =
     let some : 0 < length other = IsGroup-nonempty other n g in
     let below : raw_of other < 2 ^ (5 * length other) = raw_of-below other in
@@ -643,7 +693,8 @@ no_shorter k m n other g e heavy =
                 elim (cases_lt k (length other)) [
                   | inl longer ↦ omega arith
                   | inr shorter ↦
-                      let mono : 2 ^ (5 * length other) ≤ 2 ^ (5 * k) = pow_mono {i = 5 * length other} {j = 5 * k} (omega arith) in
+                      let mono : 2 ^ (5 * length other) ≤ 2 ^ (5 * k) =
+                      pow_mono {i = 5 * length other} {j = 5 * k} (omega arith) in
                       absurd (omega arith)
                 ]
           ]
@@ -652,7 +703,8 @@ no_shorter k m n other g e heavy =
 -- let all digits of `part` have the continuation bit, and let the absolute value of `n` be below 2 ^ 62. Let the raw
 -- value of `n` be the raw value of `part` plus `left` times the weight of the digit after `part`. Let `left` be below
 -- 32, and not 0 if `part` has digits. Then `part` followed by the digit of `left` is the shortest digit sequence of `n`
-pub IsShortest-last : (part : List ℕ) (n : ℤ) (left : ℕ) → AllByRecursion HasContinuation part → left < 32 → unsigned_abs n < 2 ^ 62
+pub IsShortest-last : (part : List ℕ) (n : ℤ) (left : ℕ) → AllByRecursion HasContinuation part → left < 32
+    → unsigned_abs n < 2 ^ 62
     → total_of n ≡ raw_of part + 2 ^ (5 * length part) * left → (0 < length part → 0 < left)
     → IsShortest (part ++ glyph left ∷ []) n
 IsShortest-last part n left all low near e some =
@@ -660,14 +712,19 @@ IsShortest-last part n left all low near e some =
     let bits : data_of c ≡ left % 32 = data_of-digit c left (digit_value-glyph left (omega arith)) in
     let bits' : data_of c ≡ left = omega arith in
     let pushed : raw_of (part ++ c ∷ []) ≡ raw_of part + 2 ^ (5 * length part) * data_of c = raw_of-push part c in
-    let raw : raw_of (part ++ c ∷ []) ≡ total_of n = pushed ∙ (ap (λ k. raw_of part + 2 ^ (5 * length part) * k) bits' ∙ sym e) in
+    let raw : raw_of (part ++ c ∷ []) ≡ total_of n =
+    pushed ∙ (ap (λ k. raw_of part + 2 ^ (5 * length part) * k) bits' ∙ sym e) in
     let len : length (part ++ c ∷ []) ≡ length part + 1 = length_push part c in
     let small : total_of n < 2 ^ 63 = total_of-small n near in
-    let heavy : 0 < length part → 2 ^ (5 * length part) ≤ total_of n = λ h. weighs (raw_of part) (2 ^ (5 * length part)) left (total_of n) (some h) e in
+    let heavy : 0 < length part → 2 ^ (5 * length part) ≤ total_of n =
+    λ h. weighs (raw_of part) (2 ^ (5 * length part)) left (total_of n) (some h) e in
     record {
       is_group = record {
         chain = IsChain-push part c all (IsLast-glyph left low);
-        fits = record { few = few_digits (length part) (length (part ++ c ∷ [])) (total_of n) len small heavy; small = rw raw small };
+        fits = record {
+          few = few_digits (length part) (length (part ++ c ∷ [])) (total_of n) len small heavy;
+          small = rw raw small;
+        };
         value = sym (ap number_of raw ∙ number_of-total n);
       };
       shortest = λ other g. no_shorter (length part) (length (part ++ c ∷ [])) n other g len heavy;
@@ -676,7 +733,8 @@ IsShortest-last part n left all low near e some =
 
 -- if number `k` is too large, encoding `numbers` may return the error `VlqOverflow`
 pub SpellingAnswers-refused : (numbers : List ℤ) (k : ℕ) (e : Error) → k < length numbers
-    → UnlessMemory e ((e ≡ VlqOverflow) × IsTooLarge (get_or numbers k (pos 0))) → UnlessMemory e (SpellingAnswers numbers (Err e))
+    → UnlessMemory e ((e ≡ VlqOverflow) × IsTooLarge (get_or numbers k (pos 0)))
+    → UnlessMemory e (SpellingAnswers numbers (Err e))
 SpellingAnswers-refused numbers k e lt refused =
     let n : ℤ = get_or numbers k (pos 0) in
     UnlessMemory-weaker e (λ (w : (e ≡ VlqOverflow) × IsTooLarge n).
@@ -689,7 +747,8 @@ pub BeginsWith-first : (text : List ℕ) (v : ℕ) → 0 < length text → digit
 BeginsWith-first text v h e last =
     let sum = sum_of-more text 0 v 0 (v % 32) h IsUnfinished-nil e refl refl refl in
     let raw : v ≡ raw_of (take 1 text) = omega (arith, sum.0) in
-    let begins : BeginsWith text (number_of (raw_of (take 1 text))) (drop 1 text) = BeginsWith-last text 0 v h IsUnfinished-nil e last refl in
+    let begins : BeginsWith text (number_of (raw_of (take 1 text))) (drop 1 text) =
+    BeginsWith-last text 0 v h IsUnfinished-nil e last refl in
     rw raw begins
 
 -- if the first digit of `text` has the continuation bit and the second has not, the first number is these two digits
@@ -702,5 +761,6 @@ BeginsWith-second text v w h e goes f last =
     let low : v % 32 ≡ raw_of (take 1 text) = omega (arith, first.0) in
     let second = sum_of-more text 1 w (v % 32) (w % 32) h unfinished f refl low refl in
     let raw : v % 32 + 32 * w ≡ raw_of (take 2 text) = omega (arith, second.0) in
-    let begins : BeginsWith text (number_of (raw_of (take 2 text))) (drop 2 text) = BeginsWith-last text 1 w h unfinished f last refl in
+    let begins : BeginsWith text (number_of (raw_of (take 2 text))) (drop 2 text) =
+    BeginsWith-last text 1 w h unfinished f last refl in
     rw raw begins

@@ -1,10 +1,13 @@
 -- Base64 VLQ numbers. Each digit has five data bits and a continuation bit. The first digit has the least significant
 -- data bits. The continuation bit is worth 32. It is set if another digit follows.
-use Rattle.std.specs.Prelude.{◌≡◌, ◌≢◌, ℕ, ◌+◌, ◌-◌, ◌*◌, ◌/◌, ◌%◌, ◌^◌, ◌<◌, ◌≤◌, ◌==◌, ◌&&◌, nat_lt, nat_le, if◌then◌else◌, List, [], ◌∷◌, ◌++◌, length, Option, Some, None, unwrap_or, Result, Ok, Err, ℤ, pos, unsigned_abs, Any}
+use Rattle.std.specs.Prelude.{◌≡◌, ◌≢◌, ℕ, ◌+◌, ◌-◌, ◌*◌, ◌/◌, ◌%◌, ◌^◌, ◌<◌, ◌≤◌, ◌==◌, ◌&&◌, nat_lt, nat_le}
+use Rattle.std.specs.Prelude.{if◌then◌else◌, List, [], ◌∷◌, ◌++◌, length, Option, Some, None, unwrap_or, Result, Ok}
+use Rattle.std.specs.Prelude.{Err, ℤ, pos, unsigned_abs, Any}
 use Rattle.std.specs.List.{AllByRecursion}
 use lib.IntN.{neg_ℤ}
 use Rattle.sourcemap_errors.specs.declared.errors.Error.{Error}
-use Rattle.sourcemap_errors.specs.declared.errors.Error.TheVariants.{VlqLeftover, VlqNoValues, VlqOverflow, InvalidBase64}
+use Rattle.sourcemap_errors.specs.declared.errors.Error.TheVariants.{VlqLeftover, VlqNoValues, VlqOverflow}
+use Rattle.sourcemap_errors.specs.declared.errors.Error.TheVariants.{InvalidBase64}
 
 -- the value of a digit: `A` to `Z`, `a` to `z`, `0` to `9`, `+` and `/`; `None` for any other byte
 unfoldable pub digit_value : ℕ → Option ℕ
@@ -82,7 +85,8 @@ pub record GoesTo (text part : List ℕ) (c : ℕ) : Type 0 where
 -- the first number of a text has this error; an empty text has the error `VlqLeftover`
 abbrev pub NumberError : List ℕ → Error → Type 0
 NumberError text (InvalidBase64 c) = (part : List ℕ) × GoesTo text part c × (digit_value c ≡ None)
-NumberError text VlqOverflow = (part : List ℕ) × (c : ℕ) × GoesTo text part c × (digit_value c ≢ None) × ¬ FitsOneNumber (part ++ c ∷ [])
+NumberError text VlqOverflow =
+    (part : List ℕ) × (c : ℕ) × GoesTo text part c × (digit_value c ≢ None) × ¬ FitsOneNumber (part ++ c ∷ [])
 NumberError text VlqLeftover = IsUnfinished text
 NumberError text _ = ⊥
 

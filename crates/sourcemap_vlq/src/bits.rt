@@ -1,5 +1,6 @@
 //! Bits as base64 digits: six bits per digit, lowest first.
-ghost use Rattle.std.specs.Prelude.{◌≡◌, ℕ, ◌+◌, ◌*◌, ◌/◌, ◌<◌, ◌≤◌, ◌==◌, false, true, Bool, List, ◌++◌, MatchResult, IfErr, IfOk, OnErr, OnOk, Result, None, length, string_bytes};
+ghost use Rattle.std.specs.Prelude.{◌≡◌, ℕ, ◌+◌, ◌*◌, ◌/◌, ◌<◌, ◌≤◌, ◌==◌, false, true, Bool, List, ◌++◌, MatchResult};
+ghost use Rattle.std.specs.Prelude.{IfErr, IfOk, OnErr, OnOk, Result, None, length, string_bytes};
 ghost use Rattle.std.specs.List.{slice_index_or};
 ghost use Rattle.std.specs.Int.{bit_at};
 ghost use Rattle.sourcemap_errors.specs.declared.errors.Error.{Error};

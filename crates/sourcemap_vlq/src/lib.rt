@@ -1,4 +1,5 @@
-//! Base64 digits: VLQ numbers, and the bits of range mappings.
+//! Base64 digits, as VLQ numbers and as the bits of range mappings; knows nothing of what the
+//! numbers mean.
 #![tactic(auto)]
 
 pub mod bits;

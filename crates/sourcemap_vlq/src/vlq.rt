@@ -1,9 +1,11 @@
 //! Base64 VLQ numbers. The segments of `mappings` consist of these numbers.
-ghost use Rattle.std.specs.Prelude.{◌≡◌, ◌≢◌, [], ℕ, ◌^◌, ◌<◌, ◌==◌, ◌&&◌, ◌||◌, nat_lt, ℤ, List, ◌++◌, Result, IfOk, IfErr, IfSome, OnErr, OnOk, string_bytes};
+ghost use Rattle.std.specs.Prelude.{◌≡◌, ◌≢◌, [], ℕ, ◌^◌, ◌<◌, ◌==◌, ◌&&◌, ◌||◌, nat_lt, ℤ, List, ◌++◌, Result, IfOk};
+ghost use Rattle.std.specs.Prelude.{IfErr, IfSome, OnErr, OnOk, string_bytes};
 ghost use Rattle.sourcemap_errors.specs.declared.errors.Error.{Error};
 ghost use Rattle.sourcemap_errors.specs.declared.errors.Error.TheVariants.{VlqOverflow};
 ghost use Rattle.sourcemap_errors.specs.Answer.{UnlessMemory, IsAnswer, Gives};
-ghost use Rattle.sourcemap_vlq.specs.Vlq.{digit_value, glyph, number_of, BeginsWith, NumberError, IsShortest, IsTooLarge, Reads, SegmentAnswers, Spells, SpellingAnswers};
+ghost use Rattle.sourcemap_vlq.specs.Vlq.{digit_value, glyph, number_of, BeginsWith, NumberError, IsShortest};
+ghost use Rattle.sourcemap_vlq.specs.Vlq.{IsTooLarge, Reads, SegmentAnswers, Spells, SpellingAnswers};
 
 use sourcemap_errors::errors::{Error, Result};
 use std::alloc::Global;

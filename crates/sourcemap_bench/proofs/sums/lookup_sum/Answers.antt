@@ -11,4 +11,5 @@ loop-position-preserved c ordered =
     let i = c.loop-position.position-index in
     let p = get_or c.args.positions.now i (0, 0) in
     rw (take_more c.args.positions.now i (0, 0) (omega arith), fold-append)
-    (c.add_lookup-sum.ensures ordered ∙ ap (λ sum. mixed sum (worth (lookup (map_tree c.args.map.now) p))) (c.loop-position.invariant ordered))
+    (c.add_lookup-sum.ensures ordered
+    ∙ ap (λ sum. mixed sum (worth (lookup (map_tree c.args.map.now) p))) (c.loop-position.invariant ordered))

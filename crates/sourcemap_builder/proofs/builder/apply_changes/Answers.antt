@@ -7,5 +7,6 @@ use Rattle.sourcemap_builder.proofs.builder.apply_changes.Goals as goal
 pub returns-clause-value : goal.returns-clause-value
 returns-clause-value c =
     let gone : vec_len c.loop-text.changed ≡ 0 = search rules in
-    let none : length (contents_in c.loop-text.changed) ≡ 0 = rw length-map (omega (arith, gone, c.loop-text.changed.ok.0)) in
+    let none : length (contents_in c.loop-text.changed) ≡ 0 =
+    rw length-map (omega (arith, gone, c.loop-text.changed.ok.0)) in
     sym (nothing-changed (contents_in c.loop-text.changed) (texts_of c.loop-text.texts) none) ∙ c.loop-text.invariant.2

@@ -7,7 +7,8 @@ abbrev pub invariant-loop-text : goal.invariant-loop-text
 invariant-loop-text l =
     (vec_len l.changed ≤ vec_len l.texts)
     × (vec_len l.texts ≡ vec_len l.initial.texts)
-    × (with_changes (contents_in l.changed) (texts_of l.texts) ≡ with_changes (contents_in l.initial.changed) (texts_of l.initial.texts))
+    × (with_changes (contents_in l.changed) (texts_of l.texts)
+    ≡ with_changes (contents_in l.initial.changed) (texts_of l.initial.texts))
 
 abbrev pub decreases-loop-text : goal.decreases-loop-text
 decreases-loop-text l = vec_len l.changed

@@ -10,4 +10,5 @@ abbrev pub invariant-loop-id : goal.invariant-loop-id
 invariant-loop-id g l =
     (vec_len l.cut ≡ l.id)
     × (with_changes (contents_in l.cut) (take l.id l.texts)
-    ≡ take l.id (map (without_prefix (map g.S.AsStr.text l.prefixes)) (with_changes (map (option_map string_bytes) l.current) l.texts)))
+    ≡ take l.id (map (without_prefix (map g.S.AsStr.text l.prefixes))
+    (with_changes (map (option_map string_bytes) l.current) l.texts)))

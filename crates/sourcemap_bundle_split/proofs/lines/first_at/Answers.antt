@@ -7,10 +7,12 @@ pub returns-clause-before : goal.returns-clause-before
 returns-clause-before c = λ b same.
     let tokens = c.args.tokens.now in
     before_first tokens b c.partition_point.result c.partition_point.ensures.bound
-    (IsPartitionPoint-from_clause (stands_before b) tokens _ c.partition_point.ensures.partitioned (parted tokens b c.requires) (λ a r q k. search rules))
+    (IsPartitionPoint-from_clause (stands_before b) tokens _ c.partition_point.ensures.partitioned
+    (parted tokens b c.requires) (λ a r q k. search rules))
 
 pub returns-clause-from : goal.returns-clause-from
 returns-clause-from c = λ b same.
     let tokens = c.args.tokens.now in
     not_before_later tokens b c.partition_point.result c.partition_point.ensures.bound
-    (IsPartitionPoint-from_clause (stands_before b) tokens _ c.partition_point.ensures.partitioned (parted tokens b c.requires) (λ a r q k. search rules))
+    (IsPartitionPoint-from_clause (stands_before b) tokens _ c.partition_point.ensures.partitioned
+    (parted tokens b c.requires) (λ a r q k. search rules))

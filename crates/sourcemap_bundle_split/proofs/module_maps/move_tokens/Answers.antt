@@ -1,4 +1,5 @@
-use Rattle.std.proofs.Common.{◌≡◌, ℕ, ◌-◌, ◌++◌, ◌∷◌, [], ◌∙◌, refl, sym, ap, subst, List, get_or, map, take, false, arith}
+use Rattle.std.proofs.Common.{◌≡◌, ℕ, ◌-◌, ◌++◌, ◌∷◌, [], ◌∙◌, refl, sym, ap, subst, List, get_or, map, take, false}
+use Rattle.std.proofs.Common.{arith}
 use Rattle.std.proofs.lemmas.List.{take_all}
 use Rattle.sourcemap_tokens.specs.Tokens.{AreInOrder}
 use Rattle.sourcemap_tokens.specs.declared.tokens.RawToken.{RawToken}
@@ -12,7 +13,8 @@ loop-token-preserved c =
     let tokens = c.args.tokens.now in
     let i = c.loop-token.token-index in
     let inside = c.loop-token-test.true in
-    let zero : RawToken = record { dst_line = 0; dst_col = 0; src_line = 0; src_col = 0; src_id = 0; name_id = 0; is_range = false } in
+    let zero : RawToken =
+    record { dst_line = 0; dst_col = 0; src_line = 0; src_col = 0; src_id = 0; name_id = 0; is_range = false } in
     let t : RawToken = get_or tokens i zero in
     let inv = c.loop-token.invariant in
     let cs = c.args.sources.now.count in
@@ -49,5 +51,7 @@ pub returns-clause-moved_in_order : goal.returns-clause-moved_in_order
 returns-clause-moved_in_order c =
     let tokens = c.args.tokens.now in
     let all : take c.loop-token.token-index tokens ≡ tokens = take_all c.loop-token.token-index tokens (omega arith) in
-    let is = c.loop-token.invariant.moved ∙ ap (map (moved_by c.args.line c.loop-token.sources.ids c.loop-token.names.ids)) all in
-    subst AreInOrder (sym is) (in_order-moved c.args.line c.loop-token.sources.ids c.loop-token.names.ids tokens c.requires.later c.requires.in_order)
+    let is = c.loop-token.invariant.moved
+    ∙ ap (map (moved_by c.args.line c.loop-token.sources.ids c.loop-token.names.ids)) all in
+    subst AreInOrder (sym is) (in_order-moved c.args.line c.loop-token.sources.ids c.loop-token.names.ids tokens
+    c.requires.later c.requires.in_order)

@@ -1,4 +1,5 @@
-use Rattle.std.proofs.Common.{◌≡◌, ◌∙◌, refl, sym, ap, map, filter_map, Option, ℕ, List, Result, Ok, Some, option_map, inl, arith}
+use Rattle.std.proofs.Common.{◌≡◌, ◌∙◌, refl, sym, ap, map, filter_map, Option, ℕ, List, Result, Ok, Some, option_map}
+use Rattle.std.proofs.Common.{inl, arith}
 use Rattle.std.proofs.lemmas.List.{length-map}
 use Rattle.sourcemap_errors.specs.declared.errors.Error.{Error}
 use Rattle.sourcemap_bundles.specs.Iterators.{modules_left}
@@ -14,8 +15,10 @@ returns-clause-answer c =
     let flat : MapValue = c.in_ok-flat.flat in
     let same_flat : c.in_ok-maps.maps ≡ flat = (let held = c.in_ok-maps.ensures in cc) in
     let offsets : (index_value c.args.map.now).parts.x_facebook_offsets ≡ Some c.in_ok-offsets-2.offsets.items =
-    sym c.x_facebook_offsets.ensures ∙ ap (option_map (λ xs. xs.now)) c.in_ok-offsets.ensures.ok_part ∙ ap Some (sym c.in_ok-offsets-2.ensures.items) in
-    let split : MapValue → List (Result ModuleValue Error) → Result SplitValue Error = λ flat modules. Ok (record { flat = flat; offsets = c.in_ok-offsets-2.offsets.items; modules = modules }) in
+    sym c.x_facebook_offsets.ensures ∙ ap (option_map (λ xs. xs.now)) c.in_ok-offsets.ensures.ok_part
+    ∙ ap Some (sym c.in_ok-offsets-2.ensures.items) in
+    let split : MapValue → List (Result ModuleValue Error) → Result SplitValue Error =
+    λ flat modules. Ok (record { flat = flat; offsets = c.in_ok-offsets-2.offsets.items; modules = modules }) in
     inl (
       flat,
       c.in_ok-flat.ensures.answer,
@@ -27,4 +30,9 @@ pub returns-clause-bound : goal.returns-clause-bound
 returns-clause-bound c =
     let left = modules_left c.iter_modules.result in
     let laid_modules = filter_map (with_first_line c.in_ok-offsets-2.offsets.items) left in
-    omega (arith, length-map laid_modules (due_of c.in_ok-maps.maps), length-filter_map (with_first_line c.in_ok-offsets-2.offsets.items) left, c.iter_modules.ensures.bound)
+    omega (
+      arith,
+      length-map laid_modules (due_of c.in_ok-maps.maps),
+      length-filter_map (with_first_line c.in_ok-offsets-2.offsets.items) left,
+      c.iter_modules.ensures.bound,
+    )

@@ -10,5 +10,6 @@ returns-in-Err c = ap utf8_text (sym c.data.ensures) ∙ text-not_utf8 c.data.re
 pub returns-in-Ok : goal.returns-in-Ok
 returns-in-Ok c =
     let due : utf8_text c.args.found.now.text.now ≡ Ok c.in-Ok.text.now =
-    ap utf8_text (sym c.data.ensures) ∙ text-utf8 c.data.result.now c.in-Ok.ensures.cases.1 ∙ ap Ok (sym c.in-Ok.ensures.cases.0) in
+    ap utf8_text (sym c.data.ensures) ∙ text-utf8 c.data.result.now c.in-Ok.ensures.cases.1
+    ∙ ap Ok (sym c.in-Ok.ensures.cases.0) in
     subst (λ answer. Gives (λ view. view) c.new.result answer) (sym due) c.new.ensures

@@ -11,7 +11,8 @@ invariant-loop-adjustment l = record {
   original : l.original ≡ slice_get (stretches destination l.originals) l.at_original;
   in_adjustments : l.at_adjustment ≤ length l.adjustments;
   in_originals : l.at_original ≤ length l.originals;
-  so_far : l.tokens.items ++ composed_all (drop l.at_adjustment (stretches source l.adjustments)) (drop l.at_original (stretches destination l.originals))
+  so_far : l.tokens.items ++ composed_all (drop l.at_adjustment (stretches source l.adjustments))
+      (drop l.at_original (stretches destination l.originals))
       ≡ composed_all (stretches source l.adjustments) (stretches destination l.originals);
   within : list_any overflows_column l.tokens.items ≡ false;
   few : length l.tokens.items ≤ l.at_original + l.at_adjustment;

@@ -8,7 +8,8 @@ use Rattle.sourcemap_file_urls.proofs.places.decode_text.Goals as goal
 pub returns-in-Ok : goal.returns-in-Ok
 returns-in-Ok c =
     let is : string_bytes c.in-Ok.text ≡ percent_decode c.args.text.now = search rules in
-    let utf8 : is_utf8 (percent_decode c.args.text.now) ≡ true = is_utf8-from_IsUtf8 _ (subst IsUtf8 is (IsUtf8-string_bytes c.in-Ok.text)) in
+    let utf8 : is_utf8 (percent_decode c.args.text.now) ≡ true =
+    is_utf8-from_IsUtf8 _ (subst IsUtf8 is (IsUtf8-string_bytes c.in-Ok.text)) in
     rw utf8 (ap (λ text. Ok (Some text)) (sym is))
 
 pub returns : goal.returns

@@ -7,6 +7,7 @@ use Rattle.sourcemap_file_urls.proofs.places.url_text.Goals as goal
 
 pub returns : goal.returns
 returns c =
-    let end = YieldsList-end (YieldsList-from_str_split 47 c.args.path.now (search rules) (search rules) (search rules) (search rules)) c.loop-part.yielded _ c.loop-part.yielded_by _ _ c.in-None.is c.next.ensures.steps in
+    let end = YieldsList-end (YieldsList-from_str_split 47 c.args.path.now (search rules) (search rules) (search rules)
+    (search rules)) c.loop-part.yielded _ c.loop-part.yielded_by _ _ c.in-None.is c.next.ensures.steps in
     let all : map (λ part. part.now) c.loop-part.yielded ≡ slice_split spec.is_slash c.args.path.now = end.0 in
     search (rules, all)

@@ -10,7 +10,9 @@ loop-part-init c =
     let later = flat_map (λ part. 47 ∷ part) (parts c.in-Some.rest.now) in
     let bytes : string_bytes c.push_str.new.self ≡ string_bytes c.args.path.now ++ c.in-Some.first.now = search rules in
     let next : parts c.args.target.now ≡ c.in-Some.first.now ∷ parts c.in-Some.rest.now = search rules in
-    let start : string_bytes c.push_str.new.self ++ later ≡ string_bytes c.args.path.now ++ join_with_byte 47 (parts c.args.target.now) =
+    let start : string_bytes c.push_str.new.self ++ later
+    ≡ string_bytes c.args.path.now ++ join_with_byte 47 (parts c.args.target.now) =
     ap (λ text. text ++ later) bytes ∙ append_assoc (string_bytes c.args.path.now) c.in-Some.first.now later
-    ∙ ap (λ text. string_bytes c.args.path.now ++ text) (sym (ap (join_with_byte 47) next ∙ join-cons 47 c.in-Some.first.now (parts c.in-Some.rest.now))) in
+    ∙ ap (λ text. string_bytes c.args.path.now ++ text)
+    (sym (ap (join_with_byte 47) next ∙ join-cons 47 c.in-Some.first.now (parts c.in-Some.rest.now))) in
     search (rules, start)

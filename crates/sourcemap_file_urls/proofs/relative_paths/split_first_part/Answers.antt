@@ -15,4 +15,5 @@ pub range_from-requires : goal.range_from-requires
 range_from-requires c =
     let at = c.first_separator-end.ensures ∙ ap (position_or_len is_separator) c.as_bytes.ensures.value in
     let first = separator-first c.args.path.now c.first_separator-end.result at c.if-end-path.false in
-    λ l. boundary-after c.args.path.now c.first_separator-end.result (subst IsUtf8 c.as_bytes.ensures.value c.as_bytes.ensures.utf8) first.0 first.1
+    λ l. boundary-after c.args.path.now c.first_separator-end.result
+    (subst IsUtf8 c.as_bytes.ensures.value c.as_bytes.ensures.utf8) first.0 first.1

@@ -8,4 +8,5 @@ use Rattle.sourcemap_headers.proofs.header_reader.skip_junk.Given as goal
 abbrev pub invariant-loop-byte : goal.invariant-loop-byte
 invariant-loop-byte l =
     (l.at ≡ l.byte-index)
-    × ((later : List ℕ) → remaining_in (InHeader l.after_return) (drop l.byte-index l.chunk ++ later) ≡ remaining_in (InHeader l.fn.follows_return) (l.chunk ++ later))
+    × ((later : List ℕ) → remaining_in (InHeader l.after_return) (drop l.byte-index l.chunk ++ later)
+    ≡ remaining_in (InHeader l.fn.follows_return) (l.chunk ++ later))

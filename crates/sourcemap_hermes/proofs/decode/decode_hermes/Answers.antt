@@ -7,4 +7,5 @@ use Rattle.sourcemap_hermes.proofs.decode.decode_hermes.Goals as goal
 
 pub returns-clause-only : goal.returns-clause-only
 returns-clause-only c =
-    Gives-only hermes_value (HermesDecodes (flat (tree c.args.rsm))) (HermesDecodes-same (flat (tree c.args.rsm))) c.decode_hermes_record.result c.decode_hermes_record.ensures.answer
+    Gives-only hermes_value (HermesDecodes (flat (tree c.args.rsm)))
+    (HermesDecodes-same (flat (tree c.args.rsm))) c.decode_hermes_record.result c.decode_hermes_record.ensures.answer

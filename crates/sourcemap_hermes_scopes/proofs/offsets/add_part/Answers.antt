@@ -14,4 +14,5 @@ returns-clause-added c = λ before here part numbers is reads steps.
     let s : Segment = record { index = 0; numbers = numbers } in
     let count = steps.count in
     let some : 0 < length numbers = omega arith in
-    AddsOffsets-segment before here part numbers _ _ _ some reads (c.next_offset-next.ensures before here s is steps) c.in_ok-push.ensures.items
+    AddsOffsets-segment before here part numbers _ _ _ some reads
+    (c.next_offset-next.ensures before here s is steps) c.in_ok-push.ensures.items

@@ -11,7 +11,8 @@ pub returns-in_err-read-clause-error : goal.returns-in_err-read-clause-error
 returns-in_err-read-clause-error c =
     let digits = c.in_err-read.ensures.error in
     let p = err_from_is_err_and c.from_residual.result c.from_residual.ensures.1 in
-    let here = subst (λ parts. Any IsUnreadable parts) (sym digits.split) (Any-here IsUnreadable digits.part digits.parts (digits.some, (c.in_err-read.field-0.0, digits.error))) in
+    let here = subst (λ parts. Any IsUnreadable parts) (sym digits.split)
+    (Any-here IsUnreadable digits.part digits.parts (digits.some, (c.in_err-read.field-0.0, digits.error))) in
     rw (p.1, p.2) (UnlessMemory-from c.in_err-read.field-0.0 (c.loop-read.invariant.error here))
 
 pub returns-in_default-clause-added : goal.returns-in_default-clause-added
@@ -30,8 +31,10 @@ loop-read-preserved c =
       so_far = λ before is.
           let so_far = rw split at (c.loop-read.invariant.so_far before is) in
           PartsSoFar-more before _ first.part _ _ _ _ _ _ so_far
-          (c.in_ok-last.ensures.added before so_far.here first.part first.numbers so_far.is_last first.reads first.steps);
+          (c.in_ok-last.ensures.added before so_far.here first.part first.numbers so_far.is_last first.reads
+          first.steps);
       error = λ later.
           c.loop-read.invariant.error
-          (subst (λ parts. Any IsUnreadable parts) (sym split) (Any-later IsUnreadable first.part (parts_of c.in-Some.later.now) later));
+          (subst (λ parts. Any IsUnreadable parts) (sym split)
+          (Any-later IsUnreadable first.part (parts_of c.in-Some.later.now) later));
     }

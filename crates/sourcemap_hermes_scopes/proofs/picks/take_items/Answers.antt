@@ -14,7 +14,8 @@ loop-id-preserved g c =
     let id : ℕ = get_or ids i 0 in
     let rest : List ℕ = drop (i + 1) ids in
     let next : drop i ids ≡ id ∷ rest = drop_more ids i 0 c.loop-id-test.true in
-    let whole = subst (λ left. moved_items c.args.items.items ids ≡ c.loop-id.moved.items ++ moved_items c.loop-id.items.items left) next c.loop-id.invariant in
+    let whole = subst (λ left. moved_items c.args.items.items ids
+    ≡ c.loop-id.moved.items ++ moved_items c.loop-id.items.items left) next c.loop-id.invariant in
     let pushed : c.push.new.self.items ≡ c.loop-id.moved.items ++ item_at c.loop-id.items.items id ∷ [] =
     rw c.take_item.ensures.taken at c.in_ok-push.ensures.items in
     rw (pushed, c.take_item.ensures.left)

@@ -24,7 +24,10 @@ decreases-decode_section l = 4 * sections_at (section l.part).map + 1
 -- The count `sections_among` of the remaining sections is at most the count of all sections
 abbrev pub invariant-decode_sections-loop-part : goal.invariant-decode_sections-loop-part
 invariant-decode_sections-loop-part l = record {
-  decoded : (a : Result (List MapSection) Error) → SectionsDecode (sections_from (map section (into_iter_items l.part-iterator))) a
-      → SectionsDecode (sections_from (map section l.fn.sections.items)) (prepend (map section_value l.decoded.items) a);
-  depth : sections_among (sections_from (map section (into_iter_items l.part-iterator))) ≤ sections_among (sections_from (map section l.fn.sections.items));
+  decoded : (a : Result (List MapSection) Error)
+      → SectionsDecode (sections_from (map section (into_iter_items l.part-iterator))) a
+      → SectionsDecode (sections_from (map section l.fn.sections.items))
+      (prepend (map section_value l.decoded.items) a);
+  depth : sections_among (sections_from (map section (into_iter_items l.part-iterator)))
+      ≤ sections_among (sections_from (map section l.fn.sections.items));
 }

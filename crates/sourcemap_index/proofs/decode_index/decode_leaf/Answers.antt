@@ -10,10 +10,12 @@ pub returns-in_err-map : goal.returns-in_err-map
 returns-in_err-map c =
     let p = err_from_is_err_and c.from_residual.result c.from_residual.ensures.1 in
     rw (p.1, p.2)
-    (hermes_refused (flat (tree c.args.raw)) c.in_err-map.field-0.0 (scopes_there c.args.raw ∙ sym c.is_some.ensures ∙ c.if-is_some.true) c.in_err-map.ensures.answer)
+    (hermes_refused (flat (tree c.args.raw)) c.in_err-map.field-0.0
+    (scopes_there c.args.raw ∙ sym c.is_some.ensures ∙ c.if-is_some.true) c.in_err-map.ensures.answer)
 
 pub returns-in_err-map-2 : goal.returns-in_err-map-2
 returns-in_err-map-2 c =
     let p = err_from_is_err_and c.from_residual-in_err-map-2.result c.from_residual-in_err-map-2.ensures.1 in
     rw (p.1, p.2)
-    (regular_refused (flat (tree c.args.raw)) c.in_err-map-2.field-0.0 (scopes_there c.args.raw ∙ sym c.is_some.ensures ∙ c.if-is_some.false) c.in_err-map-2.ensures.answer)
+    (regular_refused (flat (tree c.args.raw)) c.in_err-map-2.field-0.0
+    (scopes_there c.args.raw ∙ sym c.is_some.ensures ∙ c.if-is_some.false) c.in_err-map-2.ensures.answer)

@@ -18,4 +18,5 @@ returns-clause-sorted c =
     ap (map section_value) (stably_sorted key position_cmp_total c.args.sections.now.items c.sort_by_key.new.self.items
     (c.in_ok-sort_by_key.ensures.sorted key (answers_always _ (λ a r. r ≡ key a.0.now) _ (λ f a r f' k. search rules)))
     (c.sort_by_key.ensures.stable key (answers_always _ (λ a r. r ≡ key a.0.now) _ (λ f a r f' k. search rules))))
-    ∙ sym (sorted_by-change key position_cmp section_offset position_cmp section_value (λ s t. refl) c.args.sections.now.items)
+    ∙ sym (sorted_by-change key position_cmp section_offset position_cmp section_value (λ s t. refl)
+    c.args.sections.now.items)

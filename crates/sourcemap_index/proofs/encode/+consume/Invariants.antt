@@ -26,5 +26,6 @@ abbrev pub invariant-sections_into_records-loop-part : goal.invariant-sections_i
 invariant-sections_into_records-loop-part l = record {
   pairs : (rs : List Section) → ArePairs (map section_value (into_iter_items l.part-iterator)) rs
       → ArePairs (map section_value l.fn.sections.items) (map section l.records.items ++ rs);
-  depth : indexes_in (sections_from (map section_value (into_iter_items l.part-iterator))) ≤ indexes_in (sections_from (map section_value l.fn.sections.items));
+  depth : indexes_in (sections_from (map section_value (into_iter_items l.part-iterator)))
+      ≤ indexes_in (sections_from (map section_value l.fn.sections.items));
 }

@@ -10,9 +10,13 @@ loop-number-preserved c =
     let xs = c.args.numbers.now in
     let i = c.loop-number.number-index in
     subst (AllByRecursion (λ n. IfSome n FitsU32))
-    (sym (take_more xs i None c.loop-number-test.true ∙ ap (λ n. take i xs ++ n ∷ []) (sym c.check_number.ensures.value)))
-    (All-append (λ n. IfSome n FitsU32) (take i xs) (c.check_number.result ∷ []) c.loop-number.invariant (c.check_number.ensures.small, tt))
+    (sym (take_more xs i None c.loop-number-test.true
+    ∙ ap (λ n. take i xs ++ n ∷ []) (sym c.check_number.ensures.value)))
+    (All-append (λ n. IfSome n FitsU32) (take i xs) (c.check_number.result ∷ []) c.loop-number.invariant
+    (c.check_number.ensures.small, tt))
 
 pub returns : goal.returns
 returns c =
-    subst (AllByRecursion (λ n. IfSome n FitsU32)) (take_all c.loop-number.number-index c.args.numbers.now (omega (arith, c.loop-number-test.false))) c.loop-number.invariant
+    subst (AllByRecursion (λ n. IfSome n FitsU32))
+    (take_all c.loop-number.number-index c.args.numbers.now (omega (arith, c.loop-number-test.false)))
+    c.loop-number.invariant

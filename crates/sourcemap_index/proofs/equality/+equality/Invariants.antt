@@ -6,5 +6,6 @@ use Rattle.sourcemap_index.proofs.equality.+equality.Given as goal
 
 abbrev pub invariant-are_same_lists-loop-section : goal.invariant-are_same_lists-loop-section
 invariant-are_same_lists-loop-section l =
-    pointwise same_section (map section_value (drop (length l.yielded) l.a)) (map section_value (drop (length l.yielded) l.b))
+    pointwise same_section (map section_value (drop (length l.yielded) l.a))
+    (map section_value (drop (length l.yielded) l.b))
     ≡ pointwise same_section (map section_value l.a) (map section_value l.b)

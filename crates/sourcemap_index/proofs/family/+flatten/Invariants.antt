@@ -19,6 +19,7 @@ decreases-SourceMapIndex::gather_all l = 3 * indexes (index_tree (index_value l.
 abbrev pub invariant-SourceMapIndex::gather_all-loop-section :
     goal.invariant-SourceMapIndex::gather_all-loop-section
 invariant-SourceMapIndex::gather_all-loop-section l = record {
-  so_far : SoFar (map section_value l.section-items) (drop l.section-index (map section_value l.section-items)) l.gathering;
+  so_far : SoFar (map section_value l.section-items) (drop l.section-index (map section_value l.section-items))
+      l.gathering;
   in_order : AllByRecursion IsSectionInOrder (map section_value (take l.section-index l.section-items));
 }

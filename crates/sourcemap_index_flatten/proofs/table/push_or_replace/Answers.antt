@@ -8,12 +8,15 @@ returns-clause-ok c =
     let old = c.args.entries.now in
     elim c.if-number-len.branch [
       | then-number-len+in_ok-push w ↦
-          put-appended old.items c.args.number c.args.item c.if-number-len.entries.items (omega (arith, w.if-number-len.true, c.len.ensures, old.ok.0))
+          put-appended old.items c.args.number c.args.item c.if-number-len.entries.items
+          (omega (arith, w.if-number-len.true, c.len.ensures, old.ok.0))
           (ap (λ v. v.items) w.entries-is ∙ w.in_ok-push.ensures.items)
       | else-number-len+then-is_some w ↦
-          put-over old.items c.args.number c.args.item c.if-number-len.entries.items (omega (arith, w.if-number-len.false, c.len.ensures, old.ok.0))
+          put-over old.items c.args.number c.args.item c.if-number-len.entries.items
+          (omega (arith, w.if-number-len.false, c.len.ensures, old.ok.0))
           (sym w.is_some.ensures ∙ w.if-is_some.true) (ap (λ v. v.items) w.entries-is)
       | else-number-len+else-is_some w ↦
-          put-kept old.items c.args.number c.args.item c.if-number-len.entries.items (omega (arith, w.if-number-len.false, c.len.ensures, old.ok.0))
+          put-kept old.items c.args.number c.args.item c.if-number-len.entries.items
+          (omega (arith, w.if-number-len.false, c.len.ensures, old.ok.0))
           (sym w.is_some.ensures ∙ w.if-is_some.false) (ap (λ v. v.items) w.entries-is)
     ]

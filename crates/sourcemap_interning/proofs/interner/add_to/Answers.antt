@@ -8,5 +8,6 @@ returns-in-Some-clause-text c = slice_get-id_of c.args.text.now c.args.index.now
 
 pub returns-clause-text : goal.returns-clause-text
 returns-clause-text c =
-    let found : id_of c.args.text.now c.append.new.self ≡ Some c.in_ok-id.id = subst (λ text. id_of text c.append.new.self ≡ Some c.in_ok-id.id) c.in_ok-kept.ensures.ok c.in_ok-id.ensures.index in
+    let found : id_of c.args.text.now c.append.new.self ≡ Some c.in_ok-id.id = subst
+    (λ text. id_of text c.append.new.self ≡ Some c.in_ok-id.id) c.in_ok-kept.ensures.ok c.in_ok-id.ensures.index in
     slice_get-id_of c.args.text.now c.append.new.self c.in_ok-id.id found

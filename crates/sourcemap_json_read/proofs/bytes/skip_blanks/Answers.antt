@@ -12,7 +12,8 @@ loop-at-preserved c =
     let byte : get_or text l.at 32 ≡ 32 = grind arith in (
       space_passed text l.at (ap is_space blank) ∙ l.invariant.0,
       omega (arith, l.invariant.1),
-      utf8_on text c.args.from l.at (l.at + 1) l.invariant.2 (ascii_passed text l.at (omega arith) (omega (arith, byte))),
+      utf8_on text c.args.from l.at (l.at + 1) l.invariant.2
+          (ascii_passed text l.at (omega arith) (omega (arith, byte))),
     )
 
 pub returns-then-byte_at-ne32-clause-utf8 : goal.returns-then-byte_at-ne32-clause-utf8

@@ -11,9 +11,11 @@ loop-at-preserved c =
     let l = c.loop-at in
     let white : is_space (head (drop l.at text)) ≡ true = cc in
     let low : is_space (get_or text l.at 32) ≡ true = cc in
-    let passed : IsUtf8UpTo text l.at (l.at + 1) = ascii_passed text l.at (omega arith) (space_is_ascii (get_or text l.at 32) low) in (
+    let passed : IsUtf8UpTo text l.at (l.at + 1) =
+    ascii_passed text l.at (omega arith) (space_is_ascii (get_or text l.at 32) low) in (
       c.skip_blanks-at.ensures.same ∙ space_passed text l.at white ∙ l.invariant.0,
-      utf8_on text c.args.from l.at _ l.invariant.1 (utf8_on text l.at (l.at + 1) _ passed c.skip_blanks-at.ensures.utf8),
+      utf8_on text c.args.from l.at _ l.invariant.1
+          (utf8_on text l.at (l.at + 1) _ passed c.skip_blanks-at.ensures.utf8),
     )
 
 pub returns-then-not-is_white-clause-utf8 : goal.returns-then-not-is_white-clause-utf8

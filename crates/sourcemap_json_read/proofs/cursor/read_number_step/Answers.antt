@@ -18,11 +18,13 @@ returns-clause-is_step c =
     let fits : n < 2 ^ 64 = omega arith in
     let may : may_begin (grammar_state c.args.position.state) ≡ true = cc in (
       decimal n,
-      word_at c.args.text.now (decimal n) (number (decimal n)) c.args.position _ (may, c.in_ok-value.ensures, refl) (λ rest e. lex-number (decimal n) rest (IsNumber-decimal n fits) e) (number_value (decimal n)),
+      word_at c.args.text.now (decimal n) (number (decimal n)) c.args.position _ (may, c.in_ok-value.ensures, refl)
+          (λ rest e. lex-number (decimal n) rest (IsNumber-decimal n fits) e) (number_value (decimal n)),
       number_of-decimal n fits ∙ ap Some (sym c.from.ensures),
     )
 
 pub returns-clause-utf8 : goal.returns-clause-utf8
 returns-clause-utf8 c =
     let n = c.in_ok-value.value in
-    word_passed c.args.text.now c.args.position.at (decimal n) _ c.in_ok-value.ensures (IsUtf8-from_ascii (decimal n) (IsAscii-decimal n (omega arith)))
+    word_passed c.args.text.now c.args.position.at (decimal n) _ c.in_ok-value.ensures
+    (IsUtf8-from_ascii (decimal n) (IsAscii-decimal n (omega arith)))

@@ -12,7 +12,12 @@ pub returns-then-byte_at-eq58-clause-is_step : goal.returns-then-byte_at-eq58-cl
 returns-then-byte_at-eq58-clause-is_step c =
     let d = c.args.text.now in
     let position = c.args.position in
-    let is : IsStringAt d position _ c.skip_space-at.result = record { opens = c.requires; may = cc; found = c.in_ok-found.ensures.content; after = c.skip_space-at.ensures.same ∙ sym c.in_ok-found.ensures.after } in
+    let is : IsStringAt d position _ c.skip_space-at.result = record {
+      opens = c.requires;
+      may = cc;
+      found = c.in_ok-found.ensures.content;
+      after = c.skip_space-at.ensures.same ∙ sym c.in_ok-found.ensures.after;
+    } in
     key_at d position _ c.skip_space-at.result is (grind arith)
 
 pub returns-then-byte_at-eq58-clause-utf8 : goal.returns-then-byte_at-eq58-clause-utf8
@@ -20,7 +25,8 @@ returns-then-byte_at-eq58-clause-utf8 c =
     let d = c.args.text.now in
     let from = c.args.position.at in
     let at = c.skip_space-at.result in
-    let quote : IsUtf8UpTo d from (from + 1) = head_passed d from (omega (arith, c.requires)) (omega (arith, c.requires)) in
+    let quote : IsUtf8UpTo d from (from + 1) =
+    head_passed d from (omega (arith, c.requires)) (omega (arith, c.requires)) in
     let colon : IsUtf8UpTo d at (at + 1) = ascii_passed d at (grind arith) (grind arith) in
     λ rest. quote (c.in_ok-found.ensures.utf8 (c.skip_space-at.ensures.utf8 (colon rest)))
 
@@ -28,12 +34,18 @@ pub returns-clause-is_step : goal.returns-clause-is_step
 returns-clause-is_step c =
     let d = c.args.text.now in
     let position = c.args.position in
-    let is : IsStringAt d position _ c.skip_space-at.result = record { opens = c.requires; may = cc; found = c.in_ok-found.ensures.content; after = c.skip_space-at.ensures.same ∙ sym c.in_ok-found.ensures.after } in
+    let is : IsStringAt d position _ c.skip_space-at.result = record {
+      opens = c.requires;
+      may = cc;
+      found = c.in_ok-found.ensures.content;
+      after = c.skip_space-at.ensures.same ∙ sym c.in_ok-found.ensures.after;
+    } in
     string_at d position _ c.skip_space-at.result is c.skip_space-at.ensures.passed (grind arith)
 
 pub returns-clause-utf8 : goal.returns-clause-utf8
 returns-clause-utf8 c =
     let d = c.args.text.now in
     let from = c.args.position.at in
-    let quote : IsUtf8UpTo d from (from + 1) = head_passed d from (omega (arith, c.requires)) (omega (arith, c.requires)) in
+    let quote : IsUtf8UpTo d from (from + 1) =
+    head_passed d from (omega (arith, c.requires)) (omega (arith, c.requires)) in
     λ rest. quote (c.in_ok-found.ensures.utf8 (c.skip_space-at.ensures.utf8 rest))

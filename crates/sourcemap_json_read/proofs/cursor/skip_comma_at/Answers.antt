@@ -11,7 +11,8 @@ returns-then-byte_at-eq44-clause-same c =
     let d = c.args.text.now in
     let at = c.args.at in
     let first : head (drop at d) ≡ 44 = grind arith in
-    ap (punctuate after_comma) (c.skip_space.ensures.same ∙ ap (lex between) (sym (drop-drop 1 at d))) ∙ sym (passes_comma (drop at d) first)
+    ap (punctuate after_comma) (c.skip_space.ensures.same ∙ ap (lex between) (sym (drop-drop 1 at d)))
+    ∙ sym (passes_comma (drop at d) first)
 
 pub returns-then-byte_at-eq44-clause-utf8 : goal.returns-then-byte_at-eq44-clause-utf8
 returns-then-byte_at-eq44-clause-utf8 c =

@@ -10,8 +10,10 @@ returns c =
     let second = c.in_ok-second.ensures in
     let third = c.in_ok-third.ensures in
     let fourth = c.in_ok-fourth.ensures in
-    let unit = unit_of_digits (get_or text (at + 2) 32) (get_or text (at + 3) 32) (get_or text (at + 4) 32) (get_or text (at + 5) 32)
-    (omega (arith, first.value, first.small)) (omega (arith, second.value, second.small)) (omega (arith, third.value, third.small)) (omega (arith, fourth.value, fourth.small)) in
+    let unit = unit_of_digits (get_or text (at + 2) 32) (get_or text (at + 3) 32) (get_or text (at + 4) 32) (get_or text
+    (at + 5) 32)
+    (omega (arith, first.value, first.small)) (omega (arith, second.value, second.small))
+    (omega (arith, third.value, third.small)) (omega (arith, fourth.value, fourth.small)) in
     record {
       backslash = cc;
       letter = cc;

@@ -16,7 +16,8 @@ unfolding short_escape
 table_is = refl
 
 read : (b : ℕ) → b < 256 → get_or SHORT b 0 ≡ or_zero (short_escape b)
-read b h = ap (λ t. get_or t b 0) table_is ∙ get_or-map-range_with_len (λ x. or_zero (short_escape x)) 0 256 b b 0 h (omega arith)
+read b h = ap (λ t. get_or t b 0) table_is
+    ∙ get_or-map-range_with_len (λ x. or_zero (short_escape x)) 0 256 b b 0 h (omega arith)
 
 some : (o : Option ℕ) → 0 < or_zero o → o ≡ Some (or_zero o)
 some None h = absurd (omega arith)
@@ -33,8 +34,10 @@ found b h more =
 
 pub returns-clause-value : goal.returns-clause-value
 returns-clause-value c =
-    λ more. subst (λ b. short_escape b ≡ Some (get_or SHORT c.from.result 0)) c.from.ensures (found c.from.result (omega arith) more)
+    λ more. subst (λ b. short_escape b ≡ Some (get_or SHORT c.from.result 0)) c.from.ensures
+    (found c.from.result (omega arith) more)
 
 pub returns-clause-ascii : goal.returns-clause-ascii
 returns-clause-ascii c =
-    λ more. subst (λ b. (get_or SHORT c.from.result 0 < 128) × (b < 128)) c.from.ensures (are_ascii c.from.result (get_or SHORT c.from.result 0) (found c.from.result (omega arith) more))
+    λ more. subst (λ b. (get_or SHORT c.from.result 0 < 128) × (b < 128)) c.from.ensures
+    (are_ascii c.from.result (get_or SHORT c.from.result 0) (found c.from.result (omega arith) more))

@@ -9,4 +9,5 @@ returns-clause-read c =
     let byte = c.short_escape_at-byte in
     let some : 0 < byte.result = omega (arith, c.if-byte-eq0.false) in
     let spells : SpellsByte text c.args.at byte.result = byte.ensures some in
-    escape_read (take c.args.to c.args.buffer.now) _ text c.args.at byte.result c.requires.space.1 spells c.store_byte.ensures.bytes
+    escape_read
+    (take c.args.to c.args.buffer.now) _ text c.args.at byte.result c.requires.space.1 spells c.store_byte.ensures.bytes

@@ -22,6 +22,7 @@ loop-begin-preserved c =
       omega (arith, f.ensures.within.0, l.invariant.3),
       omega (arith, near),
       omega (arith, f.ensures.to_within, f.ensures.len),
-      ap (λ m. m / 2 ^ (at - end)) c.block_stops-ahead.ensures ∙ stops_after text end 64 (at - end) ∙ ap₂ (λ i k. mask_l (map is_stop (chunk i k text))) index count,
+      ap (λ m. m / 2 ^ (at - end)) c.block_stops-ahead.ensures ∙ stops_after text end 64 (at - end)
+          ∙ ap₂ (λ i k. mask_l (map is_stop (chunk i k text))) index count,
       read_on _ _ _ text c.args.from l.at at l.invariant.7 f.ensures.read,
     )

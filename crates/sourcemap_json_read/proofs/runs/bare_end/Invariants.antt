@@ -5,7 +5,8 @@ use Rattle.sourcemap_json_read.proofs.runs.bare_end.Given as goal
 
 abbrev pub invariant-loop-at : goal.invariant-loop-at
 invariant-loop-at l =
-    (l.from + prefix_len is_bare (drop l.from l.text) ≡ l.at + prefix_len is_bare (drop l.at l.text)) × (l.at ≤ length l.text)
+    (l.from + prefix_len is_bare (drop l.from l.text) ≡ l.at + prefix_len is_bare (drop l.at l.text))
+    × (l.at ≤ length l.text)
 
 abbrev pub decreases-loop-at : goal.decreases-loop-at
 decreases-loop-at l = length l.text - l.at

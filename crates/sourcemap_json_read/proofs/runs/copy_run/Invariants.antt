@@ -5,7 +5,8 @@ use Rattle.sourcemap_json_read.proofs.runs.copy_run.Given as goal
 
 abbrev pub invariant-loop-at : goal.invariant-loop-at
 invariant-loop-at l =
-    (l.from + prefix_len is_plain (drop l.from l.text) ≡ l.at + prefix_len is_plain (drop l.at l.text)) × (l.from ≤ l.at) × (l.at ≤ length l.text)
+    (l.from + prefix_len is_plain (drop l.from l.text) ≡ l.at + prefix_len is_plain (drop l.at l.text))
+    × (l.from ≤ l.at) × (l.at ≤ length l.text)
     × (l.out.items ≡ l.initial.out.items ++ take (l.at - l.from) (drop l.from l.text))
 
 abbrev pub decreases-loop-at : goal.decreases-loop-at

@@ -10,7 +10,8 @@ returns-then-byte_at-eq34-clause-content c =
     let run = c.bare_run-run in
     let end = c.args.start + length run.result.now in
     let quoted : get_or text end 32 ≡ 34 = cc in
-    let owned : string_bytes c.in_ok-from_str.field-0 ≡ run.result.now = first_of (search rules, grind (arith, common_steps)) in
+    let owned : string_bytes c.in_ok-from_str.field-0 ≡ run.result.now =
+    first_of (search rules, grind (arith, common_steps)) in
     (quote_ends text run.result.now c.args.start end run.ensures.decodes quoted).0 ∙ ap Some (sym owned)
 
 pub returns-then-byte_at-eq34-clause-after : goal.returns-then-byte_at-eq34-clause-after
@@ -27,4 +28,5 @@ returns-then-byte_at-eq34-clause-utf8 c =
     let run = c.bare_run-run in
     let end = c.args.start + length run.result.now in
     let quoted : get_or text end 32 ≡ 34 = cc in
-    utf8_on text c.args.start end (end + 1) run.ensures.utf8 (quote_ends text run.result.now c.args.start end run.ensures.decodes quoted).2
+    utf8_on text c.args.start end (end + 1) run.ensures.utf8
+    (quote_ends text run.result.now c.args.start end run.ensures.decodes quoted).2

@@ -21,7 +21,8 @@ decreases-read_members l = 2 * l.depth + 1
 abbrev pub invariant-read_items-items : goal.invariant-read_items-items
 invariant-read_items-items l =
     (most : ℕ) × (length l.cursor.tokens ≤ most)
-    × ((ds : Items) (new : List Token) → BeginsWithItems l.depth most l.cursor.tokens ds new → BeginsWithItems l.depth (length l.initial.cursor.tokens) l.initial.cursor.tokens (in_front l.found.items ds) new)
+    × ((ds : Items) (new : List Token) → BeginsWithItems l.depth most l.cursor.tokens ds new
+    → BeginsWithItems l.depth (length l.initial.cursor.tokens) l.initial.cursor.tokens (in_front l.found.items ds) new)
     × (IsUtf8 l.cursor.bytes → IsUtf8 l.initial.cursor.bytes)
 
 abbrev pub decreases-read_items-items : goal.decreases-read_items-items
@@ -30,7 +31,9 @@ decreases-read_items-items l = length l.cursor.tokens
 abbrev pub invariant-read_members-members : goal.invariant-read_members-members
 invariant-read_members-members l =
     (most : ℕ) × (length l.cursor.tokens ≤ most)
-    × ((after : Members) (new : List Token) → BeginsWithMembers l.depth most l.cursor.tokens (members_view l.found.entries) after new → BeginsWithMembers l.depth (length l.initial.cursor.tokens) l.initial.cursor.tokens no_members after new)
+    × ((after : Members) (new : List Token)
+    → BeginsWithMembers l.depth most l.cursor.tokens (members_view l.found.entries) after new
+    → BeginsWithMembers l.depth (length l.initial.cursor.tokens) l.initial.cursor.tokens no_members after new)
     × (IsUtf8 l.cursor.bytes → IsUtf8 l.initial.cursor.bytes)
 
 abbrev pub decreases-read_members-members : goal.decreases-read_members-members

@@ -18,7 +18,8 @@ loop-from-preserved c =
     let end = c.in_ok-end.end in
     let inside : end < length text = grind (arith, c.in_ok-end.ensures.within) in
     let so_far = c.in_ok-from.ensures.put ∙ c.loop-from.invariant.1 in
-    let run = moved _ _ _ _ _ _ c.in_ok-end.ensures.copied (escape_to_stop text from end (34 ∷ []) c.in_ok-end.ensures.value) so_far in
+    let run = moved _ _ _ _ _ _ c.in_ok-end.ensures.copied (escape_to_stop text from end
+    (34 ∷ []) c.in_ok-end.ensures.value) so_far in
     (omega arith, moved _ _ _ _ _ _ c.in_ok-put_escape.ensures (escape_at text end (34 ∷ []) inside) run)
 
 pub returns-then-end-text : goal.returns-then-end-text
@@ -27,7 +28,9 @@ returns-then-end-text c =
     let end = c.in_ok-end.end in
     let whole : length text ≤ end = grind arith in
     let so_far = c.in_ok-from.ensures.put ∙ c.loop-from.invariant.1 in
-    let run = moved _ _ _ _ _ _ c.in_ok-end.ensures.copied (escape_to_stop text c.in_ok-from.from end (34 ∷ []) c.in_ok-end.ensures.value) so_far in
-    let closed : c.put_byte-then-end-text.new.out.items ≡ c.copy_run.new.out.items ++ 34 ∷ [] → c.put_byte-then-end-text.new.out.items ≡ c.args.out.now.items ++ (escape text ++ 34 ∷ []) =
+    let run = moved _ _ _ _ _ _ c.in_ok-end.ensures.copied (escape_to_stop text c.in_ok-from.from end
+    (34 ∷ []) c.in_ok-end.ensures.value) so_far in
+    let closed : c.put_byte-then-end-text.new.out.items ≡ c.copy_run.new.out.items ++ 34 ∷ []
+    → c.put_byte-then-end-text.new.out.items ≡ c.args.out.now.items ++ (escape text ++ 34 ∷ []) =
     λ put. sym (append-nil _) ∙ moved _ _ _ [] _ _ put (escape_end text end (34 ∷ []) whole) run in
     on_ok_weaker c.put_byte-then-end-text.result closed c.put_byte-then-end-text.ensures

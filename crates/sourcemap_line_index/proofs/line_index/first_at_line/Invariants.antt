@@ -7,9 +7,11 @@ invariant-loop-left g l = record {
   within : l.row + l.left ≤ length l.lines;
   window : IsWindow (slice_index l.lines) (g.P.Probe.position l.probe).0 0 l.row l.left (length l.lines);
   kept : g.P.Probe.position l.probe ≡ g.P.Probe.position l.initial.probe;
-  remains : (d : ℕ) → length l.lines < 2 ^ d → Remains (g.P.Probe.comparisons l.initial.probe + d) (g.P.Probe.comparisons l.probe) l.left;
+  remains : (d : ℕ) → length l.lines < 2 ^ d
+      → Remains (g.P.Probe.comparisons l.initial.probe + d) (g.P.Probe.comparisons l.probe) l.left;
   raised : min (g.P.Probe.comparisons l.initial.probe) 4294967295 ≤ g.P.Probe.comparisons l.probe;
-  at_least_one : l.left < length l.lines → min (g.P.Probe.comparisons l.initial.probe + 1) 4294967295 ≤ g.P.Probe.comparisons l.probe;
+  at_least_one : l.left < length l.lines
+      → min (g.P.Probe.comparisons l.initial.probe + 1) 4294967295 ≤ g.P.Probe.comparisons l.probe;
 }
 
 abbrev pub decreases-loop-left : goal.decreases-loop-left

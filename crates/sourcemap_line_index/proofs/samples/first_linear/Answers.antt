@@ -18,9 +18,11 @@ loop-at-preserved g c =
       at_least = omega arith;
       within = omega arith;
       passed = λ d. rw c.skip_by_column-index.ensures.kept
-          (passed_one (col_at c.args.tokens.now d) (g.P.Probe.position c.loop-at.probe).1 c.args.first c.args.end c.loop-at.index c.loop-at.at _
+          (passed_one (col_at c.args.tokens.now d)
+          (g.P.Probe.position c.loop-at.probe).1 c.args.first c.args.end c.loop-at.index c.loop-at.at _
           (c.requires.rises d) least within c.loop-at-test.true
-          (c.skip_by_column-index.ensures.answer ∙ ap (λ (t : RawToken). if nat_lt t.dst_col (g.P.Probe.position c.loop-at.probe).1 then 1 else 0)
+          (c.skip_by_column-index.ensures.answer
+          ∙ ap (λ (t : RawToken). if nat_lt t.dst_col (g.P.Probe.position c.loop-at.probe).1 then 1 else 0)
           (get_or_default c.args.tokens.now c.loop-at.at _ d inside))
           (c.loop-at.invariant.passed d));
       kept = c.skip_by_column-index.ensures.kept ∙ c.loop-at.invariant.kept;
@@ -34,6 +36,8 @@ returns-clause-found g c =
     record {
       at_least = c.loop-at.invariant.at_least;
       at_most = omega arith;
-      before = λ d l. subst (λ p. col_at c.args.tokens.now d (c.loop-at.index - 1) < p.1) c.loop-at.invariant.kept ((c.loop-at.invariant.passed d).before l);
-      from = λ d l. subst (λ p. p.1 ≤ col_at c.args.tokens.now d c.loop-at.index) c.loop-at.invariant.kept ((c.loop-at.invariant.passed d).from (omega arith));
+      before = λ d l. subst (λ p. col_at c.args.tokens.now d (c.loop-at.index - 1)
+          < p.1) c.loop-at.invariant.kept ((c.loop-at.invariant.passed d).before l);
+      from = λ d l. subst (λ p. p.1 ≤ col_at c.args.tokens.now d c.loop-at.index) c.loop-at.invariant.kept
+          ((c.loop-at.invariant.passed d).from (omega arith));
     }

@@ -8,7 +8,8 @@ invariant-loop-left g l = record {
   within : l.sample + l.left ≤ l.end;
   window : IsWindow (slice_index l.samples) (g.P.Probe.position l.probe).1 l.first l.sample l.left l.end;
   kept : g.P.Probe.position l.probe ≡ g.P.Probe.position l.initial.probe;
-  remains : (d : ℕ) → l.end - l.first < 2 ^ d → Remains (g.P.Probe.comparisons l.initial.probe + d) (g.P.Probe.comparisons l.probe) l.left;
+  remains : (d : ℕ) → l.end - l.first < 2 ^ d
+      → Remains (g.P.Probe.comparisons l.initial.probe + d) (g.P.Probe.comparisons l.probe) l.left;
   raised : min (g.P.Probe.comparisons l.initial.probe) 4294967295 ≤ g.P.Probe.comparisons l.probe;
 }
 

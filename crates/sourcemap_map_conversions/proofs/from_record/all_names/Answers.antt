@@ -11,4 +11,5 @@ loop-name-init c = rw (c.in_ok-texts.ensures.items, c.reverse.ensures.items, rev
 pub returns : goal.returns
 returns c =
     let gone : vec_len c.loop-name.names ≡ 0 = search rules in
-    ap Ok (none-left name_read view _ _ c.loop-name.names.items (sym c.loop-name.names.ok.0 ∙ gone) c.loop-name.invariant)
+    ap Ok
+    (none-left name_read view _ _ c.loop-name.names.items (sym c.loop-name.names.ok.0 ∙ gone) c.loop-name.invariant)

@@ -4,4 +4,5 @@ use Rattle.sourcemap_map_conversions.proofs.to_record.content_texts.Goals as goa
 
 pub returns : goal.returns
 returns c =
-    ap Ok (sym (ap (map (option_map string_bytes)) c.in_ok-fit.ensures.ok ∙ map-fitted string_bytes c.args.count c.args.contents.items))
+    ap Ok (sym (ap (map (option_map string_bytes)) c.in_ok-fit.ensures.ok
+    ∙ map-fitted string_bytes c.args.count c.args.contents.items))

@@ -6,10 +6,12 @@ use Rattle.sourcemap_map_conversions.proofs.to_record.contents_if_some.Goals as 
 
 pub returns-then-has_some : goal.returns-then-has_some
 returns-then-has_some c =
-    let some : list_any is_some (map text_view c.args.contents.items) ≡ true = list_any-text_view c.args.contents.items ∙ (rw c.as_slice.ensures.value at (sym c.has_some.ensures ∙ c.if-has_some.true)) in
+    let some : list_any is_some (map text_view c.args.contents.items) ≡ true = list_any-text_view c.args.contents.items
+    ∙ (rw c.as_slice.ensures.value at (sym c.has_some.ensures ∙ c.if-has_some.true)) in
     rw some
 
 pub returns-else-has_some : goal.returns-else-has_some
 returns-else-has_some c =
-    let none : list_any is_some (map text_view c.args.contents.items) ≡ false = list_any-text_view c.args.contents.items ∙ (rw c.as_slice.ensures.value at (sym c.has_some.ensures ∙ c.if-has_some.false)) in
+    let none : list_any is_some (map text_view c.args.contents.items) ≡ false = list_any-text_view c.args.contents.items
+    ∙ (rw c.as_slice.ensures.value at (sym c.has_some.ensures ∙ c.if-has_some.false)) in
     rw none

@@ -11,7 +11,11 @@ returns-clause-texts c = record {
   text = c.in_ok-mappings.ensures.text;
   bits = c.in_ok-ranges.ensures.text;
   back = λ sources small within.
-      let P : List ℕ → Type 0 = λ ranges. MappingsAnswer (string_bytes c.in_ok-mappings.mappings) ranges (record { sources = sources; names = c.args.names }) (Ok (reduced c.args.names c.args.tokens.now)) in
+      let P : List ℕ → Type 0 = λ ranges. MappingsAnswer (string_bytes c.in_ok-mappings.mappings) ranges (record {
+        sources = sources;
+        names = c.args.names;
+      }) (Ok (reduced c.args.names c.args.tokens.now)) in
       subst P (same_listed (text_view c.in_ok-ranges.ranges))
-      (c.in_ok-mappings.ensures.reads_back sources small within (text_view c.in_ok-ranges.ranges) c.in_ok-ranges.ensures.text);
+      (c.in_ok-mappings.ensures.reads_back sources small within
+      (text_view c.in_ok-ranges.ranges) c.in_ok-ranges.ensures.text);
 }

@@ -28,11 +28,13 @@ returns-clause-written g c =
     let S = parts_text true (source_entries m) in
     let V = part true version_entry in
     let tokens = c.in_ok-put_tokens.ensures.text in
-    let opened = subst (λ (b : List ℕ). Grows start b w1 b1 (123 ∷ [])) c.in_ok-buffer.ensures.bytes c.in_ok-put.ensures.text in
+    let opened =
+    subst (λ (b : List ℕ). Grows start b w1 b1 (123 ∷ [])) c.in_ok-buffer.ensures.bytes c.in_ok-put.ensures.text in
     OnOk-both c.flush.result _ _ _
     (λ flushed empty. (
       whole_of m tokens.0,
-      encoded m c.in_ok-later.later tokens.0 c.in_ok-later.ensures.later c.in_ok-later.ensures.is_plain c.in_ok-later.ensures.sound tokens.1
+      encoded m c.in_ok-later.later tokens.0 c.in_ok-later.ensures.later c.in_ok-later.ensures.is_plain
+          c.in_ok-later.ensures.sound tokens.1
           c.in_ok-put_sources.ensures.is_plain c.in_ok-put_sources.ensures.few c.in_ok-put_version.ensures.is_plain,
       Grows-bare start end left (whole_of m tokens.0) empty
           (Grows-join start w1 end [] b1 left (123 ∷ []) (H ++ (tokens.0 ++ (S ++ (V ++ (125 ∷ []))))) opened

@@ -5,4 +5,5 @@ use Rattle.sourcemap_map_regular.specs.Iterators.{contents_left}
 use Rattle.sourcemap_map_encode.proofs.encode.has_contents.Given as goal
 
 abbrev pub invariant-loop-text : goal.invariant-loop-text
-invariant-loop-text l = list_any is_some (contents_left l.text-iterator) ≡ list_any is_some (fitted (length l.map.sources) l.map.contents)
+invariant-loop-text l =
+    list_any is_some (contents_left l.text-iterator) ≡ list_any is_some (fitted (length l.map.sources) l.map.contents)

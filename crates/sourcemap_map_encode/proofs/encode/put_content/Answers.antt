@@ -10,9 +10,11 @@ use Rattle.sourcemap_map_encode.proofs.encode.put_content.Goals as goal
 pub returns-in-Some-clause-is_plain : goal.returns-in-Some-clause-is_plain
 returns-in-Some-clause-is_plain g c =
     OnOk-then c.put_text.result _ _
-    (λ utf8. subst (λ o. IsPlainValue (written_or_null string (option_copied o))) (sym c.in-Some.is) (plain_string c.in-Some.text.now utf8))
+    (λ utf8. subst (λ o. IsPlainValue (written_or_null string (option_copied o))) (sym c.in-Some.is)
+    (plain_string c.in-Some.text.now utf8))
     c.put_text.ensures.utf8
 
 pub returns-in-None-clause-is_plain : goal.returns-in-None-clause-is_plain
 returns-in-None-clause-is_plain g c =
-    OnOk-any c.put.result _ (subst (λ o. IsPlainValue (written_or_null string (option_copied o))) (sym c.in-None.is) plain_null)
+    OnOk-any c.put.result _
+    (subst (λ o. IsPlainValue (written_or_null string (option_copied o))) (sym c.in-None.is) plain_null)

@@ -19,13 +19,18 @@ loop-text-preserved g c =
     let held = g.W.Write.contents in
     let step : contents_left l.text-iterator ≡ one ∷ left = c.in-Some.ensures.steps in
     record {
-      listed = listed-more (map (written_or_null string) all) (map (written_or_null string) left) (written_or_null string one) l.later
+      listed = listed-more (map (written_or_null string) all) (map
+          (written_or_null string) left) (written_or_null string one) l.later
           (held c.args.writer.now) (held l.writer) (held c.put_comma.new.writer) (held c.put_content.new.writer)
-          (string_bytes c.args.buffer.now) (string_bytes l.buffer) (string_bytes c.put_comma.new.buffer) (string_bytes c.put_content.new.buffer)
-          (subst (λ (cs : List (Option (List ℕ))). GrowsBy (IsListed (map (written_or_null string) all) (map (written_or_null string) cs) l.later)
-          (held c.args.writer.now) (string_bytes c.args.buffer.now) (held l.writer) (string_bytes l.buffer)) step l.invariant.listed)
+          (string_bytes c.args.buffer.now) (string_bytes l.buffer) (string_bytes c.put_comma.new.buffer)
+          (string_bytes c.put_content.new.buffer)
+          (subst (λ (cs : List (Option (List ℕ))). GrowsBy
+          (IsListed (map (written_or_null string) all) (map (written_or_null string) cs) l.later)
+          (held c.args.writer.now) (string_bytes c.args.buffer.now) (held l.writer)
+          (string_bytes l.buffer)) step l.invariant.listed)
           c.in_ok-put_comma.ensures.text c.in_ok-put_content.ensures.text;
-      each = λ rest. l.invariant.each (subst (λ (cs : List (Option (List ℕ))). AllByRecursion IsPlainContent cs) (sym step) (c.in_ok-put_content.ensures.is_plain, rest));
+      each = λ rest. l.invariant.each (subst (λ (cs : List (Option (List ℕ))). AllByRecursion IsPlainContent cs)
+          (sym step) (c.in_ok-put_content.ensures.is_plain, rest));
     }
 
 pub returns-clause-is_plain : goal.returns-clause-is_plain

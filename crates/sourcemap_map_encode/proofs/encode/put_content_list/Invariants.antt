@@ -11,7 +11,9 @@ use Rattle.sourcemap_map_encode.proofs.encode.put_content_list.Given as goal
 
 abbrev pub invariant-loop-text : goal.invariant-loop-text
 invariant-loop-text g l = record {
-  listed : GrowsBy (IsListed (map (written_or_null string) (fitted (length l.map.sources) l.map.contents)) (map (written_or_null string) (contents_left l.text-iterator)) l.later)
+  listed : GrowsBy (IsListed (map (written_or_null string) (fitted (length l.map.sources) l.map.contents))
+      (map (written_or_null string) (contents_left l.text-iterator)) l.later)
       (g.W.Write.contents l.fn.writer) (string_bytes l.fn.buffer) (g.W.Write.contents l.writer) (string_bytes l.buffer);
-  each : AllByRecursion IsPlainContent (contents_left l.text-iterator) → AllByRecursion IsPlainContent (fitted (length l.map.sources) l.map.contents);
+  each : AllByRecursion IsPlainContent (contents_left l.text-iterator)
+      → AllByRecursion IsPlainContent (fitted (length l.map.sources) l.map.contents);
 }

@@ -16,9 +16,11 @@ returns-clause-text g c =
     let m = c.args.map.now in
     let some : list_any is_some (fitted (length m.sources) m.contents) ≡ true = cc in
     OnOk-then c.put_content_list.result _ _
-    (λ value. subst (λ (e : Entry). Grows (held c.args.writer.now) (string_bytes c.args.buffer.now) (held c.put_content_list.new.writer) (string_bytes c.put_content_list.new.buffer) (part true e))
+    (λ value. subst (λ (e : Entry). Grows (held c.args.writer.now) (string_bytes c.args.buffer.now)
+    (held c.put_content_list.new.writer) (string_bytes c.put_content_list.new.buffer) (part true e))
     (sym (some_contents (length m.sources) m.contents some))
     (Grows-join (held c.args.writer.now) (held c.put_key.new.writer) (held c.put_content_list.new.writer)
     (string_bytes c.args.buffer.now) (string_bytes c.put_key.new.buffer) (string_bytes c.put_content_list.new.buffer)
-    (key_text true (codes "sourcesContent")) (compact_text (written_list (written_or_null string) (fitted (length m.sources) m.contents))) c.in_ok-put_key.ensures.text value))
+    (key_text true (codes "sourcesContent")) (compact_text
+    (written_list (written_or_null string) (fitted (length m.sources) m.contents))) c.in_ok-put_key.ensures.text value))
     c.put_content_list.ensures.text

@@ -7,4 +7,5 @@ pub returns-clause-is_plain : goal.returns-clause-is_plain
 returns-clause-is_plain g c =
     let ids = c.args.ids.now in
     let some : (length ids == 0) ≡ false = cc in
-    subst (λ (e : Entry). IsPlainEntry e) (sym (some_ids ids some)) (plain_numbers ids c.in_ok-put_numbers.ensures.small)
+    subst (λ (e : Entry). IsPlainEntry e) (sym (some_ids ids some))
+    (plain_numbers ids c.in_ok-put_numbers.ensures.small)

@@ -15,9 +15,11 @@ returns-clause-text g c =
     let k = held c.put_mappings.new.writer in
     let d = string_bytes c.put_mappings.new.buffer in
     let text = subst (λ (n : ℕ). GrowsBy (IsMappingsText n m.tokens) i b k d) c.get_name_count-names.ensures
-    (subst (λ (ts : List RawToken). GrowsBy (IsMappingsText c.get_name_count-names.result ts) i b k d) c.lists.ensures.lists.tokens c.in_ok-put_mappings.ensures.text) in
+    (subst (λ (ts : List RawToken). GrowsBy (IsMappingsText c.get_name_count-names.result ts) i b k d)
+    c.lists.ensures.lists.tokens c.in_ok-put_mappings.ensures.text) in
     OnOk-then c.put-2.result _ _
-    (λ closed. member-grown c.args.later (codes "mappings") (IsMappingsText (length m.names) m.tokens) (λ t is. is.is_plain)
+    (λ closed. member-grown c.args.later (codes "mappings") (IsMappingsText (length m.names) m.tokens)
+    (λ t is. is.is_plain)
     (held c.args.writer.now) (held c.put_key.new.writer) i k (held c.put-2.new.writer)
     (string_bytes c.args.buffer.now) (string_bytes c.put_key.new.buffer) b d (string_bytes c.put-2.new.buffer)
     c.in_ok-put_key.ensures.text c.in_ok-put.ensures.text text closed)

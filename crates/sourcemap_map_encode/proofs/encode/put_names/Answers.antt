@@ -16,13 +16,16 @@ returns-clause-text g c =
     OnOk-then c.put_texts.result _ _
     (λ value. Grows-join (held c.args.writer.now) (held c.put_key.new.writer) (held c.put_texts.new.writer)
     (string_bytes c.args.buffer.now) (string_bytes c.put_key.new.buffer) (string_bytes c.put_texts.new.buffer)
-    (key_text true (codes "names")) (compact_text (written_list string c.args.map.now.names)) c.in_ok-put_key.ensures.text
-    (subst (λ (ts : List (List ℕ)). Grows (held c.put_key.new.writer) (string_bytes c.put_key.new.buffer) (held c.put_texts.new.writer) (string_bytes c.put_texts.new.buffer)
+    (key_text true (codes "names"))
+    (compact_text (written_list string c.args.map.now.names)) c.in_ok-put_key.ensures.text
+    (subst (λ (ts : List (List ℕ)). Grows (held c.put_key.new.writer) (string_bytes c.put_key.new.buffer)
+    (held c.put_texts.new.writer) (string_bytes c.put_texts.new.buffer)
     (compact_text (written_list string ts))) c.lists.ensures.lists.names value))
     c.put_texts.ensures.text
 
 pub returns-clause-is_plain : goal.returns-clause-is_plain
 returns-clause-is_plain g c =
     OnOk-then c.put_texts.result _ _
-    (λ utf8. plain_texts c.args.map.now.names (subst (λ (ts : List (List ℕ)). AllByRecursion IsUtf8 ts) c.lists.ensures.lists.names utf8))
+    (λ utf8. plain_texts c.args.map.now.names
+    (subst (λ (ts : List (List ℕ)). AllByRecursion IsUtf8 ts) c.lists.ensures.lists.names utf8))
     c.put_texts.ensures.utf8

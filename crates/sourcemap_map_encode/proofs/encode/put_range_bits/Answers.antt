@@ -13,23 +13,28 @@ use Rattle.sourcemap_json_write.proofs.WritingLemmas.{plain_string}
 use Rattle.sourcemap_map_encode.proofs.encode.put_range_bits.Goals as goal
 
 as_part : (m : MapValue) (h i : Option (List ℕ)) (a b : List ℕ) → list_any (λ t. t.is_range) m.tokens ≡ true
-    → GrowsBy (λ whole. (t : List ℕ) × IsBitsText m.tokens t × (whole ≡ part true (codes "rangeMappings", Some (string t)))) h a i b
+    → GrowsBy (λ whole. (t : List ℕ) × IsBitsText m.tokens t
+    × (whole ≡ part true (codes "rangeMappings", Some (string t)))) h a i b
     → GrowsBy (IsRangesPart m) h a i b
-as_part m h i a b some (whole, (t, bits, is), x) = (whole, (Some t, (some, bits.written), plain_string t (plain-utf8 t bits.is_plain), is), x)
+as_part m h i a b some (whole, (t, bits, is), x) =
+    (whole, (Some t, (some, bits.written), plain_string t (plain-utf8 t bits.is_plain), is), x)
 
 pub returns-clause-text : goal.returns-clause-text
 returns-clause-text g c =
     let held = g.W.Write.contents in
     let m = c.args.map.now in
     let found : list_any (λ t. t.is_range) c.lists.result.tokens.now ≡ true = cc in
-    let some : list_any (λ t. t.is_range) m.tokens ≡ true = subst (λ (ts : List RawToken). list_any (λ t. t.is_range) ts ≡ true) c.lists.ensures.lists.tokens found in
+    let some : list_any (λ t. t.is_range) m.tokens ≡ true =
+    subst (λ (ts : List RawToken). list_any (λ t. t.is_range) ts ≡ true) c.lists.ensures.lists.tokens found in
     let i = held c.put.new.writer in
     let b = string_bytes c.put.new.buffer in
     let k = held c.put_ranges.new.writer in
     let d = string_bytes c.put_ranges.new.buffer in
-    let text = subst (λ (ts : List RawToken). GrowsBy (IsBitsText ts) i b k d) c.lists.ensures.lists.tokens c.in_ok-put_ranges.ensures.text in
+    let text = subst (λ (ts : List RawToken). GrowsBy
+    (IsBitsText ts) i b k d) c.lists.ensures.lists.tokens c.in_ok-put_ranges.ensures.text in
     OnOk-then c.put-2.result _ _
-    (λ closed. as_part m (held c.args.writer.now) (held c.put-2.new.writer) (string_bytes c.args.buffer.now) (string_bytes c.put-2.new.buffer) some
+    (λ closed. as_part m (held c.args.writer.now) (held c.put-2.new.writer) (string_bytes c.args.buffer.now)
+    (string_bytes c.put-2.new.buffer) some
     (member-grown true (codes "rangeMappings") (IsBitsText m.tokens) (λ t is. is.is_plain)
     (held c.args.writer.now) (held c.put_key.new.writer) i k (held c.put-2.new.writer)
     (string_bytes c.args.buffer.now) (string_bytes c.put_key.new.buffer) b d (string_bytes c.put-2.new.buffer)

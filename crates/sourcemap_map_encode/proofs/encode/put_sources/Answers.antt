@@ -17,10 +17,13 @@ returns-clause-text g c =
     let a = string_bytes c.args.buffer.now in
     let b = string_bytes c.put_text_if.new.buffer in
     let d = string_bytes c.put_unresolved_sources.new.buffer in
-    let root = subst (λ (r : Option (List ℕ)). Grows h a i b (part true (root_entry r))) c.get_source_root-root.ensures c.in_ok-put_text_if.ensures.text in
+    let root = subst (λ (r : Option (List ℕ)). Grows h a i b
+    (part true (root_entry r))) c.get_source_root-root.ensures c.in_ok-put_text_if.ensures.text in
     let sources = Grows-join i (held c.put_key.new.writer) j b (string_bytes c.put_key.new.buffer) d
-    (key_text true (codes "sources")) (compact_text (written_list string m.sources)) c.in_ok-put_key.ensures.text c.in_ok-put_unresolved_sources.ensures.text in
+    (key_text true (codes "sources")) (compact_text
+    (written_list string m.sources)) c.in_ok-put_key.ensures.text c.in_ok-put_unresolved_sources.ensures.text in
     OnOk-then c.put_contents.result _ _
     (λ contents. Grows-three h i j (held c.put_contents.new.writer) a b d (string_bytes c.put_contents.new.buffer)
-    (part true (root_entry m.root)) (part true (sources_entry m.sources)) (part true (contents_entry (length m.sources) m.contents)) root sources contents)
+    (part true (root_entry m.root)) (part true (sources_entry m.sources))
+    (part true (contents_entry (length m.sources) m.contents)) root sources contents)
     c.put_contents.ensures.text

@@ -22,9 +22,11 @@ loop-number-preserved g c =
     record {
       listed = listed-more (map written_number numbers) (map written_number left) (written_number n) l.later
           (held c.args.writer.now) (held l.writer) (held c.put_comma.new.writer) (held c.put_number.new.writer)
-          (string_bytes c.args.buffer.now) (string_bytes l.buffer) (string_bytes c.put_comma.new.buffer) (string_bytes c.put_number.new.buffer)
+          (string_bytes c.args.buffer.now) (string_bytes l.buffer) (string_bytes c.put_comma.new.buffer)
+          (string_bytes c.put_number.new.buffer)
           (subst (λ (ns : List ℕ). GrowsBy (IsListed (map written_number numbers) (map written_number ns) l.later)
-          (held c.args.writer.now) (string_bytes c.args.buffer.now) (held l.writer) (string_bytes l.buffer)) (drop_more numbers i 0 (omega arith)) l.invariant.listed)
+          (held c.args.writer.now) (string_bytes c.args.buffer.now) (held l.writer) (string_bytes l.buffer))
+          (drop_more numbers i 0 (omega arith)) l.invariant.listed)
           c.in_ok-put_comma.ensures.text c.in_ok-put_number.ensures.text;
       small = subst (λ (ns : List ℕ). AllByRecursion FitsU32 ns) (sym (take_more numbers i 0 (omega arith)))
           (small_more (take i numbers) n l.invariant.small c.in_ok-put_number.ensures.small);

@@ -1,4 +1,5 @@
-use Rattle.std.proofs.Common.{◌≡◌, ℕ, ◌+◌, List, ◌∷◌, drop, map, string_bytes, String, Global, ap, subst, sym, ◌∙◌, arith}
+use Rattle.std.proofs.Common.{◌≡◌, ℕ, ◌+◌, List, ◌∷◌, drop, map, string_bytes, String, Global, ap, subst, sym, ◌∙◌}
+use Rattle.std.proofs.Common.{arith}
 use Rattle.std.proofs.lemmas.List.{drop_more}
 use Rattle.json.specs.Print.{quoted}
 use Rattle.serde_json.specs.Data.{string}
@@ -14,13 +15,18 @@ loop-text-preserved g c =
     let t = c.text-item.result in
     let left = drop (l.text-index + 1) texts in
     let held = g.W.Write.contents in
-    let here : drop l.text-index texts ≡ t ∷ left = drop_more texts l.text-index t (omega arith) ∙ ap (λ y. y ∷ left) (sym c.text-item.is) in
-    let text = subst (λ (s : List ℕ). Grows (held c.put_comma.new.writer) (string_bytes c.put_comma.new.buffer) (held c.put_text.new.writer) (string_bytes c.put_text.new.buffer) (quoted s))
+    let here : drop l.text-index texts ≡ t ∷ left =
+    drop_more texts l.text-index t (omega arith) ∙ ap (λ y. y ∷ left) (sym c.text-item.is) in
+    let text = subst (λ (s : List ℕ). Grows (held c.put_comma.new.writer) (string_bytes c.put_comma.new.buffer)
+    (held c.put_text.new.writer) (string_bytes c.put_text.new.buffer) (quoted s))
     c.as_str.ensures.value c.in_ok-put_text.ensures.text in
-    listed-more (map string (map (string_bytes {Z = Global}) texts)) (map string (map (string_bytes {Z = Global}) left)) (string (string_bytes t)) l.later
+    listed-more (map string (map (string_bytes {Z = Global}) texts)) (map string (map (string_bytes {Z = Global}) left))
+    (string (string_bytes t)) l.later
     (held c.args.writer.now) (held l.writer) (held c.put_comma.new.writer) (held c.put_text.new.writer)
-    (string_bytes c.args.buffer.now) (string_bytes l.buffer) (string_bytes c.put_comma.new.buffer) (string_bytes c.put_text.new.buffer)
-    (subst (λ (ts : List (String Global)). GrowsBy (IsListed (map string (map (string_bytes {Z = Global}) texts)) (map string (map (string_bytes {Z = Global}) ts)) l.later)
+    (string_bytes c.args.buffer.now) (string_bytes l.buffer) (string_bytes c.put_comma.new.buffer)
+    (string_bytes c.put_text.new.buffer)
+    (subst (λ (ts : List (String Global)). GrowsBy (IsListed (map string (map (string_bytes {Z = Global}) texts))
+    (map string (map (string_bytes {Z = Global}) ts)) l.later)
     (held c.args.writer.now) (string_bytes c.args.buffer.now) (held l.writer) (string_bytes l.buffer)) here l.invariant)
     c.in_ok-put_comma.ensures.text text
 

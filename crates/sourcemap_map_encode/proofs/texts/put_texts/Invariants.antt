@@ -6,5 +6,6 @@ use Rattle.sourcemap_map_encode.proofs.texts.put_texts.Given as goal
 
 abbrev pub invariant-loop-text : goal.invariant-loop-text
 invariant-loop-text g l =
-    GrowsBy (IsListed (map string (map (string_bytes {Z = Global}) l.texts)) (map string (map (string_bytes {Z = Global}) (drop l.text-index l.texts))) l.later)
+    GrowsBy (IsListed (map string (map (string_bytes {Z = Global}) l.texts))
+    (map string (map (string_bytes {Z = Global}) (drop l.text-index l.texts))) l.later)
     (g.W.Write.contents l.fn.writer) (string_bytes l.fn.buffer) (g.W.Write.contents l.writer) (string_bytes l.buffer)

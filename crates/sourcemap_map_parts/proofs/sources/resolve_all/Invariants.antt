@@ -4,4 +4,5 @@ use Rattle.sourcemap_map_parts.specs.Sources.{resolved_against}
 use Rattle.sourcemap_map_parts.proofs.sources.resolve_all.Given as goal
 
 abbrev pub invariant-loop-source : goal.invariant-loop-source
-invariant-loop-source l = texts_of l.all ≡ map (resolved_against l.root) (map string_bytes (take l.source-index l.sources))
+invariant-loop-source l =
+    texts_of l.all ≡ map (resolved_against l.root) (map string_bytes (take l.source-index l.sources))

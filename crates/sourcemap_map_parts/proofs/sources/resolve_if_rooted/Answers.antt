@@ -5,4 +5,5 @@ use Rattle.sourcemap_map_parts.proofs.sources.resolve_if_rooted.Goals as goal
 
 pub returns-then-is_empty : goal.returns-then-is_empty
 returns-then-is_empty c =
-    ap Ok (map-resolved_against_nothing c.args.root.now (texts_of c.args.sources.now) (sym c.is_empty.ensures ∙ c.if-is_empty.true))
+    ap Ok (map-resolved_against_nothing c.args.root.now (texts_of c.args.sources.now)
+    (sym c.is_empty.ensures ∙ c.if-is_empty.true))

@@ -5,4 +5,5 @@ use Rattle.sourcemap_map_parts.proofs.text_lists.same_texts.Goals as goal
 
 pub returns : goal.returns
 returns c =
-    c.eq.ensures ∙ pointwise-map (λ x y. same_text (string_bytes x) (string_bytes y)) same_text string_bytes (λ x y. refl) c.args.a.now.items c.args.b.now.items
+    c.eq.ensures ∙ pointwise-map (λ x y. same_text (string_bytes x) (string_bytes y)) same_text string_bytes (λ x y.
+    refl) c.args.a.now.items c.args.b.now.items

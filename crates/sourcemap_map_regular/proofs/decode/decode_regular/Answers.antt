@@ -12,16 +12,20 @@ returns-in-Err-clause-answer c = c.in-Err.ensures.answer
 
 pub returns-in-Err-clause-only : goal.returns-in-Err-clause-only
 returns-in-Err-clause-only c =
-    Gives-only {X = MapValue} {Y = MapValue} (λ m. m) (RecordDecodes (flat (tree c.args.rsm))) (RecordDecodes-same (flat (tree c.args.rsm)))
+    Gives-only {X = MapValue} {Y = MapValue} (λ m. m) (RecordDecodes (flat (tree c.args.rsm)))
+    (RecordDecodes-same (flat (tree c.args.rsm)))
     (Err c.in-Err.error) c.in-Err.ensures.answer
 
 pub returns-in-Ok-clause-answer : goal.returns-in-Ok-clause-answer
-returns-in-Ok-clause-answer c = decoded (flat (tree c.args.rsm)) (parts_view c.in-Ok.parts) c.map_of.result c.map_of.ensures c.in-Ok.ensures.answer
+returns-in-Ok-clause-answer c =
+    decoded (flat (tree c.args.rsm)) (parts_view c.in-Ok.parts) c.map_of.result c.map_of.ensures c.in-Ok.ensures.answer
 
 pub returns-in-Ok-clause-only : goal.returns-in-Ok-clause-only
 returns-in-Ok-clause-only c =
-    Gives-only {X = MapValue} {Y = MapValue} (λ m. m) (RecordDecodes (flat (tree c.args.rsm))) (RecordDecodes-same (flat (tree c.args.rsm)))
-    (Ok c.map_of.result) (decoded (flat (tree c.args.rsm)) (parts_view c.in-Ok.parts) c.map_of.result c.map_of.ensures c.in-Ok.ensures.answer)
+    Gives-only {X = MapValue} {Y = MapValue} (λ m. m) (RecordDecodes (flat (tree c.args.rsm)))
+    (RecordDecodes-same (flat (tree c.args.rsm)))
+    (Ok c.map_of.result) (decoded (flat (tree c.args.rsm))
+    (parts_view c.in-Ok.parts) c.map_of.result c.map_of.ensures c.in-Ok.ensures.answer)
 
 pub returns-in-Ok-clause-well_formed : goal.returns-in-Ok-clause-well_formed
 returns-in-Ok-clause-well_formed c = decoded-well c.in-Ok.parts c.map_of.result c.map_of.ensures c.in-Ok.ensures.within

@@ -14,7 +14,8 @@ loop-text-preserved c =
     let text : List ℕ = string_bytes (get_or c.loop-text.texts i c.text-item.result) in
     let many : length old ≡ length c.args.texts.now = length-map c.args.texts.now string_bytes in
     let here : i < length old = omega (arith, c.loop-text-test.true) in
-    let read : text ≡ get_or now i text = sym (get_or-map string_bytes c.loop-text.texts i c.text-item.result text (omega (arith, c.loop-text.auto.texts))) in
+    let read : text ≡ get_or now i text =
+    sym (get_or-map string_bytes c.loop-text.texts i c.text-item.result text (omega (arith, c.loop-text.auto.texts))) in
     map-set string_bytes c.loop-text.texts i c.cut_text.new.text
     ∙ ap (slice_set now i) c.in_ok-cut_text.ensures.ok
     ∙ map_over_more (without_prefix prefixes) old now i text here c.loop-text.invariant read

@@ -5,4 +5,5 @@ use Rattle.sourcemap_texts.specs.Texts.{texts_of}
 use Rattle.sourcemap_map_rewrite.proofs.cut_sources.plain_prefixes.Given as goal
 
 abbrev pub invariant-loop-prefix : goal.invariant-loop-prefix
-invariant-loop-prefix l = texts_of l.list ≡ filter (λ prefix. not (bytes_eq prefix (codes "~"))) (map (λ prefix. prefix.now) (take l.prefix-index l.prefixes))
+invariant-loop-prefix l = texts_of l.list
+    ≡ filter (λ prefix. not (bytes_eq prefix (codes "~"))) (map (λ prefix. prefix.now) (take l.prefix-index l.prefixes))

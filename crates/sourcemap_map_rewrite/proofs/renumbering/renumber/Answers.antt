@@ -15,9 +15,11 @@ of_sorted-requires c =
     let r = c.in_ok-numbers.numbers in
     let new = c.renumber_each.new.tokens in
     let ok : IsRenumbered S N c.args.tokens new r =
-    subst (λ old. IsRenumbered S N old new r) (c.as_mut_slice.ensures.value ∙ c.into_vec-tokens.ensures.value) c.in_ok-numbers.ensures.ok in
+    subst (λ old. IsRenumbered S N old new r)
+    (c.as_mut_slice.ensures.value ∙ c.into_vec-tokens.ensures.value) c.in_ok-numbers.ensures.ok in
     let many : length new ≡ c.into_vec-tokens.result.len =
-    ap length ok.tokens ∙ length-map c.args.tokens (numbered_with S N r.sources r.names) ∙ ap length (sym c.into_vec-tokens.ensures.value) ∙ sym c.into_vec-tokens.result.ok.0 in
+    ap length ok.tokens ∙ length-map c.args.tokens (numbered_with S N r.sources r.names)
+    ∙ ap length (sym c.into_vec-tokens.ensures.value) ∙ sym c.into_vec-tokens.result.ok.0 in
     subst AreInOrder (sym (with_items_is c.into_vec-tokens.result new many ∙ ok.tokens))
     (AreInOrder-map (numbered_with S N r.sources r.names) (λ t. refl) c.args.tokens c.into_vec-tokens.ensures.in_order)
 
@@ -28,8 +30,11 @@ returns-clause-ok c =
     let r = c.in_ok-numbers.numbers in
     let new = c.renumber_each.new.tokens in
     let ok : IsRenumbered S N c.args.tokens new r =
-    subst (λ old. IsRenumbered S N old new r) (c.as_mut_slice.ensures.value ∙ c.into_vec-tokens.ensures.value) c.in_ok-numbers.ensures.ok in
+    subst (λ old. IsRenumbered S N old new r)
+    (c.as_mut_slice.ensures.value ∙ c.into_vec-tokens.ensures.value) c.in_ok-numbers.ensures.ok in
     let many : length new ≡ c.into_vec-tokens.result.len =
-    ap length ok.tokens ∙ length-map c.args.tokens (numbered_with S N r.sources r.names) ∙ ap length (sym c.into_vec-tokens.ensures.value) ∙ sym c.into_vec-tokens.result.ok.0 in
+    ap length ok.tokens ∙ length-map c.args.tokens (numbered_with S N r.sources r.names)
+    ∙ ap length (sym c.into_vec-tokens.ensures.value) ∙ sym c.into_vec-tokens.result.ok.0 in
     let kept = same_Ok _ c.in_ok-tokens.tokens c.in_ok-tokens.ensures in
-    subst (λ now. IsRenumbered S N c.args.tokens now r) (sym (with_items_is c.into_vec-tokens.result new many) ∙ kept) ok
+    subst (λ now. IsRenumbered S N c.args.tokens now r)
+    (sym (with_items_is c.into_vec-tokens.result new many) ∙ kept) ok

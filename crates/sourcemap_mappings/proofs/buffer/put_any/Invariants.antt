@@ -6,7 +6,8 @@ use Rattle.sourcemap_mappings.proofs.buffer.put_any.Given as goal
 
 abbrev pub invariant-loop-left : goal.invariant-loop-left
 invariant-loop-left l = (part : List ℕ) × (take l.end l.buffer ≡ take l.at l.fn.buffer ++ part)
-    × AllByRecursion HasContinuation part × (raw_difference l.number l.against ≡ raw_of part + 2 ^ (5 * length part) * l.left)
+    × AllByRecursion HasContinuation part
+    × (raw_difference l.number l.against ≡ raw_of part + 2 ^ (5 * length part) * l.left)
     × (0 < length part → 0 < l.left) × (l.end ≡ l.at + length part) × (length part ≤ 6)
 
 abbrev pub decreases-loop-left : goal.decreases-loop-left

@@ -16,6 +16,7 @@ returns-then-near-lt31-clause-text c =
     let raw : raw_difference near 15 ≡ raw_difference a b = near-raw a b near counted in
     let low : raw_difference a b < 32 = subst (λ (r : ℕ). r < 32) raw (near-small near below) in
     let start = take c.args.at c.args.buffer.now in
-    let written = take_more_set c.args.buffer.now c.args.at _ (omega arith) ∙ ap (λ g. start ++ g ∷ []) (near-at near below ∙ ap glyph raw) in
+    let written = take_more_set c.args.buffer.now c.args.at _ (omega arith) ∙ ap (λ g. start ++ g
+    ∷ []) (near-at near below ∙ ap glyph raw) in
     subst (λ (t : List ℕ). Adds (difference a b ∷ []) start t) (sym written)
     (Adds-last a b start [] (raw_difference a b) (omega arith) (omega arith) tt low (omega arith) (λ h. omega arith))

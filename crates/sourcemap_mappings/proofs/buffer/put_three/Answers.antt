@@ -3,7 +3,8 @@ use Rattle.std.proofs.lemmas.Bool.{cases_lt}
 use Rattle.sourcemap_vlq.specs.Vlq.{glyph}
 use Rattle.sourcemap_mappings.specs.Write.{difference}
 use Rattle.sourcemap_mappings.specs.Buffer.{Adds, raw_difference}
-use Rattle.sourcemap_mappings.proofs.BufferLemmas.{Adds-last, Adds-two, Adds-three, triple-one, triple-two, triple-three}
+use Rattle.sourcemap_mappings.proofs.BufferLemmas.{Adds-last, Adds-two, Adds-three, triple-one, triple-two}
+use Rattle.sourcemap_mappings.proofs.BufferLemmas.{triple-three}
 use Rattle.sourcemap_mappings.proofs.buffer.put_three.Goals as goal
 
 pub returns-clause-text : goal.returns-clause-text
@@ -37,7 +38,8 @@ returns-clause-text c =
                 let no_third : third ≡ 0 = c.continues-third.ensures.no (omega arith) in
                 let last : y ≡ glyph (raw / 32) = c.glyph_of-2.ensures ∙ ap glyph (omega arith) in
                 subst (λ (t : List ℕ). Adds (difference a b ∷ []) start t)
-                (sym (triple-two buffer at x y z end (omega arith) (omega arith) ∙ ap (λ g. start ++ (g ∷ y ∷ [])) first ∙ ap (λ g. start ++ (glyph (raw % 32 + 32) ∷ g ∷ [])) last))
+                (sym (triple-two buffer at x y z end (omega arith) (omega arith) ∙ ap (λ g. start ++ (g ∷ y ∷ [])) first
+                ∙ ap (λ g. start ++ (glyph (raw % 32 + 32) ∷ g ∷ [])) last))
                 (Adds-two a b start (omega arith) (omega arith) more two)
             | inr far ↦
                 let a_third : third ≡ 1 = c.continues-third.ensures.yes (omega arith) in

@@ -31,6 +31,7 @@ returns-clause-text c =
           let first : x ≡ glyph (raw % 32 + 32) = c.glyph_of.ensures ∙ ap glyph (omega arith) in
           let last : y ≡ glyph (raw / 32) = c.glyph_of-2.ensures ∙ ap glyph (omega arith) in
           subst (λ (t : List ℕ). Adds (difference a b ∷ []) start t)
-          (sym (pair-two buffer at x y end (omega arith) (omega arith) ∙ ap (λ g. start ++ (g ∷ y ∷ [])) first ∙ ap (λ g. start ++ (glyph (raw % 32 + 32) ∷ g ∷ [])) last))
+          (sym (pair-two buffer at x y end (omega arith) (omega arith) ∙ ap (λ g. start ++ (g ∷ y ∷ [])) first
+          ∙ ap (λ g. start ++ (glyph (raw % 32 + 32) ∷ g ∷ [])) last))
           (Adds-two a b start (omega arith) (omega arith) more (omega arith))
     ]

@@ -14,7 +14,8 @@ pub returns-clause-added : goal.returns-clause-added
 returns-clause-added c = λ before sums.
     let adds = rw c.in-Ok.ensures.1 at (c.add_parts.ensures.added before sums) in
     IfOk-weaker _ _ _
-    (λ after h. AddsLine-parts _ _ before c.args.text.now c.args.bits.now _ _ after (sym c.is_empty.ensures ∙ c.if-is_empty.false)
+    (λ after h. AddsLine-parts _ _ before c.args.text.now c.args.bits.now _ _ after
+    (sym c.is_empty.ensures ∙ c.if-is_empty.false)
     c.in-Ok.ensures.0 c.in_ok-test_digits.ensures h) adds
 
 pub returns-then-is_empty-clause-order : goal.returns-then-is_empty-clause-order

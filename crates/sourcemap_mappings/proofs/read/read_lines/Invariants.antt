@@ -11,7 +11,8 @@ use Rattle.sourcemap_mappings.proofs.read.read_lines.Given as goal
 abbrev pub invariant-loop-lines : goal.invariant-loop-lines
 invariant-loop-lines l = record {
   numbers : l.number + option_map_or (λ text. length text.now + 1) l.lines 0 ≤ length l.mappings + 1;
-  so_far : LinesSoFar (counts_of l.limits) (line_texts l.fn.mappings l.fn.ranges) l.number (with_range_bits (lines_left l.lines) (lines_left l.ranges)) l.tokens.items l.sums;
+  so_far : LinesSoFar (counts_of l.limits) (line_texts l.fn.mappings l.fn.ranges) l.number
+      (with_range_bits (lines_left l.lines) (lines_left l.ranges)) l.tokens.items l.sums;
   below : AllByRecursion (λ t. t.dst_line < l.number) l.tokens.items;
   table : IsLineTable l.tokens.items (length l.tokens.items) l.table;
   order : AreInOrderTo l.number (record l.sums { column = 0 }) l.tokens.items;

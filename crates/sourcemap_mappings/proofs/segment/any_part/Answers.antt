@@ -4,7 +4,8 @@ use Rattle.std.proofs.lemmas.Bool.Decides.{nat_tests}
 use Rattle.std.proofs.lemmas.Int.{to_z-of_z}
 use mir.Syntax.{w64}
 use Rattle.sourcemap_mappings.specs.Segment.{comma}
-use Rattle.sourcemap_mappings.proofs.SegmentLemmas.{read_none, read_more, HasFirstPart-last, HasFirstPart-comma, HasPartError-from}
+use Rattle.sourcemap_mappings.proofs.SegmentLemmas.{read_none, read_more, HasFirstPart-last, HasFirstPart-comma}
+use Rattle.sourcemap_mappings.proofs.SegmentLemmas.{HasPartError-from}
 use Rattle.sourcemap_mappings.proofs.segment.any_part.Goals as goal
 
 pub loop-first-init : goal.loop-first-init
@@ -20,14 +21,16 @@ pub loop-first-preserved : goal.loop-first-preserved
 loop-first-preserved c =
     let so_far = c.loop-first.invariant in
     let fits : FitsSigned w64 c.in-Ok.number = search rules in
-    read_more _ _ _ c.in-Ok.number _ so_far.0 so_far.1 c.in-Ok.ensures.number (simp to_z-of_z at (c.add_number.ensures so_far.0.numbers so_far.2))
+    read_more _ _ _ c.in-Ok.number _ so_far.0 so_far.1 c.in-Ok.ensures.number
+    (simp to_z-of_z at (c.add_number.ensures so_far.0.numbers so_far.2))
 
 pub returns-in-Err-clause-error : goal.returns-in-Err-clause-error
 returns-in-Err-clause-error c =
     let so_far = c.loop-first.invariant in
     let differs : (c.in-Some.first.now == comma) ≡ false = grind (arith, nat_tests) in
     rw c.error_in_part.ensures
-    (HasPartError-from _ _ c.in-Some.first.now c.in-Some.tail.now so_far.0 c.in-Err.error so_far.1 c.in-Some.ensures.cases.0 differs c.in-Err.ensures.error)
+    (HasPartError-from _ _ c.in-Some.first.now c.in-Some.tail.now so_far.0 c.in-Err.error so_far.1
+    c.in-Some.ensures.cases.0 differs c.in-Err.ensures.error)
 
 pub returns-clause-read : goal.returns-clause-read
 returns-clause-read c =

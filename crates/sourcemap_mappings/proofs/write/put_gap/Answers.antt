@@ -1,4 +1,5 @@
-use Rattle.std.proofs.Common.{◌≡◌, ℕ, ◌-◌, List, [], ◌∷◌, ◌++◌, Option, replicate, option_copied, string_bytes, take, false, cond, ap, sym, ◌∙◌, arith, append_assoc}
+use Rattle.std.proofs.Common.{◌≡◌, ℕ, ◌-◌, List, [], ◌∷◌, ◌++◌, Option, replicate, option_copied, string_bytes, take}
+use Rattle.std.proofs.Common.{false, cond, ap, sym, ◌∙◌, arith, append_assoc}
 use Rattle.std.proofs.lemmas.List.{take_more_set}
 use Rattle.sourcemap_tokens.specs.declared.tokens.RawToken.{RawToken}
 use Rattle.sourcemap_mappings.specs.Segment.{comma, semicolon}
@@ -6,10 +7,13 @@ use Rattle.sourcemap_mappings.specs.WriteSteps.{follows, gap}
 use Rattle.sourcemap_mappings.proofs.write.put_gap.Goals as goal
 
 -- if `follows previous t` is false, and the line of `t` is `line + 1`, then the gap before `t` is one `;`
-one_end : (previous : Option RawToken) (line : ℕ) (t : RawToken) → follows previous t ≡ false → t.dst_line - line ≡ 1 → gap previous line t ≡ semicolon ∷ []
-one_end previous line t off one = ap (λ b. cond b (comma ∷ []) (replicate (t.dst_line - line) semicolon)) off ∙ ap (λ (n : ℕ). replicate n semicolon) one
+one_end : (previous : Option RawToken) (line : ℕ) (t : RawToken) → follows previous t ≡ false → t.dst_line - line ≡ 1
+    → gap previous line t ≡ semicolon ∷ []
+one_end previous line t off one = ap (λ b. cond b (comma ∷ []) (replicate (t.dst_line - line) semicolon)) off
+    ∙ ap (λ (n : ℕ). replicate n semicolon) one
 
-tail : (text gathered now between : List ℕ) → now ≡ gathered ++ semicolon ∷ [] → between ≡ semicolon ∷ [] → text ++ now ≡ (text ++ gathered) ++ between
+tail : (text gathered now between : List ℕ) → now ≡ gathered ++ semicolon ∷ [] → between ≡ semicolon ∷ []
+    → text ++ now ≡ (text ++ gathered) ++ between
 tail text gathered now between is one =
     ap (λ xs. text ++ xs) (is ∙ ap (λ xs. gathered ++ xs) (sym one)) ∙ sym (append_assoc text gathered between)
 

@@ -8,7 +8,8 @@ returns-then-has_name-clause-text c =
     let source : has_source c.args.token.now ≡ true = cc in
     let name : has_name c.args.names c.args.token.now ≡ true = cc in
     named_added c.args.names c.args.against.now c.args.token.now _ _ _ _ _ _ source name
-    c.put_two-at.ensures.text c.put_one-at.ensures.text c.put_one-at-2.ensures.text c.put_two-at-2.ensures.text c.put_three-at.ensures.text
+    c.put_two-at.ensures.text c.put_one-at.ensures.text c.put_one-at-2.ensures.text c.put_two-at-2.ensures.text
+    c.put_three-at.ensures.text
 
 pub returns-else-has_name-clause-text : goal.returns-else-has_name-clause-text
 returns-else-has_name-clause-text c =

@@ -6,7 +6,8 @@ use Rattle.sourcemap_records.proofs.BytesLemmas.{record_of_json, no_json}
 use Rattle.sourcemap_records.proofs.bytes.read_record_owned.Goals as goal
 
 pub returns : goal.returns
-returns c = record_of_json c.args.bytes.items (view c.in_ok-value.value) c.in_ok-value.ensures tree c.from_owned.result c.from_owned.ensures
+returns c = record_of_json c.args.bytes.items (view c.in_ok-value.value) c.in_ok-value.ensures tree c.from_owned.result
+    c.from_owned.ensures
 
 pub returns-in_err-value : goal.returns-in_err-value
 returns-in_err-value c =

@@ -9,8 +9,11 @@ use Rattle.sourcemap_records.proofs.copy.copy_extra_keys.Goals as goal
 pub returns : goal.returns
 returns c =
     let old = out-RawSourceMap c.args.whole.now in
-    let numbers = sym (same_items (λ n. n) (λ n. refl) old.ignore_list) ∙ ok_injective c.in_ok-ignore_list.ensures ∙ same_items (λ n. n) (λ n. refl) c.in_ok-ignore_list.ignore_list in
-    let offsets = sym (same_items (option_map (λ n. n)) option_map_id old.x_facebook_offsets) ∙ ok_injective c.in_ok-x_facebook_offsets.ensures ∙ same_items (option_map (λ n. n)) option_map_id c.in_ok-x_facebook_offsets.x_facebook_offsets in
+    let numbers = sym (same_items (λ n. n) (λ n. refl) old.ignore_list) ∙ ok_injective c.in_ok-ignore_list.ensures
+    ∙ same_items (λ n. n) (λ n. refl) c.in_ok-ignore_list.ignore_list in
+    let offsets = sym (same_items (option_map (λ n. n)) option_map_id old.x_facebook_offsets)
+    ∙ ok_injective c.in_ok-x_facebook_offsets.ensures
+    ∙ same_items (option_map (λ n. n)) option_map_id c.in_ok-x_facebook_offsets.x_facebook_offsets in
     let paths = ok_injective c.in_ok-x_metro_module_paths.ensures in
     let scopes = ok_injective c.in_ok-x_facebook_sources.ensures in
     ap Ok (ap extra_keys_of (flat-tree c.args.whole.now)

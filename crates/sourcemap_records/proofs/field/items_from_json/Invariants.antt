@@ -8,4 +8,5 @@ use Rattle.sourcemap_records.proofs.field.items_from_json.Given as goal
 abbrev pub invariant-loop-item : goal.invariant-loop-item
 invariant-loop-item g l =
     items_read g.T.Field.reading (items_view l.fn.items.items)
-    ≡ with (items_read g.T.Field.reading (items_view (into_iter_items l.item-iterator))) (λ rest. Some (map g.T.Field.see l.fields.items ++ rest))
+    ≡ with (items_read g.T.Field.reading (items_view (into_iter_items l.item-iterator)))
+    (λ rest. Some (map g.T.Field.see l.fields.items ++ rest))

@@ -6,8 +6,10 @@ use Rattle.sourcemap_records.proofs.FieldLemmas.{remove_other}
 use Rattle.sourcemap_records.proofs.field.remove_value.Goals as goal
 
 pub returns-clause-value : goal.returns-clause-value
-returns-clause-value c = ap (option_map view) c.remove.ensures.value ∙ view-lookup c.args.key.now c.args.members.now.entries
+returns-clause-value c =
+    ap (option_map view) c.remove.ensures.value ∙ view-lookup c.args.key.now c.args.members.now.entries
 
 pub returns-clause-others : goal.returns-clause-others
 returns-clause-others c other apart =
-    ap (λ es. get_member other (members_view es)) c.remove.ensures.entries ∙ remove_other c.args.key.now other c.args.members.now.entries apart
+    ap (λ es. get_member other (members_view es)) c.remove.ensures.entries
+    ∙ remove_other c.args.key.now other c.args.members.now.entries apart

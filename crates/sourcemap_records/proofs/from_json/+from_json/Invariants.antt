@@ -27,6 +27,8 @@ decreases-read_section_map l = 2 * depth_in (option_map view l.value) + 1
 -- items are at most as deep as all items
 abbrev pub invariant-read_section_list-loop-item : goal.invariant-read_section_list-loop-item
 invariant-read_section_list-loop-item l = record {
-  read : sections_read (items_view l.fn.items.items) ≡ with (sections_read (items_view (into_iter_items l.item-iterator))) (λ more. Some (before (map section l.sections.items) more));
+  read : sections_read (items_view l.fn.items.items)
+      ≡ with (sections_read (items_view (into_iter_items l.item-iterator)))
+      (λ more. Some (before (map section l.sections.items) more));
   depth : items_depth (items_view (into_iter_items l.item-iterator)) ≤ items_depth (items_view l.fn.items.items);
 }

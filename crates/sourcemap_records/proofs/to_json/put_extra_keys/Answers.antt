@@ -18,6 +18,10 @@ returns-clause-ok c =
 
 pub returns-clause-in_range : goal.returns-clause-in_range
 returns-clause-in_range c =
-    let ids = subst (λ v. IfSome v (AllByRecursion FitsU32)) (same_items (λ n. n) (λ n. refl) c.args.extra_keys.ignore_list) c.in_ok-put_field.ensures.in_range in
-    let offsets = subst (λ v. IfSome v (AllByRecursion (λ n. IfSome n FitsU32))) (same_items (option_map (λ n. n)) option_map_id c.args.extra_keys.x_facebook_offsets) c.in_ok-put_field-2.ensures.in_range in
-    elim c.put_field-4.result as (λ r. OnOk r (AreExtraKeysInRange (extra_keys_view c.args.extra_keys))) [ Ok _ ↦ (ids, offsets) | Err _ ↦ tt ]
+    let ids = subst (λ v. IfSome v (AllByRecursion FitsU32))
+    (same_items (λ n. n) (λ n. refl) c.args.extra_keys.ignore_list) c.in_ok-put_field.ensures.in_range in
+    let offsets = subst (λ v. IfSome v (AllByRecursion (λ n. IfSome n FitsU32)))
+    (same_items (option_map (λ n. n)) option_map_id c.args.extra_keys.x_facebook_offsets)
+    c.in_ok-put_field-2.ensures.in_range in
+    elim c.put_field-4.result as (λ r. OnOk r (AreExtraKeysInRange (extra_keys_view c.args.extra_keys)))
+    [ Ok _ ↦ (ids, offsets) | Err _ ↦ tt ]

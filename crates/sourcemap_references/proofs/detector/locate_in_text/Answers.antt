@@ -9,7 +9,8 @@ pub returns-in-Marked-clause-value : goal.returns-in-Marked-clause-value
 returns-in-Marked-clause-value c =
     decided c.args.text.now c.range.result.now c.range_from.result.now c.in-Marked.line c.reference_on_line.result
     (subst (λ xs. IsFirstMarked xs c.in-Marked.line) c.as_bytes.ensures.value c.in-Marked.ensures.marked)
-    (c.range.ensures.value ∙ range_from_start c.args.text.now c.in-Marked.line.end) c.range.utf8 c.range_from.ensures.value c.reference_on_line.ensures
+    (c.range.ensures.value ∙ range_from_start c.args.text.now c.in-Marked.line.end) c.range.utf8
+    c.range_from.ensures.value c.reference_on_line.ensures
 
 pub returns-in-Unmarked-clause-value : goal.returns-in-Unmarked-clause-value
 returns-in-Unmarked-clause-value c =

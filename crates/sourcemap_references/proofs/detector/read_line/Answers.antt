@@ -11,4 +11,5 @@ returns-then-is_empty g c =
 pub returns : goal.returns
 returns g c =
     reads_line _ _ _ _ _ c.clear.ensures.items c.in_ok-read_until.ensures.bytes c.in_ok-read_until.ensures.rest
-    (let is = c.if-is_empty.ensures in let fits = c.read_until.new.buf.ok.0 in grind (arith, nat_tests)) c.strip_newline.ensures
+    (let is = c.if-is_empty.ensures in let fits = c.read_until.new.buf.ok.0 in
+    grind (arith, nat_tests)) c.strip_newline.ensures

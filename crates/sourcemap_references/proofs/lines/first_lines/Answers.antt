@@ -7,13 +7,16 @@ loop-least-init c = passed-start c.args.bytes.now
 
 pub returns-then-has_mark-clause-marked : goal.returns-then-has_mark-clause-marked
 returns-then-has_mark-clause-marked c =
-    decides c.args.bytes.now _ c.loop-least.invariant c.line_end-end.ensures (sym c.has_mark.ensures ∙ c.if-has_mark.true)
+    decides c.args.bytes.now _ c.loop-least.invariant c.line_end-end.ensures
+    (sym c.has_mark.ensures ∙ c.if-has_mark.true)
 
 pub returns-then-end-least-clause-unmarked : goal.returns-then-end-least-clause-unmarked
 returns-then-end-least-clause-unmarked c =
-    unmarked c.args.bytes.now c.loop-least.start _ c.loop-least.invariant c.line_end-end.ensures (sym c.has_mark.ensures ∙ c.if-has_mark.false)
+    unmarked c.args.bytes.now c.loop-least.start _ c.loop-least.invariant c.line_end-end.ensures
+    (sym c.has_mark.ensures ∙ c.if-has_mark.false)
 
 pub loop-least-preserved : goal.loop-least-preserved
 loop-least-preserved c =
-    passed-line c.args.bytes.now c.loop-least.start _ c.loop-least.invariant c.line_end-end.ensures (sym c.has_mark.ensures ∙ c.if-has_mark.false)
+    passed-line c.args.bytes.now c.loop-least.start _ c.loop-least.invariant c.line_end-end.ensures
+    (sym c.has_mark.ensures ∙ c.if-has_mark.false)
     (let few = c.requires in omega (arith, few, c.if-end-least.false))

@@ -14,4 +14,6 @@ overflow_add-units c =
 pub returns-clause-offset : goal.returns-clause-offset
 returns-clause-offset c =
     let ahead = c.in_ok-end.ensures.ahead in
-    offset-ahead c.args.line.now c.args.at.offset c.args.at.units c.in_ok-end.end c.units_in.result c.utf8.line c.requires c.in_ok-end.ensures.boundary (omega (arith, ahead)) (c.units_in.ensures.value ∙ ap (λ t. width (chars t)) c.range.ensures.value)
+    offset-ahead c.args.line.now c.args.at.offset c.args.at.units
+    c.in_ok-end.end c.units_in.result c.utf8.line c.requires c.in_ok-end.ensures.boundary (omega (arith, ahead))
+    (c.units_in.ensures.value ∙ ap (λ t. width (chars t)) c.range.ensures.value)

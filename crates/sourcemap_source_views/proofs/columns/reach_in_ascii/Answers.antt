@@ -8,7 +8,8 @@ pub returns-clause-value : goal.returns-clause-value
 returns-clause-value c = (ascii-offset c.args.line.now c.args.col c.utf8.line c.if-col-line.false c.requires).offset
 
 pub returns-clause-boundary : goal.returns-clause-boundary
-returns-clause-boundary c = (ascii-offset c.args.line.now c.args.col c.utf8.line c.if-col-line.false c.requires).boundary
+returns-clause-boundary c =
+    (ascii-offset c.args.line.now c.args.col c.utf8.line c.if-col-line.false c.requires).boundary
 
 pub returns-clause-units : goal.returns-clause-units
 returns-clause-units c = (ascii-offset c.args.line.now c.args.col c.utf8.line c.if-col-line.false c.requires).units

@@ -11,4 +11,5 @@ returns-clause-rest c =
 pub returns-clause-boundary : goal.returns-clause-boundary
 returns-clause-boundary c =
     let is = c.trim_start.ensures.value in
-    IsCharBoundary-from_drop c.args.text.now _ (omega arith) (subst IsUtf8 (sym (suffix_at c.args.text.now c.trim_start.result.now is.0 is.1 is.4)) c.trim_start.utf8)
+    IsCharBoundary-from_drop c.args.text.now _ (omega arith)
+    (subst IsUtf8 (sym (suffix_at c.args.text.now c.trim_start.result.now is.0 is.1 is.4)) c.trim_start.utf8)

@@ -5,7 +5,8 @@ use Rattle.sourcemap_source_views.proofs.js_identifiers.parts_length.Goals as go
 
 pub returns-then-not-continues_identifier-clause-value : goal.returns-then-not-continues_identifier-clause-value
 returns-then-not-continues_identifier-clause-value c =
-    let stop = passing-end is_part _ _ _ c.loop-offset.invariant.utf8 c.in-Some.ensures.steps.1 (sym c.continues_identifier.ensures ∙ c.if-not-continues_identifier.true) in
+    let stop = passing-end is_part _ _ _ c.loop-offset.invariant.utf8 c.in-Some.ensures.steps.1
+    (sym c.continues_identifier.ensures ∙ c.if-not-continues_identifier.true) in
     let at = c.in-Some.ensures.steps.0 in
     let left = c.loop-offset.invariant.left in
     omega (arith, stop, at, left)
@@ -13,7 +14,8 @@ returns-then-not-continues_identifier-clause-value c =
 pub loop-offset-preserved : goal.loop-offset-preserved
 loop-offset-preserved c =
     let step = c.in-Some.ensures.steps in
-    Passed-step is_part c.args.text.now _ _ _ _ _ step.1 step.2 (sym c.continues_identifier.ensures ∙ c.if-not-continues_identifier.false) c.loop-offset.invariant
+    Passed-step is_part c.args.text.now _ _ _ _ _ step.1 step.2
+    (sym c.continues_identifier.ensures ∙ c.if-not-continues_identifier.false) c.loop-offset.invariant
 
 pub returns-clause-value : goal.returns-clause-value
 returns-clause-value c =

@@ -3,4 +3,8 @@ use Rattle.sourcemap_source_views.proofs.lines.lines_make_their_text.Goals as go
 
 pub returns : goal.returns
 returns c =
-    record { joined = joined-lines_of c.args.text.now; counted = count-lines_of c.args.text.now; uncut = uncut-lines_of c.args.text.now }
+    record {
+      joined = joined-lines_of c.args.text.now;
+      counted = count-lines_of c.args.text.now;
+      uncut = uncut-lines_of c.args.text.now;
+    }

@@ -7,7 +7,8 @@ abbrev pub invariant-loop-low : goal.invariant-loop-low
 invariant-loop-low g l = record {
   ordered : l.low ≤ l.high;
   within : l.high ≤ length l.slice;
-  bracket : (key_of : _) → GivesKey (λ x k. g.F.Fn.post l.map (x, tt) k) key_of → IsBracket key_of g.K.Ord.cmp l.slice l.key l.low l.high;
+  bracket : (key_of : _) → GivesKey (λ x k. g.F.Fn.post l.map (x, tt) k) key_of
+      → IsBracket key_of g.K.Ord.cmp l.slice l.key l.low l.high;
 }
 
 abbrev pub decreases-loop-low : goal.decreases-loop-low

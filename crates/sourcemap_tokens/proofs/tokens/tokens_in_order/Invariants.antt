@@ -8,5 +8,6 @@ abbrev pub invariant-loop-token : goal.invariant-loop-token
 invariant-loop-token l = record {
   start : l.token-index ≡ 0 → ◌≡◌ {A = ℕ × ℕ} (l.line, l.col) (0, 0);
   last : (d : RawToken) → 0 < l.token-index → destination (get_or l.tokens (l.token-index - 1) d) ≡ (l.line, l.col);
-  so_far : (k : ℕ) (d : RawToken) → k + 1 < l.token-index → is_lt (position_cmp (destination (get_or l.tokens (k + 1) d)) (destination (get_or l.tokens k d))) ≡ false;
+  so_far : (k : ℕ) (d : RawToken) → k + 1 < l.token-index
+      → is_lt (position_cmp (destination (get_or l.tokens (k + 1) d)) (destination (get_or l.tokens k d))) ≡ false;
 }

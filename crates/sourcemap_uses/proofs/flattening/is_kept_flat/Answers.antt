@@ -17,7 +17,8 @@ returns-clause-exact c = λ order. (
   c.in_ok-flat.flat,
   c.in_ok-flat.ensures.answer,
   decided (index_tree (index_value c.args.index.now)) c.in_ok-flat.flat (c.args.line, c.args.col) c.keeps_meaning.result
-      (option_map meaning_of_token c.lookup_token-before.result) (option_map meaning_of_token c.lookup_token-after.result)
+      (option_map meaning_of_token c.lookup_token-before.result)
+      (option_map meaning_of_token c.lookup_token-after.result)
       (c.lookup_token-before.ensures.meaning order) c.lookup_token-after.ensures.meaning c.keeps_meaning.ensures,
 )
 

@@ -16,4 +16,5 @@ returns-in-Ok-clause-name c =
     (λ name is. (h, c.in-Ok.ensures.answer, is)) c.name_at.ensures.name
 
 pub returns-in-Ok-clause-error : goal.returns-in-Ok-clause-error
-returns-in-Ok-clause-error c = memory_refused (λ e. BytesHaveResult RecordDecodesAsHermes c.args.bytes.now (Err e)) c.name_at.result c.name_at.ensures.memory
+returns-in-Ok-clause-error c = memory_refused (λ e. BytesHaveResult RecordDecodesAsHermes c.args.bytes.now
+    (Err e)) c.name_at.result c.name_at.ensures.memory

@@ -19,18 +19,21 @@ loop-source-preserved c =
 
 pub returns-clause-added : goal.returns-clause-added
 returns-clause-added c =
-    whole_added c.args.builder.now c.loop-source.builder (sources_left c.loop-source.source-iterator) (resolved_sources c.args.map.now)
+    whole_added c.args.builder.now c.loop-source.builder (sources_left c.loop-source.source-iterator)
+    (resolved_sources c.args.map.now)
     c.loop-source.invariant c.in-None.ensures.steps.0
 
 pub returns-in_err-add_source-clause-stopped : goal.returns-in_err-add_source-clause-stopped
 returns-in_err-add_source-clause-stopped c =
     let p = err_from_is_err_and c.from_residual.result c.from_residual.ensures.1 in
-    rw p.1 (stopped_so c.args.builder.now c.loop-source.builder c.add_source.new.self (sources_left c.loop-source.source-iterator)
+    rw p.1 (stopped_so c.args.builder.now c.loop-source.builder c.add_source.new.self
+    (sources_left c.loop-source.source-iterator)
     (resolved_sources c.args.map.now) c.loop-source.invariant c.in_err-add_source.ensures.err)
 
 pub returns-in_err-add_source-clause-error : goal.returns-in_err-add_source-clause-error
 returns-in_err-add_source-clause-error c =
     let p = err_from_is_err_and c.from_residual.result c.from_residual.ensures.1 in
     rw (p.1, p.2) (stopped_why c.args.builder.now c.loop-source.builder c.in-Some.source.now
-    (sources_left c.loop-source.source-iterator) (sources_left c.next.new.self) (resolved_sources c.args.map.now) c.in_err-add_source.field-0.0
+    (sources_left c.loop-source.source-iterator) (sources_left c.next.new.self)
+    (resolved_sources c.args.map.now) c.in_err-add_source.field-0.0
     c.loop-source.invariant c.in-Some.ensures.steps c.in_err-add_source.ensures.id)

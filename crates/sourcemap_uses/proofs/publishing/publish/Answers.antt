@@ -11,7 +11,8 @@ returns-clause-published g c =
     let m = c.in_ok-map.map in
     let bare = c.in_ok-bare.bare in
     let options = record c.default.result { with_names = false; with_source_contents = false } in
-    let is = bare_due options m bare refl refl c.default.ensures.no_files c.default.ensures.no_prefixes c.in_ok-bare.ensures.value in
+    let is = bare_due options m bare refl refl c.default.ensures.no_files c.default.ensures.no_prefixes
+    c.in_ok-bare.ensures.value in
     let less = but_details options m bare refl refl c.default.ensures.no_prefixes c.in_ok-bare.ensures.meaning in
     let text = c.in_ok-text.text.items in
     let well = c.in_ok-bare.ensures.well_formed c.in_ok-map.ensures.well_formed in
@@ -28,10 +29,12 @@ returns-in_err-bare-clause-error g c =
     let options = record c.default.result { with_names = false; with_source_contents = false } in
     let e = c.in_err-bare.field-0.0 in
     let p = err_from_is_err_and c.from_residual-in_err-bare.result c.from_residual-in_err-bare.ensures.1 in
-    rw (p.1, p.2) (bare_refused options e (BytesHaveResult RegularDecodes c.args.bytes.now (Err e)) c.default.ensures.no_files c.in_err-bare.ensures.value)
+    rw (p.1, p.2) (bare_refused options e
+    (BytesHaveResult RegularDecodes c.args.bytes.now (Err e)) c.default.ensures.no_files c.in_err-bare.ensures.value)
 
 pub returns-in_err-text-clause-error : goal.returns-in_err-text-clause-error
 returns-in_err-text-clause-error g c =
     let e = c.in_err-text.field-0.0 in
     let p = err_from_is_err_and c.from_residual-in_err-text.result c.from_residual-in_err-text.ensures.1 in
-    rw (p.1, p.2) (unwritten c.in_ok-bare.bare e (BytesHaveResult RegularDecodes c.args.bytes.now (Err e)) c.in_err-text.ensures.error)
+    rw (p.1, p.2) (unwritten c.in_ok-bare.bare e
+    (BytesHaveResult RegularDecodes c.args.bytes.now (Err e)) c.in_err-text.ensures.error)

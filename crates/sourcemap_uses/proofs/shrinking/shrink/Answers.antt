@@ -11,20 +11,25 @@ returns-clause-whole g c =
     (c.default_rewriting_is_final.ensures.default c.default.result c.default.ensures) c.rewrite.ensures.value
 
 pub returns-clause-root : goal.returns-clause-root
-returns-clause-root g c = whole_so (λ small. small.root ≡ None) c.rewrite.result (rewritten no_removal c.args.map) (returns-clause-whole g c) refl
+returns-clause-root g c = whole_so (λ small. small.root
+    ≡ None) c.rewrite.result (rewritten no_removal c.args.map) (returns-clause-whole g c) refl
 
 pub returns-clause-sources : goal.returns-clause-sources
 returns-clause-sources g c =
-    whole_so (λ small. small.sources ≡ used_sources c.args.map) c.rewrite.result (rewritten no_removal c.args.map) (returns-clause-whole g c) (sources_uncut c.args.map)
+    whole_so (λ small. small.sources ≡ used_sources c.args.map) c.rewrite.result (rewritten no_removal c.args.map)
+    (returns-clause-whole g c) (sources_uncut c.args.map)
 
 pub returns-clause-names : goal.returns-clause-names
 returns-clause-names g c =
-    whole_so (λ small. small.names ≡ used_names c.args.map) c.rewrite.result (rewritten no_removal c.args.map) (returns-clause-whole g c) refl
+    whole_so (λ small. small.names ≡ used_names c.args.map) c.rewrite.result (rewritten no_removal c.args.map)
+    (returns-clause-whole g c) refl
 
 pub returns-clause-last : goal.returns-clause-last
 returns-clause-last g c =
-    whole_so (λ small. rewritten no_removal small ≡ small) c.rewrite.result (rewritten no_removal c.args.map) (returns-clause-whole g c)
+    whole_so (λ small. rewritten no_removal small ≡ small) c.rewrite.result (rewritten no_removal c.args.map)
+    (returns-clause-whole g c)
     (c.default_rewriting_is_final.ensures.twice c.args.map (omega arith) (omega arith))
 
 pub returns-clause-memory : goal.returns-clause-memory
-returns-clause-memory g c = default_memory c.default.result c.args.map c.rewrite.result c.default.ensures c.rewrite.ensures.value
+returns-clause-memory g c =
+    default_memory c.default.result c.args.map c.rewrite.result c.default.ensures c.rewrite.ensures.value

@@ -1,4 +1,5 @@
-use Rattle.std.proofs.Common.{◌≡◌, ◌+◌, ◌*◌, ◌%◌, ◌<◌, ◌≤◌, Some, length, get_or, drop, sym, ◌∙◌, ap, arith, to_z, of_z, w64}
+use Rattle.std.proofs.Common.{◌≡◌, ◌+◌, ◌*◌, ◌%◌, ◌<◌, ◌≤◌, Some, length, get_or, drop, sym, ◌∙◌, ap, arith, to_z, of_z}
+use Rattle.std.proofs.Common.{w64}
 use Rattle.std.proofs.lemmas.List.{take_rest}
 use Rattle.std.proofs.lemmas.Int.{ints}
 use Rattle.sourcemap_vlq.specs.Vlq.{BeginsWith, number_of, digit_value}
@@ -15,8 +16,10 @@ returns c =
     let second : digit_value (get_or text 1 0) ≡ Some high = sym c.value_of_digit-2.ensures ∙ c.in_ok-high.was in
     let goes : 32 ≤ low = omega arith in
     let last : high < 32 = omega arith in
-    let begins : BeginsWith text (number_of (low % 32 + 32 * high)) (drop 2 text) = BeginsWith-second text low high two first goes second last in
+    let begins : BeginsWith text (number_of (low % 32 + 32 * high)) (drop 2 text) =
+    BeginsWith-second text low high two first goes second last in
     let raw : c.from.result + 32 * c.from-2.result ≡ low % 32 + 32 * high = omega arith in
-    let is_number : c.number_from.result ≡ number_of (low % 32 + 32 * high) = c.number_from.ensures ∙ ap number_of raw in
+    let is_number : c.number_from.result ≡ number_of (low % 32 + 32 * high) =
+    c.number_from.ensures ∙ ap number_of raw in
     let whole : to_z w64 (of_z w64 c.number_from.result) ≡ c.number_from.result = omega (arith, ints) in
     rw (whole, is_number, take_rest text 2) begins

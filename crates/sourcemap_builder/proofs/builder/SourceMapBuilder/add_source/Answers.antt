@@ -8,11 +8,18 @@ use Rattle.sourcemap_builder.proofs.builder.SourceMapBuilder.add_source.Goals as
 
 pub returns-clause-ok : goal.returns-clause-ok
 returns-clause-ok c =
-    let current = with_changes-with_text (contents_in c.self.inside.changed) c.self.inside.interned c.args.source.now c.self.invariant in
+    let current = with_changes-with_text
+    (contents_in c.self.inside.changed) c.self.inside.interned c.args.source.now c.self.invariant in
     on_ok c.add.result
     (λ e. rw (← c.self.view_is)
-    (ap (λ interned. record (builder_value c.self.inside) { interned = interned; sources = with_changes (contents_in c.self.inside.changed) interned }) e
-    ∙ ap (λ sources. record (builder_value c.self.inside) { interned = with_text c.self.inside.interned c.args.source.now; sources = sources }) current))
+    (ap (λ interned. record (builder_value c.self.inside) {
+      interned = interned;
+      sources = with_changes (contents_in c.self.inside.changed) interned;
+    }) e
+    ∙ ap (λ sources. record (builder_value c.self.inside) {
+      interned = with_text c.self.inside.interned c.args.source.now;
+      sources = sources;
+    }) current))
     c.add.ensures.texts
 
 pub returns-clause-in_range : goal.returns-clause-in_range

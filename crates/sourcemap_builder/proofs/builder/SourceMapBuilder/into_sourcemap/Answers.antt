@@ -11,4 +11,5 @@ returns-clause-value c = search rules
 pub returns-clause-well_formed : goal.returns-clause-well_formed
 returns-clause-well_formed c = λ within.
     let b = c.args.self in
-    given-well (Ok c.of_parts.result) (built b) (returns-clause-value c) (AllWithin-in_order (length b.sources) (length b.names) b.tokens within)
+    given-well (Ok c.of_parts.result) (built b) (returns-clause-value c)
+    (AllWithin-in_order (length b.sources) (length b.names) b.tokens within)

@@ -16,6 +16,8 @@ returns c =
     subst (λ n. c.args.id < n) (length-with_changes (contents_in c.self.inside.changed) c.self.inside.interned)
     (subst (λ b. c.args.id < length b.sources) (sym c.self.view_is) c.requires) in
     rw (← c.self.view_is) (ap (λ sources. record (builder_value c.self.inside) { sources = sources })
-    (current-put (contents_in c.self.inside.changed) (contents_in c.put.new.items) c.self.inside.interned c.args.id c.len-count.result
+    (current-put (contents_in c.self.inside.changed)
+    (contents_in c.put.new.items) c.self.inside.interned c.args.id c.len-count.result
     (string_bytes c.in_ok-source.source) c.args.source.now c.len-count.ensures.count c.in_ok-source.ensures.ok here
-    (map-put string_bytes c.len-count.result c.args.id (Some c.in_ok-source.source) c.self.inside.changed.items c.put.new.items.items c.in_ok-put.ensures)))
+    (map-put string_bytes c.len-count.result c.args.id
+    (Some c.in_ok-source.source) c.self.inside.changed.items c.put.new.items.items c.in_ok-put.ensures)))

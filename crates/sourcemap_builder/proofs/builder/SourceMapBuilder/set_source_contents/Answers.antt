@@ -13,7 +13,8 @@ set-requires c =
 
 pub returns : goal.returns
 returns c =
-    let same = c.len-count.ensures.count ∙ sym (length-with_changes (contents_in c.self.inside.changed) c.self.inside.interned) in
+    let same =
+    c.len-count.ensures.count ∙ sym (length-with_changes (contents_in c.self.inside.changed) c.self.inside.interned) in
     rw (← c.self.view_is) (ap (λ contents. record (builder_value c.self.inside) { contents = contents })
     (contents-put c.self.inside.contents c.set.new.self c.len-count.result
     (length (with_changes (contents_in c.self.inside.changed) c.self.inside.interned)) c.args.id

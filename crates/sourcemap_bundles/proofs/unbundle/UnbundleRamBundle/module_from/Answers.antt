@@ -4,7 +4,8 @@ use Rattle.sourcemap_bundles.proofs.unbundle.UnbundleRamBundle.module_from.Goals
 
 pub returns-in_err-id-clause-least : goal.returns-in_err-id-clause-least
 returns-in_err-id-clause-least c = λ id from _.
-    no_more_files c.args.self.now c.args.from c.range.result c.in_err-id.ensures.steps.0 (c.range.ensures.in_range tt) id from
+    no_more_files c.args.self.now c.args.from c.range.result c.in_err-id.ensures.steps.0 (c.range.ensures.in_range tt)
+    id from
 
 pub returns-clause-found : goal.returns-clause-found
 returns-clause-found c =

@@ -7,7 +7,8 @@ use Rattle.sourcemap_headers.proofs.header_reader.StripHeaderReader.read_header_
 pub returns-then-junk_len-count : goal.returns-then-junk_len-count
 returns-then-junk_len-count g c =
     let outputs =
-    outputs_end _ _ _ (take c.in_ok-count.count c.read.new.buf) [] c.in-Ends.junk_len c.in_ok-count.ensures.bytes.0 (c.in-Ends.ensures.junk c.requires.in_header)
+    outputs_end _ _ _ (take c.in_ok-count.count c.read.new.buf) [] c.in-Ends.junk_len c.in_ok-count.ensures.bytes.0
+    (c.in-Ends.ensures.junk c.requires.in_header)
     (nothing_after c.in_ok-count.count c.in-Ends.junk_len c.read.new.buf c.if-junk_len-count.true) in
     search (rules, outputs)
 
@@ -21,8 +22,14 @@ pub returns-else-junk_len-count : goal.returns-else-junk_len-count
 returns-else-junk_len-count g c = record {
   bound = search rules;
   outputs =
-      outputs_end _ _ _ (take c.in_ok-count.count c.read.new.buf) _ c.in-Ends.junk_len c.in_ok-count.ensures.bytes.0 (c.in-Ends.ensures.junk c.requires.in_header)
-      (rotated c.in_ok-count.count c.in-Ends.junk_len c.read.new.buf c.rotate_left.new.self _ (c.in_ok-count.ensures.bound.0) (omega (arith, c.in-Ends.ensures.within, length-take-le c.in_ok-count.count c.read.new.buf c.in_ok-count.ensures.bound.0)) c.rotate_left.ensures.after);
+      outputs_end _ _ _ (take c.in_ok-count.count c.read.new.buf) _ c.in-Ends.junk_len c.in_ok-count.ensures.bytes.0
+      (c.in-Ends.ensures.junk c.requires.in_header)
+      (rotated c.in_ok-count.count c.in-Ends.junk_len c.read.new.buf c.rotate_left.new.self _
+      (c.in_ok-count.ensures.bound.0) (omega (
+        arith,
+        c.in-Ends.ensures.within,
+        length-take-le c.in_ok-count.count c.read.new.buf c.in_ok-count.ensures.bound.0,
+      )) c.rotate_left.ensures.after);
   end = search rules;
   sound = search rules;
   known = search rules;
@@ -31,6 +38,11 @@ returns-else-junk_len-count g c = record {
 
 pub returns-in-IsInvalid : goal.returns-in-IsInvalid
 returns-in-IsInvalid g c =
-    let in_buffer : ContainsInvalidHeader c.read.new.buf =
-    (c.args.self.now.state, c.in_ok-count.count, c.requires.in_header, c.in_ok-count.ensures.bound.0, c.in-IsInvalid.ensures.junk c.requires.in_header) in
+    let in_buffer : ContainsInvalidHeader c.read.new.buf = (
+      c.args.self.now.state,
+      c.in_ok-count.count,
+      c.requires.in_header,
+      c.in_ok-count.ensures.bound.0,
+      c.in-IsInvalid.ensures.junk c.requires.in_header,
+    ) in
     search (rules, in_buffer)

@@ -7,4 +7,5 @@ use Rattle.sourcemap_hermes.proofs.map.SourceMapHermes.from_slice.Goals as goal
 
 pub returns-clause-only : goal.returns-clause-only
 returns-clause-only c =
-    bytes_only hermes_value RecordDecodesAsHermes only_once c.args.bytes.now c.hermes_in.result c.hermes_in.ensures.answer
+    bytes_only hermes_value RecordDecodesAsHermes only_once c.args.bytes.now c.hermes_in.result
+    c.hermes_in.ensures.answer

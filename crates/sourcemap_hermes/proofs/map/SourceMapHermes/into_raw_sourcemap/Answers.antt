@@ -6,5 +6,6 @@ use Rattle.sourcemap_hermes.proofs.map.SourceMapHermes.into_raw_sourcemap.Goals 
 
 pub returns : goal.returns
 returns c =
-    scoped_answer (hermes_value c.args.self) (tree c.in_ok-raw.raw) (tree c.with_scopes.result) (entries_in c.into_entries.result)
+    scoped_answer (hermes_value c.args.self) (tree c.in_ok-raw.raw) (tree c.with_scopes.result)
+    (entries_in c.into_entries.result)
     c.with_scopes.ensures c.into_entries.ensures.entries c.in_ok-raw.ensures

@@ -9,8 +9,10 @@ use Rattle.sourcemap_hermes.proofs.map.SourceMapHermes.rewrite.Goals as goal
 pub select-requires : goal.select-requires
 select-requires g c =
     let h : HermesValue = hermes_value c.args.self in
-    let few : length h.map.sources ≤ 4294967295 = omega (arith, c.get_source_count.ensures, c.get_source_count.type_inv) in
-    subst (λ (ids : List ℕ). length ids ≤ 4294967295) (sym (c.as_slice.ensures.value ∙ c.in_ok-sm.ensures.ids)) (few_ids (removal_of c.args.options.now) h few)
+    let few : length h.map.sources ≤ 4294967295 =
+    omega (arith, c.get_source_count.ensures, c.get_source_count.type_inv) in
+    subst (λ (ids : List ℕ). length ids ≤ 4294967295) (sym (c.as_slice.ensures.value ∙ c.in_ok-sm.ensures.ids))
+    (few_ids (removal_of c.args.options.now) h few)
 
 pub returns-clause-value : goal.returns-clause-value
 returns-clause-value g c =
@@ -22,11 +24,14 @@ returns-clause-value g c =
 pub returns-clause-well_formed : goal.returns-clause-well_formed
 returns-clause-well_formed g c well =
     let h : HermesValue = hermes_value c.args.self in
-    let few : length h.map.sources ≤ 4294967295 = omega (arith, c.get_source_count.ensures, c.get_source_count.type_inv) in
-    answer_well_formed c.args.options.now h _ few (returns-clause-value g c) well (c.in_ok-sm.ensures.well_formed well.map)
+    let few : length h.map.sources ≤ 4294967295 =
+    omega (arith, c.get_source_count.ensures, c.get_source_count.type_inv) in
+    answer_well_formed c.args.options.now h _ few (returns-clause-value g c) well
+    (c.in_ok-sm.ensures.well_formed well.map)
 
 pub returns-clause-scopes : goal.returns-clause-scopes
 returns-clause-scopes g c well distinct =
     let h : HermesValue = hermes_value c.args.self in
-    let few : length h.map.sources ≤ 4294967295 = omega (arith, c.get_source_count.ensures, c.get_source_count.type_inv) in
+    let few : length h.map.sources ≤ 4294967295 =
+    omega (arith, c.get_source_count.ensures, c.get_source_count.type_inv) in
     answer_keeps_scopes c.args.options.now h _ few (returns-clause-value g c) well distinct

@@ -8,13 +8,15 @@ use Rattle.sourcemap_index.proofs.family.SourceMapIndex.flatten_and_rewrite.Goal
 
 pub returns-clause-means : goal.returns-clause-means
 returns-clause-means g c =
-    if_ok_then c.rewrite.result (λ m less. (c.in_ok-flat.flat, c.in_ok-flat.ensures.answer, less)) c.rewrite.ensures.meaning
+    if_ok_then c.rewrite.result (λ m less. (c.in_ok-flat.flat, c.in_ok-flat.ensures.answer, less))
+    c.rewrite.ensures.meaning
 
 pub returns-clause-meaning : goal.returns-clause-meaning
 returns-clause-meaning g c =
     let t : MapTree = index_tree (index_value c.args.self) in
     if_ok_then c.rewrite.result
-    (λ m less orderly. answers_less t c.in_ok-flat.flat m (c.in_ok-flat.ensures.meaning orderly) (removal_of c.args.options.now) c.in_ok-flat.ensures.answer less)
+    (λ m less orderly. answers_less t c.in_ok-flat.flat m (c.in_ok-flat.ensures.meaning orderly)
+    (removal_of c.args.options.now) c.in_ok-flat.ensures.answer less)
     c.rewrite.ensures.meaning
 
 pub returns-clause-same : goal.returns-clause-same

@@ -9,7 +9,8 @@ use Rattle.sourcemap_index.proofs.family.SourceMapIndex.from_reader.Goals as goa
 
 pub returns-clause-answer : goal.returns-clause-answer
 returns-clause-answer g c =
-    answer_of_reader index_value (BytesHaveResult IndexDecodes) (g.R.Read.remaining c.args.reader) c.in_ok-bytes.bytes.items
+    answer_of_reader index_value (BytesHaveResult IndexDecodes) (g.R.Read.remaining c.args.reader)
+    c.in_ok-bytes.bytes.items
     c.index_in_owned.result c.in_ok-bytes.ensures c.index_in_owned.ensures.answer
 
 pub returns-clause-only : goal.returns-clause-only
@@ -20,4 +21,5 @@ returns-clause-only g c =
 pub returns-in_err-bytes-clause-answer : goal.returns-in_err-bytes-clause-answer
 returns-in_err-bytes-clause-answer g c =
     let p = err_from_is_err_and c.from_residual.result c.from_residual.ensures.1 in
-    rw (p.1, p.2) (error_of_reader index_value (BytesHaveResult IndexDecodes) (g.R.Read.remaining c.args.reader) _ c.in_err-bytes.ensures)
+    rw (p.1, p.2) (error_of_reader index_value (BytesHaveResult IndexDecodes) (g.R.Read.remaining c.args.reader) _
+    c.in_err-bytes.ensures)

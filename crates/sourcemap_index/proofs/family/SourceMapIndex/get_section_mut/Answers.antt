@@ -12,7 +12,8 @@ returns c =
       (refl, (λ w. on_some c.get_mut.result _ (section_put i c.args.id w)), index_same i),
       record {
         writes_back = tt;
-        value = item_seen (λ s. s.now) section_value (out-SourceMapIndex i).sections.items c.args.id c.get_mut.result c.get_mut.ensures.item
+        value = item_seen (λ s. s.now) section_value (out-SourceMapIndex i).sections.items c.args.id c.get_mut.result
+            c.get_mut.ensures.item
             ∙ ap (λ v. slice_get v.sections c.args.id) (sym (index-out i));
       },
     )

@@ -7,7 +7,12 @@ pub returns-clause-ok : goal.returns-clause-ok
 returns-clause-ok c = λ before m g are.
     let lists = c.args.map.now in
     c.add_part.ensures.ok before m g
-    (part-of_lists m lists (record { tokens = lists.tokens; ignored = lists.ignored; sources = c.as_slice.result; names = c.as_slice-2.result }) are refl refl
+    (part-of_lists m lists (record {
+      tokens = lists.tokens;
+      ignored = lists.ignored;
+      sources = c.as_slice.result;
+      names = c.as_slice-2.result;
+    }) are refl refl
     (ap entry_values c.as_slice.ensures.value ∙ sym (same_Ok _ _ c.in_ok-sources.ensures))
     (ap entry_values c.as_slice-2.ensures.value ∙ sym (same_Ok _ _ c.in_ok-names.ensures)))
 
@@ -15,6 +20,11 @@ pub returns-clause-refused : goal.returns-clause-refused
 returns-clause-refused c = λ before m g are.
     let lists = c.args.map.now in
     c.add_part.ensures.refused before m g
-    (part-of_lists m lists (record { tokens = lists.tokens; ignored = lists.ignored; sources = c.as_slice.result; names = c.as_slice-2.result }) are refl refl
+    (part-of_lists m lists (record {
+      tokens = lists.tokens;
+      ignored = lists.ignored;
+      sources = c.as_slice.result;
+      names = c.as_slice-2.result;
+    }) are refl refl
     (ap entry_values c.as_slice.ensures.value ∙ sym (same_Ok _ _ c.in_ok-sources.ensures))
     (ap entry_values c.as_slice-2.ensures.value ∙ sym (same_Ok _ _ c.in_ok-names.ensures)))

@@ -12,9 +12,14 @@ returns-in_err-number-clause-refused c = λ before is.
     let i = c.loop-item.item-index in
     let so_far = c.loop-item.invariant before is in
     let p = err_from_is_err_and c.from_residual-in_err-number.result c.from_residual-in_err-number.ensures.1 in
-    let many : (item : Entry) → Type 0 = λ item. are_too_many (texts_entered ((before ++ entry_values (take i entries)) ++ entry_value item ∷ [])) ≡ true in
+    let many : (item : Entry) → Type 0 = λ item.
+    are_too_many (texts_entered ((before ++ entry_values (take i entries)) ++ entry_value item ∷ [])) ≡ true in
     rw (p.1, p.2)
-    (UnlessMemory-weaker c.in_err-number.field-0.0 (λ h. (too_many-at before entries i c.item-item.result c.loop-item-test.true (subst many c.item-item.is h.0), h.1))
+    (UnlessMemory-weaker c.in_err-number.field-0.0
+    (λ h. (
+      too_many-at before entries i c.item-item.result c.loop-item-test.true (subst many c.item-item.is h.0),
+      h.1,
+    ))
     (c.in_err-number.ensures.refused (before ++ entry_values (take i entries)) so_far.table))
 
 pub loop-item-preserved : goal.loop-item-preserved
@@ -22,6 +27,10 @@ loop-item-preserved c = λ before is.
     let entries = c.args.entries.now in
     let i = c.loop-item.item-index in
     let so_far = c.loop-item.invariant before is in
-    let entered : (item : Entry) → Type 0 = λ item. IsEntered ((before ++ entry_values (take i entries)) ++ entry_value item ∷ []) item.text.now c.in_ok-number.number c.enter.new.self in
-    entered-next before entries i c.item-item.result c.loop-item-test.true c.loop-item.numbers.items c.push.new.self.items c.in_ok-number.number c.loop-item.self c.enter.new.self so_far
-    (subst entered c.item-item.is (c.in_ok-number.ensures.ok (before ++ entry_values (take i entries)) so_far.table)) c.in_ok-push.ensures.items
+    let entered : (item : Entry) → Type 0 = λ item.
+    IsEntered ((before ++ entry_values (take i entries)) ++ entry_value item ∷ []) item.text.now
+    c.in_ok-number.number c.enter.new.self in
+    entered-next before entries i c.item-item.result c.loop-item-test.true c.loop-item.numbers.items
+    c.push.new.self.items c.in_ok-number.number c.loop-item.self c.enter.new.self so_far
+    (subst entered c.item-item.is (c.in_ok-number.ensures.ok (before ++ entry_values (take i entries)) so_far.table))
+    c.in_ok-push.ensures.items

@@ -4,4 +4,5 @@ use Rattle.sourcemap_index_flatten.proofs.table.Table.enter_all.Given as goal
 
 abbrev pub invariant-loop-item : goal.invariant-loop-item
 invariant-loop-item l = (before : List TextEntry) → IsTable before l.fn.self
-    → AreEntered (before ++ entry_values (take l.item-index l.entries)) (entry_values (take l.item-index l.entries)) l.numbers.items l.self
+    → AreEntered (before ++ entry_values (take l.item-index l.entries)) (entry_values (take l.item-index l.entries))
+    l.numbers.items l.self

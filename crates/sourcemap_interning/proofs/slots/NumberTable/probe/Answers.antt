@@ -7,8 +7,10 @@ pub returns-then-slot : goal.returns-then-slot
 returns-then-slot g c =
     let slots = c.args.self.now.slots.items in
     let at = c.start_of-start.result + c.loop-step.step in
-    let within : at < length slots = omega (arith, c.requires, c.start_of-start.ensures.within, c.loop-step-test.true) in
-    let read : slice_get slots at ≡ Some c.index-slot.result.now = slice_get-indexed slots at c.index-slot.result.now within c.index-slot.ensures in
+    let within : at < length slots =
+    omega (arith, c.requires, c.start_of-start.ensures.within, c.loop-step-test.true) in
+    let read : slice_get slots at ≡ Some c.index-slot.result.now =
+    slice_get-indexed slots at c.index-slot.result.now within c.index-slot.ensures in
     let start = c.start_of-start.ensures.start in (
       c.loop-step.step,
       c.loop-step-test.true,
@@ -23,8 +25,10 @@ pub returns-then-slot-hash : goal.returns-then-slot-hash
 returns-then-slot-hash g c =
     let slots = c.args.self.now.slots.items in
     let at = c.start_of-start.result + c.loop-step.step in
-    let within : at < length slots = omega (arith, c.requires, c.start_of-start.ensures.within, c.loop-step-test.true) in
-    let read : slice_get slots at ≡ Some c.index-slot.result.now = slice_get-indexed slots at c.index-slot.result.now within c.index-slot.ensures in
+    let within : at < length slots =
+    omega (arith, c.requires, c.start_of-start.ensures.within, c.loop-step-test.true) in
+    let read : slice_get slots at ≡ Some c.index-slot.result.now =
+    slice_get-indexed slots at c.index-slot.result.now within c.index-slot.ensures in
     let start = c.start_of-start.ensures.start in (
       c.loop-step.step,
       c.loop-step-test.true,
@@ -40,15 +44,23 @@ pub loop-step-preserved : goal.loop-step-preserved
 loop-step-preserved g c k below =
     let slots = c.args.self.now.slots.items in
     let at = c.start_of-start.result + c.loop-step.step in
-    let within : at < length slots = omega (arith, c.requires, c.start_of-start.ensures.within, c.loop-step-test.true) in
-    let read : slice_get slots at ≡ Some c.index-slot.result.now = slice_get-indexed slots at c.index-slot.result.now within c.index-slot.ensures in
+    let within : at < length slots =
+    omega (arith, c.requires, c.start_of-start.ensures.within, c.loop-step-test.true) in
+    let read : slice_get slots at ≡ Some c.index-slot.result.now =
+    slice_get-indexed slots at c.index-slot.result.now within c.index-slot.ensures in
     elim (below_or_last k c.loop-step.step below) [
       | inl before ↦ c.loop-step.invariant k before
-      | inr here ↦ (c.index-slot.result.now, ap (λ j. slice_get slots (c.start_of-start.result + j)) here ∙ read, c.if-slot.false, c.if-slot-hash.false)
+      | inr here ↦ (
+        c.index-slot.result.now,
+        ap (λ j. slice_get slots (c.start_of-start.result + j)) here ∙ read,
+        c.if-slot.false,
+        c.if-slot-hash.false,
+      )
     ]
 
 pub returns : goal.returns
 returns g c k below =
     let slots = c.args.self.now.slots.items in
-    let passed = subst (λ s. ArePassed slots c.args.hash s c.loop-step.step) c.start_of-start.ensures.start c.loop-step.invariant in
+    let passed =
+    subst (λ s. ArePassed slots c.args.hash s c.loop-step.step) c.start_of-start.ensures.start c.loop-step.invariant in
     passed k (omega (arith, below, c.loop-step-test.false))

@@ -6,5 +6,7 @@ use Rattle.sourcemap_interning.proofs.text.StringText.insert_into.Goals as goal
 
 pub returns : goal.returns
 returns c other =
-    subst (λ bytes. number_in_tree string_bytes c.insert.new.self other ≡ cond (bytes_eq bytes other) (Some c.args.number) (number_in_tree string_bytes c.args.tree.now other)) (c.in_ok-key.ensures.ok ∙ c.as_str.ensures.value)
+    subst (λ bytes. number_in_tree string_bytes c.insert.new.self other
+    ≡ cond (bytes_eq bytes other) (Some c.args.number) (number_in_tree string_bytes c.args.tree.now other))
+    (c.in_ok-key.ensures.ok ∙ c.as_str.ensures.value)
     (btree_map_updates_text _ c.args.tree.now c.insert.new.self _ c.in_ok-insert.ensures.updates other)

@@ -11,6 +11,15 @@ returns-clause-index g c =
     let texts = c.args.self.now in
     let view : map bytes items ≡ texts = c.self.view_is ∙ c.in_ok-grow.ensures in
     let pushed : map bytes c.push.new.self.items ≡ texts ++ bytes c.args.text ∷ [] =
-    ap (map bytes) (c.in_ok-push.ensures.items ∙ ap (λ xs. xs ++ c.args.text ∷ []) c.in_ok-reserve.ensures.items) ∙ map_push bytes items c.args.text ∙ ap (λ us. us ++ bytes c.args.text ∷ []) view in
-    let counted : length texts ≡ c.len-number.result = omega (arith, length-map items bytes, ap length view, c.len-number.ensures, c.in_ok-reserve.ensures.len, c.self.inside.texts.ok.0) in
-    ap (id_of (bytes c.args.text)) pushed ∙ id_of-last texts (bytes c.args.text) c.len-number.result counted c.requires.new
+    ap (map bytes) (c.in_ok-push.ensures.items ∙ ap (λ xs. xs ++ c.args.text ∷ []) c.in_ok-reserve.ensures.items)
+    ∙ map_push bytes items c.args.text ∙ ap (λ us. us ++ bytes c.args.text ∷ []) view in
+    let counted : length texts ≡ c.len-number.result = omega (
+      arith,
+      length-map items bytes,
+      ap length view,
+      c.len-number.ensures,
+      c.in_ok-reserve.ensures.len,
+      c.self.inside.texts.ok.0,
+    ) in
+    ap (id_of (bytes c.args.text)) pushed
+    ∙ id_of-last texts (bytes c.args.text) c.len-number.result counted c.requires.new

@@ -15,7 +15,13 @@ returns-clause-answer c =
     let m : MapValue = value_of a in
     let few_sources : length m.sources ≤ 4294967295 = omega (arith, c.len.ensures) in
     let parts : IsAnswer tree (PartsAnswer (parts_in m)) c.record_of.result =
-    subst (λ names. IsAnswer tree (PartsAnswer (record { metadata = a.metadata; tokens = a.tokens; names = map (string_bytes {Z = Global}) names; sources = a.sources; contents = a.contents })) c.record_of.result)
+    subst (λ names. IsAnswer tree (PartsAnswer (record {
+      metadata = a.metadata;
+      tokens = a.tokens;
+      names = map (string_bytes {Z = Global}) names;
+      sources = a.sources;
+      contents = a.contents;
+    })) c.record_of.result)
     c.as_slice-names.ensures.value c.record_of.ensures.answer in
     subst (λ (m : MapValue). IsAnswer tree (RecordAnswer m) c.record_of.result) c.self.view_is
     (answered-if m c.self.invariant few_sources c.record_of.ensures.rising c.record_of.result parts)

@@ -5,12 +5,17 @@ use Rattle.sourcemap_map_regular.proofs.iterators.TokenIterIterator.next.Goals a
 
 pub returns-in-None-clause-steps : goal.returns-in-None-clause-steps
 returns-in-None-clause-steps c =
-    let none = tokens_from-none c.args.self.now.map.now c.args.self.now.next (sym c.in-None.ensures) in ((none, none), refl)
+    let none = tokens_from-none c.args.self.now.map.now c.args.self.now.next (sym c.in-None.ensures) in
+    ((none, none), refl)
 
 pub returns-in-Some-clause-steps : goal.returns-in-Some-clause-steps
-returns-in-Some-clause-steps c = (tokens_from-step c.args.self.now.map.now c.args.self.now.next (token_value c.in-Some.token) c.in-Some.ensures, refl)
+returns-in-Some-clause-steps c = (
+  tokens_from-step c.args.self.now.map.now c.args.self.now.next (token_value c.in-Some.token) c.in-Some.ensures,
+  refl,
+)
 
 pub returns-in-Some-clause-goes : goal.returns-in-Some-clause-goes
 returns-in-Some-clause-goes c =
-    let steps = ap length (tokens_from-step c.args.self.now.map.now c.args.self.now.next (token_value c.in-Some.token) c.in-Some.ensures) in
+    let steps = ap length (tokens_from-step c.args.self.now.map.now c.args.self.now.next
+    (token_value c.in-Some.token) c.in-Some.ensures) in
     search rules

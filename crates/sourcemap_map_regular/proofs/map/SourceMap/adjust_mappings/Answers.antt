@@ -10,7 +10,8 @@ use Rattle.sourcemap_map_regular.proofs.map.SourceMap.adjust_mappings.Goals as g
 use Rattle.sourcemap_map_regular.proofs.map.SourceMap.adjust_mappings.Goals.{After-drop-self-inside}
 
 -- the new list is the composition of the tokens of both maps
-composed : (c : After-drop-self-inside) → composition c.self.inside.tokens c.adjustment.inside.tokens ≡ Ok c.in_ok-list.list
+composed : (c : After-drop-self-inside)
+    → composition c.self.inside.tokens c.adjustment.inside.tokens ≡ Ok c.in_ok-list.list
 composed c =
     subst (λ tokens. composition tokens c.adjustment.inside.tokens ≡ Ok c.in_ok-list.list) c.as_slice.ensures.value
     (subst (λ tokens. composition c.as_slice.result.now tokens ≡ Ok c.in_ok-list.list) c.as_slice-2.ensures.value
@@ -19,7 +20,8 @@ composed c =
 pub returns-clause-well_formed : goal.returns-clause-well_formed
 returns-clause-well_formed c = λ sound.
     let stored : IsWellFormed (value_of c.self.inside) = subst IsWellFormed (sym c.self.view_is) sound in
-    composed_within (length c.self.inside.sources.texts) (length (value_of c.self.inside).names) c.self.inside.tokens c.adjustment.inside.tokens c.in_ok-list.list stored (composed c)
+    composed_within (length c.self.inside.sources.texts) (length (value_of c.self.inside).names) c.self.inside.tokens
+    c.adjustment.inside.tokens c.in_ok-list.list stored (composed c)
 
 pub returns-clause-meaning : goal.returns-clause-meaning
 returns-clause-meaning c = λ a q sound alone.
@@ -29,5 +31,6 @@ returns-clause-meaning c = λ a q sound alone.
     let alone' : IsMovedAlone c.self.inside.tokens c.adjustment.inside.tokens a q =
     subst (λ (m : MapValue). IsMovedAlone m.tokens c.adjustment.inside.tokens a q) (sym c.self.view_is)
     (subst (λ (n : MapValue). IsMovedAlone c.args.self.now.tokens n.tokens a q) (sym c.adjustment.view_is) alone) in
-    adjusted_meaning (value_of c.self.inside) (value_of c.adjustment.inside) c.in_ok-list.list a q few up stored (composed c) alone'
+    adjusted_meaning (value_of c.self.inside) (value_of c.adjustment.inside) c.in_ok-list.list a q few up stored
+    (composed c) alone'
     ∙ ap (λ (m : MapValue). meaning m q) c.self.view_is

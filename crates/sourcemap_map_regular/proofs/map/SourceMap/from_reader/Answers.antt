@@ -9,15 +9,18 @@ use Rattle.sourcemap_map_regular.proofs.map.SourceMap.from_reader.Goals as goal
 
 pub returns-clause-answer : goal.returns-clause-answer
 returns-clause-answer g c =
-    answer_of_reader (λ m. m) (BytesHaveResult RegularDecodes) (g.R.Read.remaining c.args.reader) c.in_ok-bytes.bytes.items
+    answer_of_reader (λ m. m) (BytesHaveResult RegularDecodes)
+    (g.R.Read.remaining c.args.reader) c.in_ok-bytes.bytes.items
     c.decode_owned.result c.in_ok-bytes.ensures c.decode_owned.ensures.answer
 
 pub returns-clause-only : goal.returns-clause-only
 returns-clause-only g c =
-    reader_only (λ m. m) RegularDecodes regular_decodes_once (g.R.Read.remaining c.args.reader) c.in_ok-bytes.bytes.items
+    reader_only (λ m. m) RegularDecodes regular_decodes_once
+    (g.R.Read.remaining c.args.reader) c.in_ok-bytes.bytes.items
     c.decode_owned.result c.in_ok-bytes.ensures c.decode_owned.ensures.answer
 
 pub returns-in_err-bytes-clause-answer : goal.returns-in_err-bytes-clause-answer
 returns-in_err-bytes-clause-answer g c =
     let p = err_from_is_err_and c.from_residual.result c.from_residual.ensures.1 in
-    rw (p.1, p.2) (error_of_reader (λ m. m) (BytesHaveResult RegularDecodes) (g.R.Read.remaining c.args.reader) _ c.in_err-bytes.ensures)
+    rw (p.1, p.2) (error_of_reader (λ m. m) (BytesHaveResult RegularDecodes)
+    (g.R.Read.remaining c.args.reader) _ c.in_err-bytes.ensures)

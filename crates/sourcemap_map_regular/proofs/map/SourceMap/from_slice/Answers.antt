@@ -6,4 +6,5 @@ use Rattle.sourcemap_map_regular.proofs.map.SourceMap.from_slice.Goals as goal
 
 pub returns-clause-only : goal.returns-clause-only
 returns-clause-only c =
-    bytes_only (λ m. m) RegularDecodes regular_decodes_once c.args.bytes.now c.decode_slice.result c.decode_slice.ensures.answer
+    bytes_only
+    (λ m. m) RegularDecodes regular_decodes_once c.args.bytes.now c.decode_slice.result c.decode_slice.ensures.answer

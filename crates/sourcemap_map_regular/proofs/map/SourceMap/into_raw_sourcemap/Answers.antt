@@ -17,4 +17,5 @@ returns c =
     (subst (λ (m : MapValue). length m.sources ≤ 4294967295) c.self.view_is few_sources)
     (subst (λ (m : MapValue). IsStrictlySortedBy nat_cmp m.ignored) c.self.view_is c.ignore_list.ensures.rising)
     c.into_record.result
-    (subst (λ (p : PartsValue). IsAnswer tree (PartsAnswer p) c.into_record.result) c.into_parts.ensures.value c.into_record.ensures)
+    (subst (λ (p : PartsValue). IsAnswer tree
+    (PartsAnswer p) c.into_record.result) c.into_parts.ensures.value c.into_record.ensures)

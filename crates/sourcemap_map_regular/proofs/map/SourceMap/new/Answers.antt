@@ -14,4 +14,5 @@ pub returns-clause-well_formed : goal.returns-clause-well_formed
 returns-clause-well_formed c = λ within.
     let made = made_of (option_copied c.args.file) c.args.tokens.items (texts_of c.args.names) (texts_of c.args.sources)
     (unwrap_or (option_map contents_in c.args.sources_content) []) in
-    given-well (Ok c.of_parts.result) made (returns-clause-value c) (made-well c.args.tokens.items c.args.names c.args.sources within)
+    given-well (Ok c.of_parts.result) made (returns-clause-value c)
+    (made-well c.args.tokens.items c.args.names c.args.sources within)

@@ -8,4 +8,5 @@ pub returns-clause-value : goal.returns-clause-value
 returns-clause-value c = search rules
 
 pub returns-clause-well_formed : goal.returns-clause-well_formed
-returns-clause-well_formed c = λ well. subst IsWellFormed (sym (returns-clause-value c)) (nameless-well c.args.self.now well)
+returns-clause-well_formed c =
+    λ well. subst IsWellFormed (sym (returns-clause-value c)) (nameless-well c.args.self.now well)

@@ -10,4 +10,5 @@ returns-clause-bound c =
 
 pub returns-clause-in_order : goal.returns-clause-in_order
 returns-clause-in_order c =
-    subst (λ (m : MapValue). AreInOrder m.tokens) c.self.view_is (subst AreInOrder c.as_slice.ensures.value c.as_slice.ensures.in_order)
+    subst (λ (m : MapValue). AreInOrder m.tokens) c.self.view_is
+    (subst AreInOrder c.as_slice.ensures.value c.as_slice.ensures.in_order)

@@ -7,9 +7,11 @@ pub returns-in_err-start : goal.returns-in_err-start
 returns-in_err-start c =
     let lines_is = c.self.invariant ∙ ap line_ranges c.self.view_is in
     ap (option_map (λ text. text.now)) c.from_residual.ensures
-    ∙ sym (line-missing c.args.self.now c.args.line (ap (λ ranges. slice_get ranges c.args.line) (sym lines_is) ∙ sym c.in_err-start.ensures))
+    ∙ sym (line-missing c.args.self.now c.args.line
+    (ap (λ ranges. slice_get ranges c.args.line) (sym lines_is) ∙ sym c.in_err-start.ensures))
 
-in_text : (c : goal.After-source) → IsInText c.source.result.now (lines_of c.source.result.now) c.args.line (c.in_ok-start.start, c.in_ok-start.end)
+in_text : (c : goal.After-source)
+    → IsInText c.source.result.now (lines_of c.source.result.now) c.args.line (c.in_ok-start.start, c.in_ok-start.end)
 in_text c =
     let lines_is = c.self.invariant ∙ ap line_ranges (c.self.view_is ∙ sym c.source.ensures) in
     line-in_text c.source.result.now c.args.line (c.in_ok-start.start, c.in_ok-start.end) c.source.utf8
@@ -29,4 +31,5 @@ returns c =
     let lines_is = c.self.invariant ∙ ap line_ranges (c.self.view_is ∙ sym c.source.ensures) in
     let here = line-in_text c.source.result.now c.args.line (c.in_ok-start.start, c.in_ok-start.end) c.source.utf8
     (ap (λ ranges. slice_get ranges c.args.line) (sym lines_is) ∙ sym c.in_ok-start.ensures) in
-    ap Some c.range-2.ensures.value ∙ sym here.body ∙ ap (λ text. slice_get (line_bodies text) c.args.line) c.source.ensures
+    ap Some c.range-2.ensures.value ∙ sym here.body
+    ∙ ap (λ text. slice_get (line_bodies text) c.args.line) c.source.ensures

@@ -5,4 +5,5 @@ use Rattle.sourcemap_source_views.proofs.sourceview.SourceView.line_count.Goals 
 
 pub returns : goal.returns
 returns c =
-    c.count.ensures ∙ ap length c.self.invariant ∙ length-line_ranges (string_bytes c.self.inside.source) ∙ ap (λ text. length (line_bodies text)) c.self.view_is
+    c.count.ensures ∙ ap length c.self.invariant ∙ length-line_ranges (string_bytes c.self.inside.source)
+    ∙ ap (λ text. length (line_bodies text)) c.self.view_is

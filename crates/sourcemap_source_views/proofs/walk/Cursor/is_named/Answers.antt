@@ -9,5 +9,7 @@ returns-then-from-self c =
     let col = c.from.ensures in
     let far = c.if-from-self.true in
     c.starts_with_identifier.ensures
-    ∙ ap (λ (t : List ℕ). is_text c.args.name.now (unless_empty (identifier_at_start (chars t)))) c.range_from.ensures.value
-    ∙ ap (is_text c.args.name.now) (sym (token_of_word cursor.line.now cursor.at.offset cursor.word cursor.first) ∙ identifier_far cursor.line.now c.args.col cursor.at.offset cursor.at.units (omega (arith, col, far)))
+    ∙ ap
+    (λ (t : List ℕ). is_text c.args.name.now (unless_empty (identifier_at_start (chars t)))) c.range_from.ensures.value
+    ∙ ap (is_text c.args.name.now) (sym (token_of_word cursor.line.now cursor.at.offset cursor.word cursor.first)
+    ∙ identifier_far cursor.line.now c.args.col cursor.at.offset cursor.at.units (omega (arith, col, far)))

@@ -1,4 +1,0 @@
-//! Detects source maps by the keys of their JSON value.
-#![tactic(auto)]
-
-pub mod detection;
