@@ -129,7 +129,7 @@ class Clause(NamedTuple):
 
 
 class Item:
-    """A function, a type, an impl or a trait. `types` are the names of types in its signature or declaration."""
+    """A function, a type, a constant, an impl or a trait. `types` are the names of types in its signature or declaration."""
 
     def __init__(self, kind, name, place, owner=None, trait=None, is_public=False):
         self.kind, self.name, self.owner, self.trait, self.is_public = kind, name, owner, trait, is_public
@@ -206,8 +206,14 @@ class Source:
             return self.read_function(at, end, names, owner, is_public)
         if word in ('struct', 'enum'):
             return self.read_type(at, end, names, is_public)
-        if word in ('const', 'static', 'type'):
-            return self.find(at, ';', end) + 1 if self.word(at + 1) != 'fn' else at + 1
+        if word in ('const', 'static') and self.word(at + 1) != 'fn':
+            stop = self.find(at, ';', end) + 1
+            item = Item('const', self.word(at + 1), self.place(at), None, None, is_public)
+            item.size = self.piece(at, stop).size()
+            self.items.append(item)
+            return stop
+        if word == 'type':
+            return self.find(at, ';', end) + 1
         return self.end_of(at) if word in '({[' else at + 1
 
     def read_ghost(self, at, end, names, owner):
