@@ -23,17 +23,3 @@ pub fn check_that(row: &str, holds: bool) -> Checked {
     }
     Err(Fail::new(format_args!("{row}: not as expected")))
 }
-
-/// Checks that the result `got` is `Ok` with the text `want`. If not, prints `row` and the result,
-/// and ends the test.
-#[macro_export]
-macro_rules! check {
-    ($rt:expr, $row:expr, $got:expr, $want:expr $(,)?) => {{
-        let rt = $rt;
-        let row: &str = $row;
-        let got = $got;
-        let want: &str = $want;
-        let is_wanted = matches!(&got, Ok(text) if text.as_str() == want);
-        assert!(rt; is_wanted, "{row}: {got:?}");
-    }};
-}
