@@ -1,6 +1,5 @@
 // Bytes that are UTF-8, and bytes that are not.
 use crate::answers::{answer, kit_answer};
-use serde_json::Result;
 use sourcemap_test_support::checks::{Checked, check, check_that};
 use std::alloc::{AllocError, Global};
 use std::result::Result as StdResult;

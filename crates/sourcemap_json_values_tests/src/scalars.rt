@@ -1,6 +1,5 @@
 // Strings, numbers and literals, each a JSON text of its own.
 use crate::answers::{answer, kit_answer};
-use serde_json::Result;
 use sourcemap_test_support::checks::{Checked, check};
 
 // A JSON text, and its value in compact JSON, or `none` if the text is invalid.
