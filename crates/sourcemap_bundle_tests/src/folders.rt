@@ -1,8 +1,8 @@
 // File bundles in folders that the tests make and remove.
-use crate::texts::{error_or_io, parsed_text};
+use crate::texts::{bundle_text, error_or_io, module_text, parsed_text};
 use sourcemap_bundles::ram_bundle::{RamBundle, is_unbundle_path};
 use sourcemap_errors::errors::Result;
-use sourcemap_test_support::check;
+use sourcemap_test_support::checks::{Checked, check};
 use std::alloc::Global;
 use std::fs;
 use std::os::unix::fs::symlink;
@@ -97,13 +97,14 @@ static FOLDERS: [(&str, &[&str], &str); 18] = [
     ),
 ];
 
-// Makes a file, folder or link in `js-modules`.
-fn make_one<F: Files>(rt: &F, alloc: Global, name: &str) -> Result<()> {
-    let path = format!(in alloc; "bundle_made/js-modules/{name}")?;
+// Makes a file, folder or link in `js-modules` of a bundle.
+fn make_one<F: Files>(rt: &F, alloc: Global, bundle: &str, name: &str) -> Result<()> {
+    let path = format!(in alloc; "{bundle}/js-modules/{name}")?;
     if name == "UNBUNDLE" {
         fs::write(rt, path, MAGIC.as_slice())?;
     } else if name == "UNBUNDLE-" {
-        fs::write(rt, "bundle_made/js-modules/UNBUNDLE", &MAGIC[..3])?;
+        let path = format!(in alloc; "{bundle}/js-modules/UNBUNDLE")?;
+        fs::write(rt, path, &MAGIC[..3])?;
     } else if let Some(link) = path.strip_suffix('@') {
         symlink(rt, "../main.js", link)?;
     } else if name.ends_with('/') {
@@ -115,12 +116,12 @@ fn make_one<F: Files>(rt: &F, alloc: Global, name: &str) -> Result<()> {
 }
 
 // Makes the folder of a bundle anew. `names` are the entries of `js-modules`, as in `FOLDERS`.
-fn make<F: Files>(rt: &F, alloc: Global, names: &[&str]) -> Result<()> {
-    let _ = fs::remove_dir_all(&(rt, alloc), "bundle_made");
-    fs::create_dir_all(rt, "bundle_made/js-modules")?;
-    fs::write(rt, "bundle_made/main.js", "main")?;
+fn make<F: Files>(rt: &F, alloc: Global, bundle: &str, names: &[&str]) -> Result<()> {
+    let _ = fs::remove_dir_all(&(rt, alloc), bundle);
+    fs::create_dir_all(rt, format!(in alloc; "{bundle}/js-modules")?)?;
+    fs::write(rt, format!(in alloc; "{bundle}/main.js")?, "main")?;
     for name in names {
-        make_one(rt, alloc, name)?;
+        make_one(rt, alloc, bundle, name)?;
     }
     Ok(())
 }
@@ -132,7 +133,7 @@ fn answers_at<F: Files>(rt: &F, alloc: Global, path: &str) -> Result<String> {
 }
 
 fn folder_text<F: Files>(rt: &F, alloc: Global, names: &[&str]) -> Result<String> {
-    make(rt, alloc, names)?;
+    make(rt, alloc, "bundle_made", names)?;
     let answer = answers_at(rt, alloc, "bundle_made/main.js")?;
     fs::remove_dir_all(&(rt, alloc), "bundle_made")?;
     Ok(answer)
@@ -170,24 +171,59 @@ fn file_text<F: Files>(rt: &F, alloc: Global) -> Result<String> {
     Ok(answer)
 }
 
-#[test]
-fn folders(rt: HostRuntime) {
-    let alloc = rt.alloc();
-    for (row, names, want) in &FOLDERS {
-        check!(rt, row, folder_text(&rt, alloc, names), want);
+// The module with this number, or `none`.
+fn module_at(alloc: Global, bundle: &RamBundle<'_>, id: usize) -> Result<String> {
+    match bundle.get_module(id).transpose() {
+        Some(answer) => module_text(alloc, answer),
+        None => Ok(String::from_str(alloc, "none")?),
     }
 }
 
+// The modules 0 to 3, then the `bundle_text` of a copy.
+fn modules_and_copy(alloc: Global, bundle: &RamBundle<'_>) -> Result<String> {
+    let mut text = String::new(alloc);
+    for id in 0..4 {
+        text.push_str(module_at(alloc, bundle, id)?.as_str())?;
+        text.push(' ')?;
+    }
+    let copy = bundle.clone()?;
+    text.push_str(bundle_text(alloc, &copy)?.as_str())?;
+    Ok(text)
+}
+
+fn module_texts<F: Files>(rt: &F, alloc: Global) -> Result<String> {
+    make(rt, alloc, "bundle_modules", &["UNBUNDLE", "0.js", "2.js"])?;
+    let bundle = RamBundle::parse_unbundle_from_path(rt, alloc, "bundle_modules/main.js")?;
+    fs::remove_dir_all(&(rt, alloc), "bundle_modules")?;
+    modules_and_copy(alloc, &bundle)
+}
+
+// A number with no file is no module, also past the greatest number.
 #[test]
-fn paths(rt: HostRuntime) {
+fn modules_of_files(rt: HostRuntime) -> Checked {
+    let want = "0=0.js none 2=2.js none Unbundle 3 [main] 0=0.js 2=2.js";
+    check("modules", module_texts(&rt, rt.alloc()), want)
+}
+
+#[test]
+fn folders(rt: HostRuntime) -> Checked {
+    let alloc = rt.alloc();
+    for (row, names, want) in &FOLDERS {
+        check(row, folder_text(&rt, alloc, names), want)?;
+    }
+    Ok(())
+}
+
+#[test]
+fn paths(rt: HostRuntime) -> Checked {
     let alloc = rt.alloc();
     let missing = "no_such_folder/main.js";
     let got = answers_at(&rt, alloc, missing);
-    check!(rt, "a missing file bundle", got, "false not a ram bundle");
+    check("a missing file bundle", got, "false not a ram bundle")?;
     let got = parse_indexed_file(&rt, alloc, missing);
-    check!(rt, "a missing file", got, "io");
+    check("a missing file", got, "io")?;
     let got = folderless_texts(&rt, alloc);
     let want = "false not a ram bundle, false not a ram bundle, false not a ram bundle";
-    check!(rt, "no folder of modules", got, want);
-    check!(rt, "a file", file_text(&rt, alloc), "Indexed 0 []");
+    check("no folder of modules", got, want)?;
+    check("a file", file_text(&rt, alloc), "Indexed 0 []")
 }

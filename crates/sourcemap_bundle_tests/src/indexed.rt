@@ -3,7 +3,7 @@ use crate::texts::{bundle_text, bytes_text, module_text, parsed_text};
 use sourcemap_bundles::bundle::{ModuleEntry, RAM_BUNDLE_MAGIC, RamBundleHeader, byte_range};
 use sourcemap_bundles::ram_bundle::{RamBundle, RamBundleType, is_ram_bundle_slice};
 use sourcemap_errors::errors::Result;
-use sourcemap_test_support::check;
+use sourcemap_test_support::checks::{Checked, check, check_that};
 use std::alloc::Global;
 
 // One module, `xyz`, after the startup code `ab`.
@@ -133,49 +133,54 @@ fn numbers(alloc: Global, bytes: &[u8]) -> Result<String> {
 }
 
 #[test]
-fn bundles_that_are_cut(rt: HostRuntime) {
+fn bundles_that_are_cut(rt: HostRuntime) -> Checked {
     let alloc = rt.alloc();
     for (length, want_startup, want_module) in &CUTS {
         let bytes = ONE.get(..*length).unwrap_or(&[]);
-        check!(rt, "startup code", startup(alloc, bytes), want_startup);
-        check!(rt, "module 0", module_at(alloc, bytes, 0), want_module);
+        check("startup code", startup(alloc, bytes), want_startup)?;
+        check("module 0", module_at(alloc, bytes, 0), want_module)?;
     }
+    Ok(())
 }
 
 #[test]
-fn whole_bundles(rt: HostRuntime) {
+fn whole_bundles(rt: HostRuntime) -> Checked {
     let alloc = rt.alloc();
     for (row, bytes, want) in &WHOLE {
         let parsed = RamBundle::parse_indexed_from_slice(bytes);
-        check!(rt, row, parsed_text(alloc, parsed), want);
+        check(row, parsed_text(alloc, parsed), want)?;
     }
+    Ok(())
 }
 
 #[test]
-fn one_bundle(rt: HostRuntime) {
+fn one_bundle(rt: HostRuntime) -> Checked {
     let alloc = rt.alloc();
     let past = "invalid module index in ram bundle";
     let got = module_at(alloc, &ONE, 1);
-    check!(rt, "a number past the count", got, past);
-    check!(rt, "the same, cut", module_at(alloc, &ONE[..12], 1), past);
+    check("a number past the count", got, past)?;
+    check("the same, cut", module_at(alloc, &ONE[..12], 1), past)?;
+    let got = module_at(alloc, &ONE[..25], 1);
+    check("the same, without the last byte", got, past)?;
     let count = "4294967295";
-    check!(rt, "the largest count", count_text(alloc, &HUGE), count);
+    check("the largest count", count_text(alloc, &HUGE), count)?;
     let range = "parse error: 34359738372+2 past 12";
-    check!(rt, "a huge table", startup(alloc, &HUGE), range);
+    check("a huge table", startup(alloc, &HUGE), range)?;
     let entry = "parse error: 34359738364+8 past 12";
     let got = module_at(alloc, &HUGE, 4294967294);
-    check!(rt, "its last entry", got, entry);
-    check!(rt, "a copy", copy_text(alloc, &ONE), "Indexed 1 [ab] 0=xyz");
-    check!(rt, "a view", view_text(alloc, &ONE), "xyz");
+    check("its last entry", got, entry)?;
+    check("a copy", copy_text(alloc, &ONE), "Indexed 1 [ab] 0=xyz")?;
+    check("a view", view_text(alloc, &ONE), "xyz")?;
     let got = numbers(alloc, &ONE);
-    check!(rt, "numbers", got, r#"true 1 2 2 4 false "\0""#);
+    check("numbers", got, r#"true 1 2 2 4 false "\0""#)
 }
 
 #[test]
-fn tests_of_bytes(rt: HostRuntime) {
-    assert!(rt; is_ram_bundle_slice(&ONE));
-    assert!(rt; is_ram_bundle_slice(&ONE[..12]));
-    assert!(rt; !is_ram_bundle_slice(&ONE[..11]));
-    assert!(rt; !is_ram_bundle_slice(&ONE[4..]));
-    assert!(rt; RamBundleType::Indexed < RamBundleType::Unbundle);
+fn tests_of_bytes() -> Checked {
+    check_that("a bundle", is_ram_bundle_slice(&ONE))?;
+    check_that("a header", is_ram_bundle_slice(&ONE[..12]))?;
+    check_that("a header cut", !is_ram_bundle_slice(&ONE[..11]))?;
+    check_that("no magic number", !is_ram_bundle_slice(&ONE[4..]))?;
+    let is_ordered = RamBundleType::Indexed < RamBundleType::Unbundle;
+    check_that("types", is_ordered)
 }

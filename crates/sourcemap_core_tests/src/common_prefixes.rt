@@ -1,7 +1,7 @@
 //! Common prefixes of paths.
 use sourcemap_core::errors::Result;
 use sourcemap_core::utils::find_common_prefix;
-use sourcemap_test_support::check;
+use sourcemap_test_support::checks::{Checked, check};
 use sourcemap_test_support::results::text_or_none;
 use std::alloc::Global;
 
@@ -57,8 +57,9 @@ fn common(alloc: Global, texts: &[&str]) -> Result<String> {
 }
 
 #[test]
-fn common_prefixes(rt: HostRuntime) {
+fn common_prefixes(rt: HostRuntime) -> Checked {
     for (about, texts, want) in PREFIXES.iter() {
-        check!(rt, about, common(rt.alloc(), texts), want);
+        check(about, common(rt.alloc(), texts), want)?;
     }
+    Ok(())
 }

@@ -3,7 +3,7 @@ use crate::mappings::{BARE, tokens_text};
 use sourcemap_compose::composition::compose;
 use sourcemap_core::errors::Result;
 use sourcemap_core::tokens::{NO_ID, RawToken};
-use sourcemap_test_support::check;
+use sourcemap_test_support::checks::{Checked, check, check_that};
 use sourcemap_test_support::results::{again, error_text};
 use sourcemap_test_support::tokens::{Row, token};
 use std::alloc::Global;
@@ -194,11 +194,12 @@ fn compose_text(alloc: Global, originals: &[Way], adjustments: &[Way]) -> Result
 }
 
 #[test]
-fn composes_tokens(rt: HostRuntime) {
+fn composes_tokens(rt: HostRuntime) -> Checked {
     for (about, originals, adjustments, want) in COMPOSED.iter() {
         let got = compose_text(rt.alloc(), originals, adjustments);
-        check!(rt, about, got, want);
+        check(about, got, want)?;
     }
+    Ok(())
 }
 
 fn cut_row(alloc: Global, row: Row) -> Result<Vec<RawToken>> {
@@ -207,11 +208,12 @@ fn cut_row(alloc: Global, row: Row) -> Result<Vec<RawToken>> {
 }
 
 #[test]
-fn cuts_range_tokens(rt: HostRuntime) {
+fn cuts_range_tokens(rt: HostRuntime) -> Checked {
     for (about, row, want) in CUT.iter() {
         let tokens = cut_row(rt.alloc(), *row);
         let want = [token(*want)];
         let is_wanted = matches!(&tokens, Ok(tokens) if tokens.as_slice() == &want[..]);
-        assert!(rt; is_wanted, "{about}: {tokens:?}");
+        check_that(about, is_wanted)?;
     }
+    Ok(())
 }

@@ -3,7 +3,7 @@ use sourcemap_core::errors::Result;
 use sourcemap_core::interner::Interner;
 use sourcemap_core::tokens::NO_ID;
 use sourcemap_interning::text_index::TextIndex;
-use sourcemap_test_support::check;
+use sourcemap_test_support::checks::{Checked, check, check_that};
 use std::alloc::Global;
 use std::hash::{DefaultHasher, FoldHasher, Hasher};
 
@@ -34,9 +34,9 @@ fn numbers(alloc: Global, texts: &[&str]) -> Result<String> {
 }
 
 #[test]
-fn numbers_texts_by_their_first_use(rt: HostRuntime) {
+fn numbers_texts_by_their_first_use(rt: HostRuntime) -> Checked {
     let got = numbers(rt.alloc(), &NUMBERED);
-    check!(rt, "equal texts", got, "0 1 0 2 3 1 2 of 4");
+    check("equal texts", got, "0 1 0 2 3 1 2 of 4")
 }
 
 // `count` texts, numbered from 0. Each text is `start`, then its number, padded with leading zeros
@@ -81,15 +81,15 @@ fn numbering_text(alloc: Global, start: &str, end: &str, count: usize) -> Result
 }
 
 #[test]
-fn numbers_many_texts(rt: HostRuntime) {
+fn numbers_many_texts(rt: HostRuntime) -> Checked {
     let answer = numbering_text(rt.alloc(), "name", "", 3000);
-    check!(rt, "usual texts", answer, "3000 3000 true false");
+    check("usual texts", answer, "3000 3000 true false")
 }
 
 #[test]
-fn numbers_texts_that_collide(rt: HostRuntime) {
+fn numbers_texts_that_collide(rt: HostRuntime) -> Checked {
     let answer = numbering_text(rt.alloc(), COLLIDING_START, COLLIDING_END, 300);
-    check!(rt, "texts that collide", answer, "300 300 true false");
+    check("texts that collide", answer, "300 300 true false")
 }
 
 // Texts with one hash. The texts 1 and 2 also have one SipHash. A search over some seven billion
@@ -117,14 +117,14 @@ fn collisions(one: &str, other: &str) -> (bool, bool) {
 }
 
 #[test]
-fn numbers_texts_that_collide_twice(rt: HostRuntime) {
+fn numbers_texts_that_collide_twice(rt: HostRuntime) -> Checked {
     let alloc = rt.alloc();
     let [first, second, third, ..] = COLLIDING_TWICE;
     let collisions = (collisions(first, second), collisions(second, third));
-    assert_eq!(rt; collisions, ((true, false), (true, true)));
+    check_that("collisions", collisions == ((true, false), (true, true)))?;
     let got = numbers(alloc, &COLLIDING_TWICE);
-    check!(rt, "numbers", got, "0 1 2 1 2 0 3 of 4");
-    check!(rt, "ids", ids(alloc, &COLLIDING_TWICE), "0 1 2 1 2 0 3 ");
+    check("numbers", got, "0 1 2 1 2 0 3 of 4")?;
+    check("ids", ids(alloc, &COLLIDING_TWICE), "0 1 2 1 2 0 3 ")
 }
 
 static INTERNED: [&str; 7] = ["b", "a", "b", "", "a", "B", ""];
@@ -165,13 +165,13 @@ fn texts_text(alloc: Global) -> Result<String> {
 }
 
 #[test]
-fn equal_texts_have_one_number(rt: HostRuntime) {
+fn equal_texts_have_one_number(rt: HostRuntime) -> Checked {
     let alloc = rt.alloc();
-    assert!(rt; Interner::new(alloc).is_empty());
-    check!(rt, "ids", ids(alloc, &INTERNED), "0 1 0 2 1 3 2 ");
+    check_that("no texts", Interner::new(alloc).is_empty())?;
+    check("ids", ids(alloc, &INTERNED), "0 1 0 2 1 3 2 ")?;
     let got = interned_texts(alloc);
-    check!(rt, "texts", got, r#"4 (Some("b"), Some(""), None, None)"#);
-    check!(rt, "all texts", texts_text(alloc), r#"["b", "a", "", "B"]"#);
+    check("texts", got, r#"4 (Some("b"), Some(""), None, None)"#)?;
+    check("all texts", texts_text(alloc), r#"["b", "a", "", "B"]"#)
 }
 
 // Adds `texts` to `interner`, in order. Stops at `texts[at]` if its id is not `at`. Returns `at`
@@ -204,14 +204,14 @@ fn interning_text(alloc: Global, texts: Result<Vec<String>>) -> Result<String> {
 }
 
 #[test]
-fn interned_texts_have_ids_of_their_own(rt: HostRuntime) {
+fn interned_texts_have_ids_of_their_own(rt: HostRuntime) -> Checked {
     let alloc = rt.alloc();
     let texts = numbered_texts(alloc, "name", "", 3000);
     let got = interning_text(alloc, texts);
-    check!(rt, "usual texts", got, "3000 3000 of 3000");
+    check("usual texts", got, "3000 3000 of 3000")?;
     let texts = numbered_texts(alloc, COLLIDING_START, COLLIDING_END, 300);
     let got = interning_text(alloc, texts);
-    check!(rt, "texts that collide", got, "300 300 of 300");
+    check("texts that collide", got, "300 300 of 300")?;
     let got = interning_text(alloc, mixed_texts(alloc));
-    check!(rt, "both kinds", got, "3300 3300 of 3300");
+    check("both kinds", got, "3300 3300 of 3300")
 }

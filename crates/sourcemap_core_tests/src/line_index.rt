@@ -4,7 +4,7 @@ use sourcemap_core::line_index::LineIndex;
 use sourcemap_core::probe::{KeyProbe, Probe};
 use sourcemap_core::tokens::{NO_ID, RawToken};
 use sourcemap_line_index::token_list::TokenList;
-use sourcemap_test_support::check;
+use sourcemap_test_support::checks::{Checked, check};
 use sourcemap_test_support::results::again;
 use sourcemap_test_support::tokens::token;
 use std::alloc::Global;
@@ -61,11 +61,12 @@ fn among_equals(
 }
 
 #[test]
-fn finds_among_equals_by_few_comparisons(rt: HostRuntime) {
+fn finds_among_equals_by_few_comparisons(rt: HostRuntime) -> Checked {
     for (count, position, least, most, want) in AMONG_EQUALS.iter() {
         let answer = among_equals(rt.alloc(), *count, *position, *least, *most);
-        check!(rt, want, answer, want);
+        check(want, answer, want)?;
     }
+    Ok(())
 }
 
 // Sorted positions of tokens. Two are equal, and lines 1 and 3 have no tokens.
@@ -99,10 +100,11 @@ fn between_lines(alloc: Global, position: (u32, u32)) -> Result<String> {
 }
 
 #[test]
-fn finds_between_lines(rt: HostRuntime) {
+fn finds_between_lines(rt: HostRuntime) -> Checked {
     for (about, position, want) in BETWEEN_LINES.iter() {
-        check!(rt, about, between_lines(rt.alloc(), *position), want);
+        check(about, between_lines(rt.alloc(), *position), want)?;
     }
+    Ok(())
 }
 
 // Returns 70,000 tokens. `a_line` is at least 1. The lines 0, 2, 4 and so on have `a_line` tokens
@@ -168,13 +170,14 @@ fn in_list_of_many_lines(alloc: Global, a_line: u32, position: (u32, u32)) -> Re
 }
 
 #[test]
-fn finds_on_many_lines_by_few_comparisons(rt: HostRuntime) {
+fn finds_on_many_lines_by_few_comparisons(rt: HostRuntime) -> Checked {
     for (a_line, position, want) in ON_MANY_LINES.iter() {
         let got = on_many_lines(rt.alloc(), *a_line, *position);
-        check!(rt, want, got, want);
+        check(want, got, want)?;
         let by_list = in_list_of_many_lines(rt.alloc(), *a_line, *position);
-        check!(rt, want, by_list, want);
+        check(want, by_list, want)?;
     }
+    Ok(())
 }
 
 // The lines that have tokens, and the index of the first token of each.
@@ -205,6 +208,6 @@ fn compare_tables(alloc: Global) -> Result<String> {
 }
 
 #[test]
-fn tables_are_made_row_by_row(rt: HostRuntime) {
-    check!(rt, "rows", compare_tables(rt.alloc()), "true");
+fn tables_are_made_row_by_row(rt: HostRuntime) -> Checked {
+    check("rows", compare_tables(rt.alloc()), "true")
 }

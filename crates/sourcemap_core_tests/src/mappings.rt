@@ -4,7 +4,7 @@ use sourcemap_core::mappings::{
     parse_mappings, tokens_in_order, write_mappings, write_range_mappings,
 };
 use sourcemap_core::tokens::{NO_ID, RawToken};
-use sourcemap_test_support::check;
+use sourcemap_test_support::checks::{Checked, check};
 use sourcemap_test_support::results::{error_text, text_or_none};
 use sourcemap_test_support::tokens::{Row, tokens};
 use std::alloc::Global;
@@ -155,10 +155,11 @@ fn read(alloc: Global, texts: Texts) -> Result<String> {
 }
 
 #[test]
-fn reads_mappings(rt: HostRuntime) {
+fn reads_mappings(rt: HostRuntime) -> Checked {
     for (about, texts, want) in READ.iter() {
-        check!(rt, about, read(rt.alloc(), *texts), want);
+        check(about, read(rt.alloc(), *texts), want)?;
     }
+    Ok(())
 }
 
 /// No source and no original position.
@@ -236,10 +237,11 @@ fn write_ranges(alloc: Global, rows: &[Row]) -> Result<String> {
 }
 
 #[test]
-fn writes_tokens(rt: HostRuntime) {
+fn writes_tokens(rt: HostRuntime) -> Checked {
     for (about, rows, mappings, ranges) in WRITTEN.iter() {
-        check!(rt, about, write_rows(rt.alloc(), rows), mappings);
+        check(about, write_rows(rt.alloc(), rows), mappings)?;
         let ranges = ranges.unwrap_or("none");
-        check!(rt, about, write_ranges(rt.alloc(), rows), ranges);
+        check(about, write_ranges(rt.alloc(), rows), ranges)?;
     }
+    Ok(())
 }

@@ -2,7 +2,7 @@
 use sourcemap_core::errors::{Error, Result};
 use sourcemap_core::places::{path_url, url_path};
 use sourcemap_core::utils::make_relative_path;
-use sourcemap_test_support::check;
+use sourcemap_test_support::checks::{Checked, check};
 use sourcemap_test_support::results::text_or_none;
 use std::alloc::Global;
 use url::{ParseError, Url};
@@ -28,7 +28,10 @@ static URLS: [(&str, bool, &str); 17] = [
     (
         "/ !\"#$%&'()*+,-.0123456789:;<=>?@AMZ[\\]^_`amz{|}~\u{7f}\u{1}",
         false,
-        "file:///%20%21%22%23%24%25%26%27%28%29%2A%2B%2C-.0123456789%3A%3B%3C%3D%3E%3F%40AMZ%5B%5C%5D%5E_%60amz%7B%7C%7D~%7F%01",
+        concat!(
+            "file:///%20%21%22%23%24%25%26%27%28%29%2A%2B%2C-.0123456789%3A%3B%3C%3D%3E%3F%40",
+            "AMZ%5B%5C%5D%5E_%60amz%7B%7C%7D~%7F%01",
+        ),
     ),
 ];
 
@@ -78,23 +81,26 @@ fn path_of(alloc: Global, text: &str) -> Result<String> {
 }
 
 #[test]
-fn urls_of_paths(rt: HostRuntime) {
+fn urls_of_paths(rt: HostRuntime) -> Checked {
     for (path, folder, want) in URLS.iter() {
-        check!(rt, path, url_of(rt.alloc(), path, *folder), want);
+        check(path, url_of(rt.alloc(), path, *folder), want)?;
     }
+    Ok(())
 }
 
 #[test]
-fn paths_of_urls(rt: HostRuntime) {
+fn paths_of_urls(rt: HostRuntime) -> Checked {
     for (url, want) in PATHS.iter() {
-        check!(rt, url, path_of(rt.alloc(), url), want);
+        check(url, path_of(rt.alloc(), url), want)?;
     }
+    Ok(())
 }
 
 #[test]
-fn relative_paths(rt: HostRuntime) {
+fn relative_paths(rt: HostRuntime) -> Checked {
     for (base, target, want) in RELATIVE.iter() {
         let got = make_relative_path(rt.alloc(), base, target);
-        check!(rt, target, got, want);
+        check(target, got, want)?;
     }
+    Ok(())
 }

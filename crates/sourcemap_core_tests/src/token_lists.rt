@@ -3,7 +3,7 @@ use sourcemap_core::errors::Result;
 use sourcemap_core::tokens::{NO_ID, RawToken, sort_tokens, tokens_in_order};
 use sourcemap_core::utils::greatest_lower_bound;
 use sourcemap_line_index::token_list::TokenList;
-use sourcemap_test_support::check;
+use sourcemap_test_support::checks::{Checked, check, check_that};
 use std::alloc::Global;
 
 // Generated positions of four tokens. The tests identify a token by its original column, which is
@@ -47,10 +47,11 @@ fn closest(alloc: Global, line: u32, col: u32) -> Result<String> {
 }
 
 #[test]
-fn finds_the_closest_token(rt: HostRuntime) {
+fn finds_the_closest_token(rt: HostRuntime) -> Checked {
     for (about, line, col, want) in CLOSEST.iter() {
-        check!(rt, about, closest(rt.alloc(), *line, *col), want);
+        check(about, closest(rt.alloc(), *line, *col), want)?;
     }
+    Ok(())
 }
 
 fn columns(alloc: Global, tokens: &[RawToken]) -> Result<String> {
@@ -74,9 +75,9 @@ fn sort_in_place(alloc: Global) -> Result<String> {
 }
 
 #[test]
-fn sorts_tokens_stably(rt: HostRuntime) {
-    check!(rt, "sorted", sort_text(rt.alloc()), "1 3 0 2 ");
-    check!(rt, "in place", sort_in_place(rt.alloc()), "1 3 0 2 ");
+fn sorts_tokens_stably(rt: HostRuntime) -> Checked {
+    check("sorted", sort_text(rt.alloc()), "1 3 0 2 ")?;
+    check("in place", sort_in_place(rt.alloc()), "1 3 0 2 ")
 }
 
 fn orders(alloc: Global) -> Result<(bool, bool)> {
@@ -85,9 +86,8 @@ fn orders(alloc: Global) -> Result<(bool, bool)> {
 }
 
 #[test]
-fn detects_sorted_tokens(rt: HostRuntime) -> Result<()> {
-    assert!(rt; orders(rt.alloc())? == (false, true));
-    Ok(())
+fn detects_sorted_tokens(rt: HostRuntime) -> Checked {
+    check_that("order", orders(rt.alloc())? == (false, true))
 }
 
 // Two answers. The first is whether a list equals its copy. The second is whether the list equals
@@ -108,8 +108,8 @@ fn ends(alloc: Global) -> Result<String> {
 }
 
 #[test]
-fn compares_and_ends(rt: HostRuntime) {
-    check!(rt, "list", ends(rt.alloc()), "(true, false) true true");
+fn compares_and_ends(rt: HostRuntime) -> Checked {
+    check("list", ends(rt.alloc()), "(true, false) true true")
 }
 
 static PAIRS: [(u32, u32); 5] = [(1, 10), (1, 11), (1, 12), (1, 13), (1, 14)];
@@ -141,8 +141,9 @@ fn bound(alloc: Global, count: usize, key: u32) -> Result<String> {
 }
 
 #[test]
-fn finds_first_at_and_last_before(rt: HostRuntime) {
+fn finds_first_at_and_last_before(rt: HostRuntime) -> Checked {
     for (count, key, want) in BOUNDS.iter() {
-        check!(rt, want, bound(rt.alloc(), *count, *key), want);
+        check(want, bound(rt.alloc(), *count, *key), want)?;
     }
+    Ok(())
 }

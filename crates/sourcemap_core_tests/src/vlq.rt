@@ -2,7 +2,7 @@
 use sourcemap_core::bits::{decode_rmi, encode_rmi, push_bits};
 use sourcemap_core::errors::Result;
 use sourcemap_core::vlq::{generate_vlq_segment, parse_vlq_segment};
-use sourcemap_test_support::check;
+use sourcemap_test_support::checks::{Checked, check};
 use sourcemap_test_support::results::{again, error_text};
 use std::alloc::Global;
 
@@ -54,10 +54,11 @@ fn read(alloc: Global, segment: &str) -> Result<String> {
 }
 
 #[test]
-fn reads_segments(rt: HostRuntime) {
+fn reads_segments(rt: HostRuntime) -> Checked {
     for (about, segment, want) in READ.iter() {
-        check!(rt, about, again(|| read(rt.alloc(), segment)), want);
+        check(about, again(|| read(rt.alloc(), segment)), want)?;
     }
+    Ok(())
 }
 
 // Label, numbers, and their segment or their error.
@@ -85,11 +86,12 @@ fn write_numbers(alloc: Global, numbers: &[i64]) -> Result<String> {
 }
 
 #[test]
-fn writes_segments(rt: HostRuntime) {
+fn writes_segments(rt: HostRuntime) -> Checked {
     for (about, numbers, want) in WRITTEN.iter() {
         let got = again(|| write_numbers(rt.alloc(), numbers));
-        check!(rt, about, got, want);
+        check(about, got, want)?;
     }
+    Ok(())
 }
 
 // The indexes of the set bits among twenty bits, and the shortest text that encodes all twenty
@@ -110,10 +112,11 @@ fn write_bits(alloc: Global, positions: &[usize]) -> Result<String> {
 }
 
 #[test]
-fn writes_bits(rt: HostRuntime) {
+fn writes_bits(rt: HostRuntime) -> Checked {
     for (positions, want) in BITS.iter() {
-        check!(rt, want, write_bits(rt.alloc(), positions), want);
+        check(want, write_bits(rt.alloc(), positions), want)?;
     }
+    Ok(())
 }
 
 // A text, the indexes of the set bits among twenty bits, and the result of `push_bits`: the text,
@@ -136,10 +139,11 @@ fn append_bits_at(alloc: Global, start: &str, positions: &[usize]) -> Result<Str
 }
 
 #[test]
-fn appends_bits_to_a_text(rt: HostRuntime) {
+fn appends_bits_to_a_text(rt: HostRuntime) -> Checked {
     for (start, positions, want) in APPENDED.iter() {
-        check!(rt, want, append_bits_at(rt.alloc(), start, positions), want);
+        check(want, append_bits_at(rt.alloc(), start, positions), want)?;
     }
+    Ok(())
 }
 
 // A label, a text, and the result of decoding the text: either the number of bits and the indexes
@@ -175,8 +179,9 @@ fn read_bits(alloc: Global, text: &str) -> Result<String> {
 }
 
 #[test]
-fn reads_bits(rt: HostRuntime) {
+fn reads_bits(rt: HostRuntime) -> Checked {
     for (about, text, want) in TEXTS.iter() {
-        check!(rt, about, read_bits(rt.alloc(), text), want);
+        check(about, read_bits(rt.alloc(), text), want)?;
     }
+    Ok(())
 }

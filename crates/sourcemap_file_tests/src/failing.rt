@@ -1,7 +1,7 @@
 // Loading of contents when files cannot be opened or read, or have wrong metadata or none.
 use crate::folders::count_or_error;
 use sourcemap::{Result, SourceMapBuilder};
-use sourcemap_test_support::check;
+use sourcemap_test_support::checks::{Checked, check};
 use sourcemap_test_support::files::{FakeFile, unsupported_error};
 use sourcemap_test_support::readers::NarrowReader;
 use sourcemap_test_support::results::push_optional;
@@ -139,9 +139,10 @@ static ROWS: [(ErrorKind, &[&str], &str); 6] = [
 ];
 
 #[test]
-fn an_error_skips_a_source_unless_out_of_memory(rt: HostRuntime) {
+fn an_error_skips_a_source_unless_out_of_memory(rt: HostRuntime) -> Checked {
     for (kind, sources, want) in ROWS.iter() {
         let answer = load_failing(rt.alloc(), *kind, sources);
-        check!(rt, want, answer, want);
+        check(want, answer, want)?;
     }
+    Ok(())
 }

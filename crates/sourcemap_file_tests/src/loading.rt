@@ -1,11 +1,11 @@
 // Contents loaded by a builder.
 use crate::folders::{count_or_error, expand_folder, fill, folder, load};
 use sourcemap::{Result, SourceMapBuilder};
-use sourcemap_test_support::check;
+use sourcemap_test_support::checks::{Checked, check};
 use sourcemap_test_support::results::push_optional;
 use std::alloc::Global;
+use std::fs;
 use std::rt::Files;
-use std::{fs, io};
 
 // Returns a builder with these sources. `@` at the start of a source stands for `folder`. The first
 // source gets the contents `contents`, or no contents if `contents` is `None`.
@@ -250,14 +250,28 @@ static ROWS: [Row; 20] = [
     },
 ];
 
+// The source `a.js` is changed to `gone.js`, and then contents are loaded.
+fn load_changed<F: Files>(rt: &F, alloc: Global, folder: &str) -> Result<String> {
+    let mut builder = SourceMapBuilder::new(alloc, None)?;
+    let id = builder.add_source("a.js")?;
+    if builder.get_source(id).is_some() {
+        builder.set_source(id, "gone.js")?;
+    }
+    load_text(rt, alloc, &mut builder, folder, None, 1)
+}
+
 #[test]
-fn contents_are_loaded(rt: HostRuntime) -> io::Result<()> {
+fn contents_are_loaded(rt: HostRuntime) -> Checked {
     let folder = fill(&rt, "contents_are_loaded")?;
     for row in ROWS.iter() {
         let answer = answer(&rt, rt.alloc(), folder.as_str(), row);
-        check!(rt, row.about, answer, row.want);
+        check(row.about, answer, row.want)?;
     }
-    fs::remove_dir_all(&rt, "contents_are_loaded")
+    // the text with which the source was added counts
+    let got = load_changed(&rt, rt.alloc(), folder.as_str());
+    check("a source that was changed", got, "1 [x] 0")?;
+    fs::remove_dir_all(&rt, "contents_are_loaded")?;
+    Ok(())
 }
 
 // Loads `long.js`. Returns the number of loaded files, the length of the contents in bytes, and
@@ -271,11 +285,12 @@ fn load_long<F: Files>(rt: &F, alloc: Global, folder: &str, bytes: &[u8]) -> Res
 }
 
 #[test]
-fn a_long_file_is_loaded_whole(rt: HostRuntime) -> io::Result<()> {
+fn a_long_file_is_loaded_whole(rt: HostRuntime) -> Checked {
     let folder = folder(&rt, "a_long_file_is_loaded_whole")?;
     let bytes = vec![in rt.alloc(); b'y'; 10_000_003]?;
     fs::write(&rt, "a_long_file_is_loaded_whole/long.js", bytes.as_slice())?;
     let answer = load_long(&rt, rt.alloc(), folder.as_str(), bytes.as_slice());
-    check!(rt, "a long file", answer, "1 10000003 true");
-    fs::remove_dir_all(&rt, "a_long_file_is_loaded_whole")
+    check("a long file", answer, "1 10000003 true")?;
+    fs::remove_dir_all(&rt, "a_long_file_is_loaded_whole")?;
+    Ok(())
 }

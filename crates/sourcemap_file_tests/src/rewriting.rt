@@ -2,12 +2,11 @@
 use crate::folders::fill;
 use sourcemap::types::{RewriteOptions, SourceMap, SourceMapIndex};
 use sourcemap::{Result, SourceMapHermes};
-use sourcemap_test_support::check;
+use sourcemap_test_support::checks::{Checked, check};
 use sourcemap_test_support::results::push_optional;
 use std::alloc::Global;
-use std::process::Abort;
+use std::fs;
 use std::rt::Files;
-use std::{fs, io};
 
 // The sources of a map with their contents.
 fn source_list(alloc: Global, map: &SourceMap) -> Result<String> {
@@ -30,8 +29,10 @@ fn rewrite_with<F: Files>(
     source_list(alloc, &map.rewrite(rt, options)?)
 }
 
-const FOUR: &str =
-    r#"{"mappings":"AAAA,CCAA,CCAA,CCAA","sources":["a.js","b.js","gone.js","kept.js"],"sourcesContent":[null,null,null,"old"]}"#;
+const FOUR: &str = concat!(
+    r#"{"mappings":"AAAA,CCAA,CCAA,CCAA","sources":["a.js","b.js","gone.js","kept.js"],"#,
+    r#""sourcesContent":[null,null,null,"old"]}"#,
+);
 
 const ROOT: &str = r#"{"mappings":"ACAA","sourceRoot":"sub","sources":["a.js","c.js"]}"#;
 
@@ -125,20 +126,22 @@ fn rewrite_row<'a, F: Files>(
     rewrite_with(rt, alloc, row.text, &options)
 }
 
-fn check_row<R: Files + AllocGlobal + Abort>(rt: &R, folder: &str, at: usize) {
+fn check_row<R: Files + AllocGlobal>(rt: &R, folder: &str, at: usize) -> Checked {
     if let Some(row) = ROWS.get(at) {
         let answer = rewrite_row(rt, rt.alloc(), folder, row);
-        check!(rt, row.about, answer, row.want);
+        check(row.about, answer, row.want)?;
     }
+    Ok(())
 }
 
 #[test]
-fn a_rewritten_map_has_what_files_hold(rt: HostRuntime) -> io::Result<()> {
+fn a_rewritten_map_has_what_files_hold(rt: HostRuntime) -> Checked {
     let folder = fill(&rt, "a_rewritten_map_has_what_files_hold")?;
     for at in 0..ROWS.len() {
-        check_row(&rt, folder.as_str(), at);
+        check_row(&rt, folder.as_str(), at)?;
     }
-    fs::remove_dir_all(&rt, "a_rewritten_map_has_what_files_hold")
+    fs::remove_dir_all(&rt, "a_rewritten_map_has_what_files_hold")?;
+    Ok(())
 }
 
 const HERMES: &str =
@@ -157,8 +160,11 @@ fn rewrite_hermes<F: Files>(
     Ok(out)
 }
 
-const INDEX: &str =
-    r#"{"sections":[{"map":{"mappings":"AAAA","sources":["a.js"]},"offset":{"column":0,"line":0}},{"map":{"mappings":"AAAA","sourceRoot":"sub","sources":["c.js"]},"offset":{"column":0,"line":1}}]}"#;
+const INDEX: &str = concat!(
+    r#"{"sections":[{"map":{"mappings":"AAAA","sources":["a.js"]},"offset":{"column":0,"#,
+    r#""line":0}},{"map":{"mappings":"AAAA","sourceRoot":"sub","sources":["c.js"]},"#,
+    r#""offset":{"column":0,"line":1}}]}"#,
+);
 
 fn rewrite_flat<F: Files>(
     rt: &F,
@@ -171,7 +177,7 @@ fn rewrite_flat<F: Files>(
 }
 
 #[test]
-fn rewritten_maps_of_other_kinds_have_what_files_hold(rt: HostRuntime) -> io::Result<()> {
+fn rewritten_maps_of_other_kinds_have_what_files_hold(rt: HostRuntime) -> Checked {
     let name = "rewritten_maps_of_other_kinds_have_what_files_hold";
     let folder = fill(&rt, name)?;
     let options = RewriteOptions {
@@ -180,8 +186,9 @@ fn rewritten_maps_of_other_kinds_have_what_files_hold(rt: HostRuntime) -> io::Re
         ..RewriteOptions::default()
     };
     let answer = rewrite_hermes(&rt, rt.alloc(), HERMES, &options);
-    check!(rt, "a Hermes map", answer, "a.js [x];f");
+    check("a Hermes map", answer, "a.js [x];f")?;
     let answer = rewrite_flat(&rt, rt.alloc(), INDEX, &options);
-    check!(rt, "an index", answer, "a.js [x];sub/c.js [c];");
-    fs::remove_dir_all(&rt, name)
+    check("an index", answer, "a.js [x];sub/c.js [c];")?;
+    fs::remove_dir_all(&rt, name)?;
+    Ok(())
 }

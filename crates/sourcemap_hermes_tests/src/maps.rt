@@ -5,7 +5,7 @@ use sourcemap_hermes::map::SourceMapHermes;
 use sourcemap_map_regular::encode::Encodable;
 use sourcemap_map_regular::token::Token;
 use sourcemap_records::jsontypes::RawSourceMap;
-use sourcemap_test_support::check;
+use sourcemap_test_support::checks::{Checked, check, check_that};
 use sourcemap_test_support::records::record;
 use sourcemap_test_support::results::box_result;
 use std::alloc::Global;
@@ -45,26 +45,38 @@ static NAMES: [(&str, u32, &str); 13] = [
     (NO_SOURCE, 9, "none"),
 ];
 
-pub const TWO_FUNCTIONS: &str =
-    r#"{"version":3,"sources":["a.js"],"mappings":"AAAA,KACK","x_facebook_sources":[[{"names":["<global>","foo"],"mappings":"AAA,KCC"}]]}"#;
+pub const TWO_FUNCTIONS: &str = concat!(
+    r#"{"version":3,"sources":["a.js"],"mappings":"AAAA,KACK","#,
+    r#""x_facebook_sources":[[{"names":["<global>","foo"],"mappings":"AAA,KCC"}]]}"#,
+);
 
-pub const SECOND_SOURCE: &str =
-    r#"{"mappings":"ACAA","names":[],"sources":["a.js","b.js"],"version":3,"x_facebook_sources":[null,[{"mappings":"AAA","names":["f"]}]]}"#;
+pub const SECOND_SOURCE: &str = concat!(
+    r#"{"mappings":"ACAA","names":[],"sources":["a.js","b.js"],"version":3,"#,
+    r#""x_facebook_sources":[null,[{"mappings":"AAA","names":["f"]}]]}"#,
+);
 
 pub const SHORT: &str =
     r#"{"mappings":"ACAA","names":[],"sources":["a.js","b.js"],"version":3,"x_facebook_sources":[]}"#;
 
-pub const LONG: &str =
-    r#"{"mappings":"AAAA","names":[],"sources":["a.js"],"version":3,"x_facebook_sources":[[{"mappings":"AAA","names":["f"]}],null,[]]}"#;
+pub const LONG: &str = concat!(
+    r#"{"mappings":"AAAA","names":[],"sources":["a.js"],"version":3,"#,
+    r#""x_facebook_sources":[[{"mappings":"AAA","names":["f"]}],null,[]]}"#,
+);
 
-const LAST_LINE: &str =
-    r#"{"mappings":"AADA","names":[],"sources":["a.js"],"version":3,"x_facebook_sources":[[{"mappings":"AAA","names":["f"]}]]}"#;
+const LAST_LINE: &str = concat!(
+    r#"{"mappings":"AADA","names":[],"sources":["a.js"],"version":3,"#,
+    r#""x_facebook_sources":[[{"mappings":"AAA","names":["f"]}]]}"#,
+);
 
-pub const BROKEN: &str =
-    r#"{"mappings":"AAAA","names":[],"sources":["a.js"],"version":3,"x_facebook_sources":[[{"mappings":"AAA,!","names":["f"]}]]}"#;
+pub const BROKEN: &str = concat!(
+    r#"{"mappings":"AAAA","names":[],"sources":["a.js"],"version":3,"#,
+    r#""x_facebook_sources":[[{"mappings":"AAA,!","names":["f"]}]]}"#,
+);
 
-const RANGE: &str =
-    r#"{"version":3,"sources":["a.js"],"mappings":"AAAA","rangeMappings":"B","x_facebook_sources":[[{"names":["a","b"],"mappings":"AAA,KCA"}]]}"#;
+const RANGE: &str = concat!(
+    r#"{"version":3,"sources":["a.js"],"mappings":"AAAA","rangeMappings":"B","#,
+    r#""x_facebook_sources":[[{"names":["a","b"],"mappings":"AAA,KCA"}]]}"#,
+);
 
 const NO_TOKEN: &str =
     r#"{"version":3,"sources":["a.js"],"mappings":";AAAA","x_facebook_sources":[[{"names":["f"],"mappings":"AAA"}]]}"#;
@@ -87,11 +99,12 @@ static MAPS: [&str; 7] = [
 ];
 
 #[test]
-fn names_of_functions(rt: HostRuntime) {
+fn names_of_functions(rt: HostRuntime) -> Checked {
     for (text, offset, want) in NAMES.iter() {
         let answer = name_at(rt.alloc(), text, *offset);
-        check!(rt, text, answer, want);
+        check(text, answer, want)?;
     }
+    Ok(())
 }
 
 fn scope_text(alloc: Global, map: &SourceMapHermes, token: Option<Token<'_>>) -> Result<String> {
@@ -108,10 +121,11 @@ fn scope_at(alloc: Global, text: &str, offset: u32) -> Result<String> {
 }
 
 #[test]
-fn scopes_of_tokens(rt: HostRuntime) {
+fn scopes_of_tokens(rt: HostRuntime) -> Checked {
     for (text, offset, want) in NAMES.iter() {
-        check!(rt, text, scope_at(rt.alloc(), text, *offset), want);
+        check(text, scope_at(rt.alloc(), text, *offset), want)?;
     }
+    Ok(())
 }
 
 fn record_of(alloc: Global, text: &str) -> Result<RawSourceMap> {
@@ -124,10 +138,11 @@ fn write_map(alloc: Global, text: &str) -> Result<String> {
 }
 
 #[test]
-fn scopes_are_written_unchanged(rt: HostRuntime) {
+fn scopes_are_written_unchanged(rt: HostRuntime) -> Checked {
     for text in WRITTEN.iter() {
-        check!(rt, text, write_map(rt.alloc(), text), text);
+        check(text, write_map(rt.alloc(), text), text)?;
     }
+    Ok(())
 }
 
 fn write_bytes(alloc: Global, text: &str) -> Result<String> {
@@ -140,26 +155,27 @@ fn write_bytes(alloc: Global, text: &str) -> Result<String> {
 }
 
 #[test]
-fn bytes_are_those_of_the_record(rt: HostRuntime) {
+fn bytes_are_those_of_the_record(rt: HostRuntime) -> Checked {
     for text in WRITTEN.iter() {
-        check!(rt, text, write_bytes(rt.alloc(), text), text);
+        check(text, write_bytes(rt.alloc(), text), text)?;
     }
+    Ok(())
 }
 
 // Whether the encoded map decodes to an equal map.
-fn is_read_back(alloc: Global, text: &str) -> Result<String> {
+fn is_read_back(alloc: Global, text: &str) -> Result<bool> {
     let map = map_of(alloc, text)?;
     let bytes = write_bytes(alloc, text)?;
     let back = map_of(alloc, bytes.as_str())?;
-    let is_same = *map == *back;
-    Ok(format!(in alloc; "{is_same}")?)
+    Ok(*map == *back)
 }
 
 #[test]
-fn bytes_read_back(rt: HostRuntime) {
+fn bytes_read_back(rt: HostRuntime) -> Checked {
     for text in MAPS.iter() {
-        check!(rt, text, is_read_back(rt.alloc(), text), "true");
+        check_that(text, is_read_back(rt.alloc(), text)?)?;
     }
+    Ok(())
 }
 
 fn equals_copy(map: &SourceMapHermes) -> Result<bool> {
@@ -182,10 +198,11 @@ fn copy_map(alloc: Global, text: &str) -> Result<String> {
 }
 
 #[test]
-fn copies_and_maps_of_readers_are_equal(rt: HostRuntime) {
+fn copies_and_maps_of_readers_are_equal(rt: HostRuntime) -> Checked {
     for text in MAPS.iter() {
-        check!(rt, text, copy_map(rt.alloc(), text), "true true");
+        check(text, copy_map(rt.alloc(), text), "true true")?;
     }
+    Ok(())
 }
 
 fn is_decoded(alloc: Global, text: &str) -> Result<bool> {
@@ -218,8 +235,9 @@ static KINDS: [(&str, &str); 3] = [
 ];
 
 #[test]
-fn records_of_other_kinds(rt: HostRuntime) {
+fn records_of_other_kinds(rt: HostRuntime) -> Checked {
     for (text, want) in KINDS.iter() {
-        check!(rt, text, kinds_text(rt.alloc(), text), want);
+        check(text, kinds_text(rt.alloc(), text), want)?;
     }
+    Ok(())
 }

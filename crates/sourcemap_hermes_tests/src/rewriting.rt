@@ -3,7 +3,7 @@ use crate::maps::{BROKEN, LONG, NO_SOURCE, SECOND_SOURCE, SHORT, TWO_FUNCTIONS, 
 use sourcemap_errors::errors::Result;
 use sourcemap_hermes::map::SourceMapHermes;
 use sourcemap_map_regular::rewrite::RewriteOptions;
-use sourcemap_test_support::check;
+use sourcemap_test_support::checks::{Checked, check};
 use sourcemap_test_support::results::error_text;
 use std::alloc::Global;
 use std::rt::Files;
@@ -29,25 +29,38 @@ fn write_rewritten(alloc: Global, map: Result<SourceMapHermes>) -> Result<String
 }
 
 // The first token has the third source, the second token has the first source.
-const TURNED: &str =
-    r#"{"mappings":"AEAA,CFAA","sources":["a.js","b.js","c.js"],"x_facebook_sources":[[{"mappings":"AAA","names":["f"]}],null,[{"mappings":"AAA","names":["h"]}]]}"#;
+const TURNED: &str = concat!(
+    r#"{"mappings":"AEAA,CFAA","sources":["a.js","b.js","c.js"],"#,
+    r#""x_facebook_sources":[[{"mappings":"AAA","names":["f"]}],null,[{"mappings":"AAA","#,
+    r#""names":["h"]}]]}"#,
+);
 
 // Two sources with the same text. The second one is used first.
-const TWINS: &str =
-    r#"{"mappings":"ACAA,CDAA","sources":["a.js","a.js"],"x_facebook_sources":[[{"mappings":"AAA","names":["f"]}],[{"mappings":"AAA","names":["g"]}]]}"#;
+const TWINS: &str = concat!(
+    r#"{"mappings":"ACAA,CDAA","sources":["a.js","a.js"],"#,
+    r#""x_facebook_sources":[[{"mappings":"AAA","names":["f"]}],[{"mappings":"AAA","#,
+    r#""names":["g"]}]]}"#,
+);
 
 // Two sources with the same text. The first one has no functions.
-const HALF: &str =
-    r#"{"mappings":"AAAA,CCAA","sources":["a.js","a.js"],"x_facebook_sources":[null,[{"mappings":"AAA","names":["g"]}]]}"#;
+const HALF: &str = concat!(
+    r#"{"mappings":"AAAA,CCAA","sources":["a.js","a.js"],"x_facebook_sources":[null,"#,
+    r#"[{"mappings":"AAA","names":["g"]}]]}"#,
+);
 
-const ROOTED: &str =
-    r#"{"mappings":"ACAA","sourceRoot":"r","sources":["a.js","b.js"],"x_facebook_sources":[null,[{"mappings":"AAA","names":["g"]}]]}"#;
+const ROOTED: &str = concat!(
+    r#"{"mappings":"ACAA","sourceRoot":"r","sources":["a.js","b.js"],"#,
+    r#""x_facebook_sources":[null,[{"mappings":"AAA","names":["g"]}]]}"#,
+);
 
 // A map, and the map rewritten with default options.
 static DEFAULT: [(&str, &str); 12] = [
     (
         SECOND_SOURCE,
-        r#"{"mappings":"AAAA","names":[],"sources":["b.js"],"version":3,"x_facebook_sources":[[{"mappings":"AAA","names":["f"]}]]}"#,
+        concat!(
+            r#"{"mappings":"AAAA","names":[],"sources":["b.js"],"version":3,"#,
+            r#""x_facebook_sources":[[{"mappings":"AAA","names":["f"]}]]}"#,
+        ),
     ),
     (
         SHORT,
@@ -55,15 +68,25 @@ static DEFAULT: [(&str, &str); 12] = [
     ),
     (
         LONG,
-        r#"{"mappings":"AAAA","names":[],"sources":["a.js"],"version":3,"x_facebook_sources":[[{"mappings":"AAA","names":["f"]}]]}"#,
+        concat!(
+            r#"{"mappings":"AAAA","names":[],"sources":["a.js"],"version":3,"#,
+            r#""x_facebook_sources":[[{"mappings":"AAA","names":["f"]}]]}"#,
+        ),
     ),
     (
         TURNED,
-        r#"{"mappings":"AAAA,CCAA","names":[],"sources":["c.js","a.js"],"version":3,"x_facebook_sources":[[{"mappings":"AAA","names":["h"]}],[{"mappings":"AAA","names":["f"]}]]}"#,
+        concat!(
+            r#"{"mappings":"AAAA,CCAA","names":[],"sources":["c.js","a.js"],"version":3,"#,
+            r#""x_facebook_sources":[[{"mappings":"AAA","names":["h"]}],[{"mappings":"AAA","#,
+            r#""names":["f"]}]]}"#,
+        ),
     ),
     (
         TWINS,
-        r#"{"mappings":"AAAA,CAAA","names":[],"sources":["a.js"],"version":3,"x_facebook_sources":[[{"mappings":"AAA","names":["g"]}]]}"#,
+        concat!(
+            r#"{"mappings":"AAAA,CAAA","names":[],"sources":["a.js"],"version":3,"#,
+            r#""x_facebook_sources":[[{"mappings":"AAA","names":["g"]}]]}"#,
+        ),
     ),
     (
         HALF,
@@ -71,7 +94,10 @@ static DEFAULT: [(&str, &str); 12] = [
     ),
     (
         ROOTED,
-        r#"{"mappings":"AAAA","names":[],"sources":["r/b.js"],"version":3,"x_facebook_sources":[[{"mappings":"AAA","names":["g"]}]]}"#,
+        concat!(
+            r#"{"mappings":"AAAA","names":[],"sources":["r/b.js"],"version":3,"#,
+            r#""x_facebook_sources":[[{"mappings":"AAA","names":["g"]}]]}"#,
+        ),
     ),
     // Each map has two sources, but only one entry in `x_facebook_sources`. Tokens use one source
     // of the first map, and both sources of the second map.
@@ -80,8 +106,14 @@ static DEFAULT: [(&str, &str); 12] = [
         r#"{"mappings":"AAAA","names":[],"sources":["b.js"],"version":3,"x_facebook_sources":[null]}"#,
     ),
     (
-        r#"{"mappings":"ACAA,CDAA","sources":["a.js","b.js"],"x_facebook_sources":[[{"mappings":"AAA","names":["f"]}]]}"#,
-        r#"{"mappings":"AAAA,CCAA","names":[],"sources":["b.js","a.js"],"version":3,"x_facebook_sources":[null,[{"mappings":"AAA","names":["f"]}]]}"#,
+        concat!(
+            r#"{"mappings":"ACAA,CDAA","sources":["a.js","b.js"],"#,
+            r#""x_facebook_sources":[[{"mappings":"AAA","names":["f"]}]]}"#,
+        ),
+        concat!(
+            r#"{"mappings":"AAAA,CCAA","names":[],"sources":["b.js","a.js"],"version":3,"#,
+            r#""x_facebook_sources":[null,[{"mappings":"AAA","names":["f"]}]]}"#,
+        ),
     ),
     // A list of scopes with invalid mappings is unchanged, and so is an empty list.
     (BROKEN, BROKEN),
@@ -97,50 +129,63 @@ static DEFAULT: [(&str, &str); 12] = [
 ];
 
 #[test]
-fn functions_follow_their_sources(rt: HostRuntime) {
+fn functions_follow_their_sources(rt: HostRuntime) -> Checked {
     let options = RewriteOptions::default();
     for (text, want) in DEFAULT.iter() {
         let got = rewrite_with(&rt, rt.alloc(), text, &options);
-        check!(rt, text, got, want);
+        check(text, got, want)?;
     }
+    Ok(())
 }
 
 // A map, prefixes to strip, and the rewritten map. Used sources that resolve to different texts
 // stay separate and keep their scopes, even if stripping makes their texts equal.
 static CUT: [(&str, &[&str], &str); 2] = [
     (
-        r#"{"mappings":"AAAA,CCAA","sources":["/x/a.js","/y/a.js"],"x_facebook_sources":[[{"mappings":"AAA","names":["f"]}],[{"mappings":"AAA","names":["g"]}]]}"#,
+        concat!(
+            r#"{"mappings":"AAAA,CCAA","sources":["/x/a.js","/y/a.js"],"#,
+            r#""x_facebook_sources":[[{"mappings":"AAA","names":["f"]}],[{"mappings":"AAA","#,
+            r#""names":["g"]}]]}"#,
+        ),
         &["/x", "/y"],
-        r#"{"mappings":"AAAA,CCAA","names":[],"sources":["a.js","a.js"],"version":3,"x_facebook_sources":[[{"mappings":"AAA","names":["f"]}],[{"mappings":"AAA","names":["g"]}]]}"#,
+        concat!(
+            r#"{"mappings":"AAAA,CCAA","names":[],"sources":["a.js","a.js"],"version":3,"#,
+            r#""x_facebook_sources":[[{"mappings":"AAA","names":["f"]}],[{"mappings":"AAA","#,
+            r#""names":["g"]}]]}"#,
+        ),
     ),
     (
         ROOTED,
         &["r"],
-        r#"{"mappings":"AAAA","names":[],"sources":["b.js"],"version":3,"x_facebook_sources":[[{"mappings":"AAA","names":["g"]}]]}"#,
+        concat!(
+            r#"{"mappings":"AAAA","names":[],"sources":["b.js"],"version":3,"#,
+            r#""x_facebook_sources":[[{"mappings":"AAA","names":["g"]}]]}"#,
+        ),
     ),
 ];
 
 #[test]
-fn functions_stay_where_prefixes_are_cut(rt: HostRuntime) {
+fn functions_stay_where_prefixes_are_cut(rt: HostRuntime) -> Checked {
     for (text, prefixes, want) in CUT.iter() {
         let options = RewriteOptions {
             strip_prefixes: prefixes,
             ..RewriteOptions::default()
         };
         let got = rewrite_with(&rt, rt.alloc(), text, &options);
-        check!(rt, text, got, want);
+        check(text, got, want)?;
     }
+    Ok(())
 }
 
 #[test]
-fn a_folder_is_needed_to_load_contents(rt: HostRuntime) {
+fn a_folder_is_needed_to_load_contents(rt: HostRuntime) -> Checked {
     let options = RewriteOptions {
         load_local_source_contents: true,
         ..RewriteOptions::default()
     };
     let want = "invalid input parameter";
     let got = rewrite_with(&rt, rt.alloc(), TURNED, &options);
-    check!(rt, want, got, want);
+    check(want, got, want)
 }
 
 // The function name at a bytecode offset after rewriting with default options.
@@ -167,9 +212,10 @@ static NAMES: [(&str, u32, &str); 10] = [
 ];
 
 #[test]
-fn names_of_functions_stay(rt: HostRuntime) {
+fn names_of_functions_stay(rt: HostRuntime) -> Checked {
     for (text, offset, want) in NAMES.iter() {
         let answer = name_then(&rt, rt.alloc(), text, *offset);
-        check!(rt, text, answer, want);
+        check(text, answer, want)?;
     }
+    Ok(())
 }

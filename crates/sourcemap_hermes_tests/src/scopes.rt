@@ -5,7 +5,7 @@ use sourcemap_errors::errors::{Error, Result};
 use sourcemap_hermes_scopes::function_map::HermesFunctionMap;
 use sourcemap_hermes_scopes::scope_lists::ScopeLists;
 use sourcemap_hermes_scopes::source_scopes::SourceScopes;
-use sourcemap_test_support::check;
+use sourcemap_test_support::checks::{Checked, check, check_that};
 use sourcemap_test_support::records::record;
 use std::alloc::Global;
 
@@ -98,11 +98,12 @@ static MAPPINGS: [(&str, u32, u32, &str); 31] = [
 ];
 
 #[test]
-fn names_of_functions(rt: HostRuntime) {
+fn names_of_functions(rt: HostRuntime) -> Checked {
     for (mappings, line, col, want) in MAPPINGS.iter() {
         let answer = name_in_mappings(rt.alloc(), mappings, *line, *col);
-        check!(rt, mappings, answer, want);
+        check(mappings, answer, want)?;
     }
+    Ok(())
 }
 
 // Scope mappings with unsorted offsets. For unsorted offsets, the contract of `SourceScopes::scope`
@@ -115,13 +116,10 @@ fn is_some_name_or_none(alloc: Global, mappings: &str, col: u32) -> Result<bool>
 }
 
 #[test]
-fn offsets_out_of_order(rt: HostRuntime) -> Result<()> {
+fn offsets_out_of_order(rt: HostRuntime) -> Checked {
     for mappings in UNORDERED.iter() {
         for col in 0..20 {
-            assert!(rt;
-                is_some_name_or_none(rt.alloc(), mappings, col)?,
-                "{mappings}"
-            );
+            check_that(mappings, is_some_name_or_none(rt.alloc(), mappings, col)?)?;
         }
     }
     Ok(())
@@ -133,8 +131,11 @@ const SECOND: &str = r#"{"x_facebook_sources":[null,[{"names":["f"],"mappings":"
 
 const EMPTY: &str = r#"{"x_facebook_sources":[]}"#;
 
-const LISTS: &str =
-    r#"{"x_facebook_sources":[[],[{"names":["f"],"mappings":"!"},{"names":["g"],"mappings":"AAA"}],[{"names":["h"],"mappings":"AAA"},{"names":["i"],"mappings":"!"}],null]}"#;
+const LISTS: &str = concat!(
+    r#"{"x_facebook_sources":[[],[{"names":["f"],"mappings":"!"},{"names":["g"],"#,
+    r#""mappings":"AAA"}],[{"names":["h"],"mappings":"AAA"},{"names":["i"],"#,
+    r#""mappings":"!"}],null]}"#,
+);
 
 // A record with lists of scopes, a source id, an original line and column, and the function name.
 static SOURCES: [(&str, u32, u32, u32, &str); 13] = [
@@ -154,11 +155,12 @@ static SOURCES: [(&str, u32, u32, u32, &str); 13] = [
 ];
 
 #[test]
-fn names_by_source(rt: HostRuntime) {
+fn names_by_source(rt: HostRuntime) -> Checked {
     for (text, source, line, col, want) in SOURCES.iter() {
         let got = name_at_position(rt.alloc(), text, *source, *line, *col);
-        check!(rt, text, got, want);
+        check(text, got, want)?;
     }
+    Ok(())
 }
 
 fn write_scopes(alloc: Global, lists: ScopeLists) -> Result<String> {
@@ -197,7 +199,11 @@ static SELECTED: [(&str, &str, &[u32], &str); 5] = [
         "all, with texts that cannot be read",
         LISTS,
         &[0, 1, 2, 3],
-        r#"{"sources":null,"version":null,"x_facebook_sources":[[],[{"mappings":"!","names":["f"]},{"mappings":"AAA","names":["g"]}],[{"mappings":"AAA","names":["h"]},{"mappings":"!","names":["i"]}],null]}"#,
+        concat!(
+            r#"{"sources":null,"version":null,"x_facebook_sources":[[],[{"mappings":"!","#,
+            r#""names":["f"]},{"mappings":"AAA","names":["g"]}],[{"mappings":"AAA","#,
+            r#""names":["h"]},{"mappings":"!","names":["i"]}],null]}"#,
+        ),
     ),
     (
         "none",
@@ -208,10 +214,11 @@ static SELECTED: [(&str, &str, &[u32], &str); 5] = [
 ];
 
 #[test]
-fn selected_scopes_are_written(rt: HostRuntime) {
+fn selected_scopes_are_written(rt: HostRuntime) -> Checked {
     for (about, text, ids, want) in SELECTED.iter() {
-        check!(rt, about, write_selected(rt.alloc(), text, ids), want);
+        check(about, write_selected(rt.alloc(), text, ids), want)?;
     }
+    Ok(())
 }
 
 fn name_when_selected(alloc: Global, text: &str, ids: &[u32], source: u32) -> Result<String> {
@@ -236,11 +243,12 @@ static MOVED: [(&str, &str, &[u32], u32, &str); 5] = [
 ];
 
 #[test]
-fn names_of_selected_scopes(rt: HostRuntime) {
+fn names_of_selected_scopes(rt: HostRuntime) -> Checked {
     for (about, text, ids, source, want) in MOVED.iter() {
         let got = name_when_selected(rt.alloc(), text, ids, *source);
-        check!(rt, about, got, want);
+        check(about, got, want)?;
     }
+    Ok(())
 }
 
 fn is_equal(alloc: Global, scopes: &SourceScopes, text: &str) -> Result<bool> {
@@ -272,14 +280,15 @@ fn copy_scopes(alloc: Global, text: &str) -> Result<String> {
 }
 
 #[test]
-fn copies_are_equal(rt: HostRuntime) -> Result<()> {
+fn copies_are_equal(rt: HostRuntime) -> Checked {
     let alloc = rt.alloc();
-    assert!(rt; compare_scopes(alloc, LISTS, SECOND)? == (true, true, false));
-    assert!(rt; compare_scopes(alloc, ROW, EMPTY)? == (true, true, false));
+    let is_as_due = compare_scopes(alloc, LISTS, SECOND)? == (true, true, false);
+    check_that(LISTS, is_as_due)?;
+    let is_as_due = compare_scopes(alloc, ROW, EMPTY)? == (true, true, false);
+    check_that(ROW, is_as_due)?;
     let want =
         r#"{"sources":null,"version":null,"x_facebook_sources":[null,[{"mappings":"AAA","names":["f"]}]]}"#;
-    check!(rt, SECOND, copy_scopes(alloc, SECOND), want);
-    Ok(())
+    check(SECOND, copy_scopes(alloc, SECOND), want)
 }
 
 // Scope mappings, an original line and an original column. Then the text that `index_text` returns,
@@ -307,9 +316,10 @@ fn index_at(alloc: Global, mappings: &str, line: u32, col: u32) -> Result<String
 }
 
 #[test]
-fn copies_of_function_maps_answer_alike(rt: HostRuntime) {
+fn copies_of_function_maps_answer_alike(rt: HostRuntime) -> Checked {
     for (mappings, line, col, want) in FUNCTIONS.iter() {
         let got = index_at(rt.alloc(), mappings, *line, *col);
-        check!(rt, mappings, got, want);
+        check(mappings, got, want)?;
     }
+    Ok(())
 }

@@ -7,7 +7,7 @@ use sourcemap::decoder::decode_slice;
 use sourcemap::encoder::Encodable;
 use sourcemap::errors::{Error, Result};
 use sourcemap::types::{DecodedMap, SourceMapIndex, SourceMapSection};
-use sourcemap_test_support::check;
+use sourcemap_test_support::checks::{Checked, check};
 use sourcemap_test_support::results::box_result;
 use std::alloc::Global;
 
@@ -190,10 +190,11 @@ static CHANGES: [(Change, &str); 11] = [
 ];
 
 #[test]
-fn one_part_of_an_index_is_changed(rt: HostRuntime) {
+fn one_part_of_an_index_is_changed(rt: HostRuntime) -> Checked {
     for (change, want) in CHANGES.iter() {
-        check!(rt, want, apply_change(rt.alloc(), *change), want);
+        check(want, apply_change(rt.alloc(), *change), want)?;
     }
+    Ok(())
 }
 
 // An index map without sections, but with both lists of a RAM bundle: `x_facebook_offsets` and
@@ -229,9 +230,9 @@ fn bundle_text(alloc: Global) -> Result<String> {
 }
 
 #[test]
-fn indexes_are_made_for_bundles(rt: HostRuntime) {
+fn indexes_are_made_for_bundles(rt: HostRuntime) -> Checked {
     let want = r#"Some([Some(5), None]) Some(["a.js"]) true"#;
-    check!(rt, "a bundle", bundle_text(rt.alloc()), want);
+    check("a bundle", bundle_text(rt.alloc()), want)
 }
 
 fn empty(alloc: Global) -> Result<Box<SourceMapIndex>> {
@@ -261,12 +262,14 @@ fn made_index_text(alloc: Global, index: Result<Box<SourceMapIndex>>) -> Result<
 }
 
 #[test]
-fn indexes_of_no_section_are_written_and_read_back(rt: HostRuntime) {
+fn indexes_of_no_section_are_written_and_read_back(rt: HostRuntime) -> Checked {
     let alloc = rt.alloc();
     let want = r#"{"file":"test.js","sections":[],"sources":null,"version":3} true"#;
-    check!(rt, "a file", made_index_text(alloc, empty(alloc)), want);
-    let want =
-        r#"{"sections":[],"sources":null,"version":3,"x_facebook_offsets":[5,null],"x_metro_module_paths":["a.js"]} true"#;
+    check("a file", made_index_text(alloc, empty(alloc)), want)?;
+    let want = concat!(
+        r#"{"sections":[],"sources":null,"version":3,"x_facebook_offsets":[5,null],"#,
+        r#""x_metro_module_paths":["a.js"]} true"#,
+    );
     let got = made_index_text(alloc, bundle_index(alloc));
-    check!(rt, "a bundle", got, want);
+    check("a bundle", got, want)
 }

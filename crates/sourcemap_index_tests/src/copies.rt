@@ -3,7 +3,7 @@ use crate::maps::{index_of, map_of};
 use crate::samples::{BUNDLE, HERMES, LINKED, NEITHER, NESTED, TWO};
 use sourcemap::errors::Result;
 use sourcemap::types::{DecodedMap, SourceMapIndex, SourceMapSection};
-use sourcemap_test_support::check;
+use sourcemap_test_support::checks::{Checked, check};
 use sourcemap_test_support::results::box_result;
 use std::alloc::Global;
 
@@ -45,11 +45,12 @@ static COMPARED: [(&str, &str, &str); 7] = [
 ];
 
 #[test]
-fn copies_are_equal(rt: HostRuntime) {
+fn copies_are_equal(rt: HostRuntime) -> Checked {
     let alloc = rt.alloc();
     for (text, other, want) in COMPARED.iter() {
-        check!(rt, text, compare_maps(alloc, text, other), want);
+        check(text, compare_maps(alloc, text, other), want)?;
     }
+    Ok(())
 }
 
 // An index map and its first section are copied, and each copy is compared with its original.
@@ -76,8 +77,9 @@ fn copy_parts(alloc: Global, text: &str) -> Result<String> {
 }
 
 #[test]
-fn copies_of_indexes_and_sections_are_equal(rt: HostRuntime) {
+fn copies_of_indexes_and_sections_are_equal(rt: HostRuntime) -> Checked {
     for text in [TWO, LINKED, NEITHER, NESTED, HERMES].iter() {
-        check!(rt, text, copy_parts(rt.alloc(), text), "true true");
+        check(text, copy_parts(rt.alloc(), text), "true true")?;
     }
+    Ok(())
 }

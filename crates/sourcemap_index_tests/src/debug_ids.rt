@@ -5,7 +5,7 @@ use crate::maps::{map_of, value_text};
 use sourcemap::errors::Result;
 use sourcemap::jsontypes::DebugId;
 use sourcemap::types::DecodedMap;
-use sourcemap_test_support::check;
+use sourcemap_test_support::checks::{Checked, check};
 use sourcemap_test_support::results::{box_result, error_of, text_or_none};
 use std::alloc::Global;
 
@@ -30,8 +30,10 @@ fn read(alloc: Global, text: &str) -> Result<String> {
     }
 }
 
-const BOTH: &str =
-    r#"{"sections":[],"debug_id":"11111111-1111-1111-1111-111111111111","debugId":"00000000-0000-0000-0000-000000000000"}"#;
+const BOTH: &str = concat!(
+    r#"{"sections":[],"debug_id":"11111111-1111-1111-1111-111111111111","#,
+    r#""debugId":"00000000-0000-0000-0000-000000000000"}"#,
+);
 
 // The text of an index map. Then its debug id and the text that it is written as, or the error.
 static READ: [(&str, &str); 8] = [
@@ -42,25 +44,43 @@ static READ: [(&str, &str); 8] = [
     // An id under `debugId` or `debug_id` is written under `debugId`, with hyphens.
     (
         r#"{"sections":[],"debugId":"0123456789abcdef0123456789abcdef"}"#,
-        r#"01234567-89ab-cdef-0123-456789abcdef {"debugId":"01234567-89ab-cdef-0123-456789abcdef","sections":[],"sources":null,"version":3}"#,
+        concat!(
+            r#"01234567-89ab-cdef-0123-456789abcdef {"debugId":"01234567-89ab-cdef-0123-456789a"#,
+            r#"bcdef","sections":[],"sources":null,"version":3}"#,
+        ),
     ),
     (
         r#"{"sections":[],"debug_id":"0123456789abcdef0123456789abcdef"}"#,
-        r#"01234567-89ab-cdef-0123-456789abcdef {"debugId":"01234567-89ab-cdef-0123-456789abcdef","sections":[],"sources":null,"version":3}"#,
+        concat!(
+            r#"01234567-89ab-cdef-0123-456789abcdef {"debugId":"01234567-89ab-cdef-0123-456789a"#,
+            r#"bcdef","sections":[],"sources":null,"version":3}"#,
+        ),
     ),
     // `debugId` wins over `debug_id`, in any order of the keys.
     (
         BOTH,
-        r#"00000000-0000-0000-0000-000000000000 {"debugId":"00000000-0000-0000-0000-000000000000","sections":[],"sources":null,"version":3}"#,
+        concat!(
+            r#"00000000-0000-0000-0000-000000000000 {"debugId":"00000000-0000-0000-0000-0000000"#,
+            r#"00000","sections":[],"sources":null,"version":3}"#,
+        ),
     ),
     (
-        r#"{"debugId":"00000000-0000-0000-0000-000000000000","debug_id":"11111111-1111-1111-1111-111111111111","sections":[]}"#,
-        r#"00000000-0000-0000-0000-000000000000 {"debugId":"00000000-0000-0000-0000-000000000000","sections":[],"sources":null,"version":3}"#,
+        concat!(
+            r#"{"debugId":"00000000-0000-0000-0000-000000000000","#,
+            r#""debug_id":"11111111-1111-1111-1111-111111111111","sections":[]}"#,
+        ),
+        concat!(
+            r#"00000000-0000-0000-0000-000000000000 {"debugId":"00000000-0000-0000-0000-0000000"#,
+            r#"00000","sections":[],"sources":null,"version":3}"#,
+        ),
     ),
     // A key with the value null counts as missing.
     (
         r#"{"sections":[],"debug_id":"11111111-1111-1111-1111-111111111111","debugId":null}"#,
-        r#"11111111-1111-1111-1111-111111111111 {"debugId":"11111111-1111-1111-1111-111111111111","sections":[],"sources":null,"version":3}"#,
+        concat!(
+            r#"11111111-1111-1111-1111-111111111111 {"debugId":"11111111-1111-1111-1111-1111111"#,
+            r#"11111","sections":[],"sources":null,"version":3}"#,
+        ),
     ),
     // Both keys are read, so an invalid id under either key is an error.
     (
@@ -74,10 +94,11 @@ static READ: [(&str, &str); 8] = [
 ];
 
 #[test]
-fn debug_ids_of_indexes_are_read(rt: HostRuntime) {
+fn debug_ids_of_indexes_are_read(rt: HostRuntime) -> Checked {
     for (text, want) in READ.iter() {
-        check!(rt, text, read(rt.alloc(), text), want);
+        check(text, read(rt.alloc(), text), want)?;
     }
+    Ok(())
 }
 
 fn text_with(alloc: Global, map: &mut DecodedMap, id: Option<&str>) -> Result<String> {
@@ -95,12 +116,18 @@ static SET: [(&str, Option<&str>, &str); 4] = [
     (
         r#"{"sections":[],"file":"test.js"}"#,
         Some(ID),
-        r#"01234567-89ab-cdef-0123-456789abcdef {"debugId":"01234567-89ab-cdef-0123-456789abcdef","file":"test.js","sections":[],"sources":null,"version":3}"#,
+        concat!(
+            r#"01234567-89ab-cdef-0123-456789abcdef {"debugId":"01234567-89ab-cdef-0123-456789a"#,
+            r#"bcdef","file":"test.js","sections":[],"sources":null,"version":3}"#,
+        ),
     ),
     (
         BOTH,
         Some(ID),
-        r#"01234567-89ab-cdef-0123-456789abcdef {"debugId":"01234567-89ab-cdef-0123-456789abcdef","sections":[],"sources":null,"version":3}"#,
+        concat!(
+            r#"01234567-89ab-cdef-0123-456789abcdef {"debugId":"01234567-89ab-cdef-0123-456789a"#,
+            r#"bcdef","sections":[],"sources":null,"version":3}"#,
+        ),
     ),
     (
         BOTH,
@@ -109,17 +136,26 @@ static SET: [(&str, Option<&str>, &str); 4] = [
     ),
     // A section's map keeps its own debug id.
     (
-        r#"{"debugId":"00000000-0000-0000-0000-000000000000","sections":[{"offset":{"line":0,"column":0},"map":{"sections":[],"debugId":"11111111-1111-1111-1111-111111111111"}}]}"#,
+        concat!(
+            r#"{"debugId":"00000000-0000-0000-0000-000000000000","#,
+            r#""sections":[{"offset":{"line":0,"column":0},"map":{"sections":[],"#,
+            r#""debugId":"11111111-1111-1111-1111-111111111111"}}]}"#,
+        ),
         None,
-        r#"none {"sections":[{"map":{"debugId":"11111111-1111-1111-1111-111111111111","sections":[],"sources":null,"version":3},"offset":{"column":0,"line":0},"url":null}],"sources":null,"version":3}"#,
+        concat!(
+            r#"none {"sections":[{"map":{"debugId":"11111111-1111-1111-1111-111111111111","#,
+            r#""sections":[],"sources":null,"version":3},"offset":{"column":0,"line":0},"#,
+            r#""url":null}],"sources":null,"version":3}"#,
+        ),
     ),
 ];
 
 #[test]
-fn debug_ids_of_indexes_are_set(rt: HostRuntime) {
+fn debug_ids_of_indexes_are_set(rt: HostRuntime) -> Checked {
     for (text, id, want) in SET.iter() {
-        check!(rt, text, set(rt.alloc(), text, *id), want);
+        check(text, set(rt.alloc(), text, *id), want)?;
     }
+    Ok(())
 }
 
 fn empty_index(alloc: Global) -> Result<Box<DecodedMap>> {
@@ -145,6 +181,6 @@ fn empty_index_text(alloc: Global) -> Result<String> {
 }
 
 #[test]
-fn indexes_that_are_made_get_debug_ids(rt: HostRuntime) {
-    check!(rt, "made", empty_index_text(rt.alloc()), "true true true");
+fn indexes_that_are_made_get_debug_ids(rt: HostRuntime) -> Checked {
+    check("made", empty_index_text(rt.alloc()), "true true true")
 }

@@ -2,9 +2,11 @@
 use sourcemap::decoder::{decode, decode_data_url, decode_slice, decode_vec};
 use sourcemap::errors::Result;
 use sourcemap::types::{DecodedMap, SourceMapIndex, SourceMapSection};
-use sourcemap_test_support::check;
+use sourcemap_test_support::checks::{Checked, check};
+use sourcemap_test_support::readers::HaltingReader;
 use sourcemap_test_support::results::{box_result, error_of};
 use std::alloc::Global;
+use std::io::ErrorKind;
 
 fn section_text(alloc: Global, section: &SourceMapSection) -> Result<String> {
     let held = match section.get_sourcemap() {
@@ -47,7 +49,11 @@ fn describe(alloc: Global, answer: Result<DecodedMap>) -> Result<String> {
 static TEXTS: [(&str, &str); 19] = [
     // Sections are sorted stably by offset.
     (
-        r#"{"sections":[{"offset":{"line":10,"column":4},"url":"p"},{"offset":{"line":0,"column":7},"url":"q"},{"offset":{"line":10,"column":4},"url":"r"},{"offset":{"line":10,"column":3},"map":{"sections":[]}}]}"#,
+        concat!(
+            r#"{"sections":[{"offset":{"line":10,"column":4},"url":"p"},{"offset":{"line":0,"#,
+            r#""column":7},"url":"q"},{"offset":{"line":10,"column":4},"url":"r"},"#,
+            r#"{"offset":{"line":10,"column":3},"map":{"sections":[]}}]}"#,
+        ),
         r#"0:7 Some("q") no map;10:3 None an index;10:4 Some("p") no map;10:4 Some("r") no map;"#,
     ),
     (
@@ -72,7 +78,10 @@ static TEXTS: [(&str, &str); 19] = [
         "a regular map",
     ),
     (
-        r#"{"sections":[{"offset":{"line":0,"column":0},"map":{"x_facebook_sources":[null],"mappings":"A"}},{"offset":{"line":1,"column":0},"map":{"sections":[]}}]}"#,
+        concat!(
+            r#"{"sections":[{"offset":{"line":0,"column":0},"map":{"x_facebook_sources":[null],"#,
+            r#""mappings":"A"}},{"offset":{"line":1,"column":0},"map":{"sections":[]}}]}"#,
+        ),
         "0:0 None a Hermes map;1:0 None an index;",
     ),
     (
@@ -91,23 +100,41 @@ static TEXTS: [(&str, &str); 19] = [
     // If two sections have invalid mappings, decoding returns the error of the section that comes
     // first in the text, whatever the offsets are.
     (
-        r#"{"sections":[{"offset":{"line":9,"column":0},"map":{"mappings":"!"}},{"offset":{"line":0,"column":0},"map":{"mappings":"AAAAAA"}}]}"#,
+        concat!(
+            r#"{"sections":[{"offset":{"line":9,"column":0},"map":{"mappings":"!"}},"#,
+            r#"{"offset":{"line":0,"column":0},"map":{"mappings":"AAAAAA"}}]}"#,
+        ),
         "invalid base64 character: !",
     ),
     (
-        r#"{"sections":[{"offset":{"line":9,"column":0},"map":{"mappings":"AAAAAA"}},{"offset":{"line":0,"column":0},"map":{"mappings":"!"}}]}"#,
+        concat!(
+            r#"{"sections":[{"offset":{"line":9,"column":0},"map":{"mappings":"AAAAAA"}},"#,
+            r#"{"offset":{"line":0,"column":0},"map":{"mappings":"!"}}]}"#,
+        ),
         "got 6 segments, expected 4 or 5",
     ),
     (
-        r#"{"sections":[{"offset":{"line":9,"column":0},"map":{"sections":[{"offset":{"line":0,"column":0},"url":"u"},{"offset":{"line":0,"column":0},"map":{"mappings":"AAAA"}}]}},{"offset":{"line":0,"column":0},"map":{"mappings":"!"}}]}"#,
+        concat!(
+            r#"{"sections":[{"offset":{"line":9,"column":0},"#,
+            r#""map":{"sections":[{"offset":{"line":0,"column":0},"url":"u"},"#,
+            r#"{"offset":{"line":0,"column":0},"map":{"mappings":"AAAA"}}]}},"#,
+            r#"{"offset":{"line":0,"column":0},"map":{"mappings":"!"}}]}"#,
+        ),
         "bad reference to source #0",
     ),
     (
-        r#"{"sections":[{"offset":{"line":9,"column":0},"map":{"x_facebook_sources":[],"mappings":"!"}},{"offset":{"line":0,"column":0},"map":{"mappings":"AAAAAA"}}]}"#,
+        concat!(
+            r#"{"sections":[{"offset":{"line":9,"column":0},"map":{"x_facebook_sources":[],"#,
+            r#""mappings":"!"}},{"offset":{"line":0,"column":0},"map":{"mappings":"AAAAAA"}}]}"#,
+        ),
         "invalid base64 character: !",
     ),
     (
-        r#"{"sections":[{"offset":{"line":0,"column":0},"map":{"mappings":"AAAAAA"}},{"offset":{"line":1,"column":0},"map":{"x_facebook_sources":[],"mappings":"!"}}]}"#,
+        concat!(
+            r#"{"sections":[{"offset":{"line":0,"column":0},"map":{"mappings":"AAAAAA"}},"#,
+            r#"{"offset":{"line":1,"column":0},"map":{"x_facebook_sources":[],"#,
+            r#""mappings":"!"}}]}"#,
+        ),
         "got 6 segments, expected 4 or 5",
     ),
     // The fields of all sections are read before any mappings are decoded. So the error is for the
@@ -124,19 +151,27 @@ static TEXTS: [(&str, &str); 19] = [
     ("[]", "bad json: a field has the wrong type"),
 ];
 
+// A reader that returns these bytes one by one and is interrupted before each.
+fn one_by_one(bytes: &[u8]) -> HaltingReader<'_> {
+    HaltingReader::new(bytes, usize::MAX, ErrorKind::TimedOut)
+}
+
 fn read_owned(alloc: Global, text: &str) -> Result<DecodedMap> {
     decode_vec(alloc, Vec::from_slice(alloc, text.as_bytes())?)
 }
 
 #[test]
-fn records_are_read_section_by_section(rt: HostRuntime) {
+fn records_are_read_section_by_section(rt: HostRuntime) -> Checked {
     let alloc = rt.alloc();
     for (text, want) in TEXTS.iter() {
         let bytes = text.as_bytes();
-        check!(rt, text, describe(alloc, decode_slice(alloc, bytes)), want);
-        check!(rt, text, describe(alloc, read_owned(alloc, text)), want);
-        check!(rt, text, describe(alloc, decode(alloc, bytes)), want);
+        check(text, describe(alloc, decode_slice(alloc, bytes)), want)?;
+        check(text, describe(alloc, read_owned(alloc, text)), want)?;
+        check(text, describe(alloc, decode(alloc, bytes)), want)?;
+        let read = decode(alloc, one_by_one(bytes));
+        check(text, describe(alloc, read), want)?;
     }
+    Ok(())
 }
 
 fn index_text(alloc: Global, answer: Result<SourceMapIndex>) -> Result<String> {
@@ -149,7 +184,10 @@ fn index_text(alloc: Global, answer: Result<SourceMapIndex>) -> Result<String> {
 // A text to decode as an index map. Then the text of the sections, or the text of the error.
 static INDEXES: [(&str, &str); 8] = [
     (
-        r#"{"sections":[{"offset":{"line":3,"column":0},"url":"p"},{"offset":{"line":1,"column":2},"map":{"mappings":"A"}}]}"#,
+        concat!(
+            r#"{"sections":[{"offset":{"line":3,"column":0},"url":"p"},{"offset":{"line":1,"#,
+            r#""column":2},"map":{"mappings":"A"}}]}"#,
+        ),
         r#"1:2 None a map;3:0 Some("p") no map;"#,
     ),
     (r#"{"sections":[]}"#, ""),
@@ -177,15 +215,18 @@ static INDEXES: [(&str, &str); 8] = [
 ];
 
 #[test]
-fn indexes_alone_are_read(rt: HostRuntime) {
+fn indexes_alone_are_read(rt: HostRuntime) -> Checked {
     let alloc = rt.alloc();
     for (text, want) in INDEXES.iter() {
         let bytes = text.as_bytes();
         let read = SourceMapIndex::from_slice(alloc, bytes);
-        check!(rt, text, index_text(alloc, read), want);
+        check(text, index_text(alloc, read), want)?;
         let streamed = SourceMapIndex::from_reader(alloc, bytes);
-        check!(rt, text, index_text(alloc, streamed), want);
+        check(text, index_text(alloc, streamed), want)?;
+        let streamed = SourceMapIndex::from_reader(alloc, one_by_one(bytes));
+        check(text, index_text(alloc, streamed), want)?;
     }
+    Ok(())
 }
 
 // A data URL. Then the text of the sections of its index map, or the text of the error.
@@ -201,9 +242,10 @@ static URLS: [(&str, &str); 2] = [
 ];
 
 #[test]
-fn data_urls_are_read(rt: HostRuntime) {
+fn data_urls_are_read(rt: HostRuntime) -> Checked {
     let alloc = rt.alloc();
     for (url, want) in URLS.iter() {
-        check!(rt, url, describe(alloc, decode_data_url(alloc, url)), want);
+        check(url, describe(alloc, decode_data_url(alloc, url)), want)?;
     }
+    Ok(())
 }

@@ -3,7 +3,7 @@ use crate::maps::{index_of, record_text};
 use crate::samples::{BUNDLE, HERMES, LINKED, NEITHER, NESTED, TWO};
 use sourcemap::errors::Result;
 use sourcemap::types::{RewriteOptions, SourceMap};
-use sourcemap_test_support::check;
+use sourcemap_test_support::checks::{Checked, check};
 use sourcemap_test_support::results::{again, error_of};
 use std::alloc::Global;
 use std::rt::Files;
@@ -12,16 +12,22 @@ const PAST_THE_END: &str =
     r#"{"sections":[{"offset":{"line":4294967295,"column":0},"map":{"sources":["a.js"],"mappings":";AAAA"}}]}"#;
 
 // Two sections whose maps have the same source, with different contents.
-const SHARED: &str =
-    r#"{"sections":[{"offset":{"line":0,"column":0},"map":{"sources":["a.js"],"sourcesContent":["x"],"mappings":"AAAA"}},{"offset":{"line":1,"column":0},"map":{"sources":["a.js"],"sourcesContent":["y"],"mappings":"AAAA","ignoreList":[0]}}]}"#;
+const SHARED: &str = concat!(
+    r#"{"sections":[{"offset":{"line":0,"column":0},"map":{"sources":["a.js"],"#,
+    r#""sourcesContent":["x"],"mappings":"AAAA"}},{"offset":{"line":1,"column":0},"#,
+    r#""map":{"sources":["a.js"],"sourcesContent":["y"],"mappings":"AAAA","#,
+    r#""ignoreList":[0]}}]}"#,
+);
 
 // The column of a section's offset moves only the tokens on the first line of the section.
 const INDENTED: &str =
     r#"{"sections":[{"offset":{"line":10,"column":4},"map":{"sources":["a.js"],"mappings":"AAAA;AAAA"}}]}"#;
 
 // Neither section can be flattened. `flatten` returns the error for the first section.
-const PAST_THE_COLUMNS: &str =
-    r#"{"sections":[{"offset":{"line":0,"column":4294967295},"map":{"sources":["a.js"],"mappings":"CAAA"}},{"offset":{"line":1,"column":0}}]}"#;
+const PAST_THE_COLUMNS: &str = concat!(
+    r#"{"sections":[{"offset":{"line":0,"column":4294967295},"map":{"sources":["a.js"],"#,
+    r#""mappings":"CAAA"}},{"offset":{"line":1,"column":0}}]}"#,
+);
 
 fn map_text(alloc: Global, map: Result<SourceMap>) -> Result<String> {
     match map {
@@ -67,24 +73,39 @@ static FLAT: [(&str, &str); 13] = [
     ),
     (
         NESTED,
-        r#"{"file":"f","ignoreList":[0],"mappings":";;IAAAA;AAAA","names":["n"],"sources":["r/a.js"],"sourcesContent":["x"],"version":3}"#,
+        concat!(
+            r#"{"file":"f","ignoreList":[0],"mappings":";;IAAAA;AAAA","names":["n"],"#,
+            r#""sources":["r/a.js"],"sourcesContent":["x"],"version":3}"#,
+        ),
     ),
     // In a nested index map, tokens after the first line keep their column.
     (
-        r#"{"sections":[{"offset":{"line":2,"column":3},"map":{"sections":[{"offset":{"line":1,"column":0},"map":{"sources":["a.js"],"mappings":"AAAA"}}]}}]}"#,
+        concat!(
+            r#"{"sections":[{"offset":{"line":2,"column":3},"#,
+            r#""map":{"sections":[{"offset":{"line":1,"column":0},"map":{"sources":["a.js"],"#,
+            r#""mappings":"AAAA"}}]}}]}"#,
+        ),
         r#"{"mappings":";;;AAAA","names":[],"sources":["a.js"],"version":3}"#,
     ),
     // Neither section can be flattened. The error returned is from the nested index map of the
     // first section.
     (
-        r#"{"sections":[{"offset":{"line":0,"column":0},"map":{"sections":[{"offset":{"line":0,"column":0},"url":"inner"}]}},{"offset":{"line":1,"column":0},"url":"outer"}]}"#,
+        concat!(
+            r#"{"sections":[{"offset":{"line":0,"column":0},"#,
+            r#""map":{"sections":[{"offset":{"line":0,"column":0},"url":"inner"}]}},"#,
+            r#"{"offset":{"line":1,"column":0},"url":"outer"}]}"#,
+        ),
         "cannot flatten the indexed sourcemap: Section has an unresolved sourcemap: inner",
     ),
     // The nested index map has a token on line 4294967295, the last line. The section that holds
     // the nested index map starts on line 1. Flattening returns an error, because the token would
     // move past the last line.
     (
-        r#"{"sections":[{"offset":{"line":1,"column":0},"map":{"sections":[{"offset":{"line":4294967295,"column":0},"map":{"sources":["a.js"],"mappings":"AAAA"}}]}}]}"#,
+        concat!(
+            r#"{"sections":[{"offset":{"line":1,"column":0},"#,
+            r#""map":{"sections":[{"offset":{"line":4294967295,"column":0},"#,
+            r#""map":{"sources":["a.js"],"mappings":"AAAA"}}]}}]}"#,
+        ),
         "cannot flatten the indexed sourcemap: a position passes 4294967295",
     ),
     (
@@ -98,11 +119,12 @@ static FLAT: [(&str, &str); 13] = [
 ];
 
 #[test]
-fn index_maps_are_flattened(rt: HostRuntime) {
+fn index_maps_are_flattened(rt: HostRuntime) -> Checked {
     let alloc = rt.alloc();
     for (text, want) in FLAT.iter() {
-        check!(rt, text, flat(alloc, text), want);
+        check(text, flat(alloc, text), want)?;
     }
+    Ok(())
 }
 
 fn rewrite_flat<F: Files>(
@@ -115,8 +137,10 @@ fn rewrite_flat<F: Files>(
     map_text(alloc, index.flatten_and_rewrite(rt, options))
 }
 
-const UNUSED: &str =
-    r#"{"sections":[{"offset":{"line":0,"column":0},"map":{"sources":["x.js","a.js"],"sourcesContent":["x","y"],"mappings":"ACAA"}}]}"#;
+const UNUSED: &str = concat!(
+    r#"{"sections":[{"offset":{"line":0,"column":0},"map":{"sources":["x.js","a.js"],"#,
+    r#""sourcesContent":["x","y"],"mappings":"ACAA"}}]}"#,
+);
 
 // Each row: an index map, whether names are kept, whether contents are loaded from files, and what
 // `flatten_and_rewrite` returns: a map or an error.
@@ -137,7 +161,10 @@ static REWRITTEN: [(&str, bool, bool, &str); 6] = [
         NESTED,
         true,
         false,
-        r#"{"file":"f","mappings":";;IAAAA;AAAA","names":["n"],"sources":["r/a.js"],"sourcesContent":["x"],"version":3}"#,
+        concat!(
+            r#"{"file":"f","mappings":";;IAAAA;AAAA","names":["n"],"sources":["r/a.js"],"#,
+            r#""sourcesContent":["x"],"version":3}"#,
+        ),
     ),
     (
         NESTED,
@@ -157,7 +184,7 @@ static REWRITTEN: [(&str, bool, bool, &str); 6] = [
 ];
 
 #[test]
-fn flat_maps_are_rewritten(rt: HostRuntime) {
+fn flat_maps_are_rewritten(rt: HostRuntime) -> Checked {
     for (text, with_names, load_contents, want) in REWRITTEN.iter() {
         let options = RewriteOptions {
             with_names: *with_names,
@@ -165,6 +192,7 @@ fn flat_maps_are_rewritten(rt: HostRuntime) {
             ..RewriteOptions::default()
         };
         let got = rewrite_flat(&rt, rt.alloc(), text, &options);
-        check!(rt, text, got, want);
+        check(text, got, want)?;
     }
+    Ok(())
 }

@@ -3,15 +3,21 @@ use crate::debug_ids::id_text;
 use crate::maps::map_of;
 use sourcemap::errors::{Error, Result};
 use sourcemap::types::{DecodedMap, SourceMapIndex};
-use sourcemap_test_support::check;
+use sourcemap_test_support::checks::{Checked, check};
 use std::alloc::Global;
 
-const FULL: &str =
-    r#"{"version":3,"file":"out.js","debugId":"0123456789abcdef0123456789abcdef","x_facebook_offsets":[5,null],"x_metro_module_paths":["a.js"],"sections":[{"offset":{"line":2,"column":0},"map":{"mappings":""}},{"offset":{"line":1,"column":4},"url":"u"}]}"#;
+const FULL: &str = concat!(
+    r#"{"version":3,"file":"out.js","debugId":"0123456789abcdef0123456789abcdef","#,
+    r#""x_facebook_offsets":[5,null],"x_metro_module_paths":["a.js"],"#,
+    r#""sections":[{"offset":{"line":2,"column":0},"map":{"mappings":""}},"#,
+    r#"{"offset":{"line":1,"column":4},"url":"u"}]}"#,
+);
 
 // Sections that are not sorted by offset.
-const UNSORTED: &str =
-    r#"{"sections":[{"offset":{"line":10,"column":4},"map":{"sources":["b.js"],"mappings":"AAAA"}},{"offset":{"line":0,"column":0},"url":"u"}]}"#;
+const UNSORTED: &str = concat!(
+    r#"{"sections":[{"offset":{"line":10,"column":4},"map":{"sources":["b.js"],"#,
+    r#""mappings":"AAAA"}},{"offset":{"line":0,"column":0},"url":"u"}]}"#,
+);
 
 // Which getter a row of `ANSWERS` calls.
 #[derive(Clone, Copy)]
@@ -104,8 +110,9 @@ static ANSWERS: [(&str, Getter, &str); 13] = [
 ];
 
 #[test]
-fn getters_return_parts(rt: HostRuntime) {
+fn getters_return_parts(rt: HostRuntime) -> Checked {
     for (text, getter, want) in ANSWERS.iter() {
-        check!(rt, want, answer(rt.alloc(), text, *getter), want);
+        check(want, answer(rt.alloc(), text, *getter), want)?;
     }
+    Ok(())
 }

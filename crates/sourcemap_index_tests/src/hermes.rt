@@ -5,27 +5,38 @@ use serde_json::Value;
 use sourcemap::errors::Result;
 use sourcemap::types::DecodedMap;
 use sourcemap::{SourceMap, SourceMapHermes};
-use sourcemap_test_support::check;
+use sourcemap_test_support::checks::{Checked, check};
 use sourcemap_test_support::results::error_of;
 use std::alloc::Global;
 
-const TWO_FUNCTIONS: &str =
-    r#"{"version":3,"sources":["a.js"],"mappings":"AAAA,KACK","x_facebook_sources":[[{"names":["<global>","foo"],"mappings":"AAA,KCC"}]]}"#;
+const TWO_FUNCTIONS: &str = concat!(
+    r#"{"version":3,"sources":["a.js"],"mappings":"AAAA,KACK","#,
+    r#""x_facebook_sources":[[{"names":["<global>","foo"],"mappings":"AAA,KCC"}]]}"#,
+);
 
-const IN_SECTION: &str =
-    r#"{"sections":[{"offset":{"line":4,"column":9},"map":{"version":3,"sources":["a.js"],"mappings":"AAAA,KACK","x_facebook_sources":[[{"names":["<global>","foo"],"mappings":"AAA,KCC"}]]}}]}"#;
+const IN_SECTION: &str = concat!(
+    r#"{"sections":[{"offset":{"line":4,"column":9},"map":{"version":3,"sources":["a.js"],"#,
+    r#""mappings":"AAAA,KACK","x_facebook_sources":[[{"names":["<global>","foo"],"#,
+    r#""mappings":"AAA,KCC"}]]}}]}"#,
+);
 
-const SECOND_SOURCE: &str =
-    r#"{"mappings":"ACAA","names":[],"sources":["a.js","b.js"],"version":3,"x_facebook_sources":[null,[{"mappings":"AAA","names":["f"]}]]}"#;
+const SECOND_SOURCE: &str = concat!(
+    r#"{"mappings":"ACAA","names":[],"sources":["a.js","b.js"],"version":3,"#,
+    r#""x_facebook_sources":[null,[{"mappings":"AAA","names":["f"]}]]}"#,
+);
 
 const SHORT: &str =
     r#"{"mappings":"ACAA","names":[],"sources":["a.js","b.js"],"version":3,"x_facebook_sources":[]}"#;
 
-const LAST_LINE: &str =
-    r#"{"mappings":"AADA","names":[],"sources":["a.js"],"version":3,"x_facebook_sources":[[{"mappings":"AAA","names":["f"]}]]}"#;
+const LAST_LINE: &str = concat!(
+    r#"{"mappings":"AADA","names":[],"sources":["a.js"],"version":3,"#,
+    r#""x_facebook_sources":[[{"mappings":"AAA","names":["f"]}]]}"#,
+);
 
-const BROKEN: &str =
-    r#"{"mappings":"AAAA","names":[],"sources":["a.js"],"version":3,"x_facebook_sources":[[{"mappings":"AAA,!","names":["f"]}]]}"#;
+const BROKEN: &str = concat!(
+    r#"{"mappings":"AAAA","names":[],"sources":["a.js"],"version":3,"#,
+    r#""x_facebook_sources":[[{"mappings":"AAA,!","names":["f"]}]]}"#,
+);
 
 // If `map` is a Hermes map, returns this Hermes map. If `map` is an index map, returns the Hermes
 // map of the first section. Returns `None` if there is no such Hermes map.
@@ -69,10 +80,11 @@ static NAMES: [(&str, u32, &str); 8] = [
 ];
 
 #[test]
-fn functions_of_a_decoded_map_have_names(rt: HostRuntime) {
+fn functions_of_a_decoded_map_have_names(rt: HostRuntime) -> Checked {
     for (text, offset, want) in NAMES.iter() {
-        check!(rt, text, name_at(rt.alloc(), text, *offset), want);
+        check(text, name_at(rt.alloc(), text, *offset), want)?;
     }
+    Ok(())
 }
 
 fn value_of(alloc: Global, text: &str) -> Result<Value> {
@@ -91,10 +103,11 @@ fn read_back_text(alloc: Global, text: &str) -> Result<String> {
 }
 
 #[test]
-fn scopes_are_written_as_they_were_read(rt: HostRuntime) {
+fn scopes_are_written_as_they_were_read(rt: HostRuntime) -> Checked {
     for text in [SECOND_SOURCE, SHORT, BROKEN].iter() {
-        check!(rt, text, read_back_text(rt.alloc(), text), text);
+        check(text, read_back_text(rt.alloc(), text), text)?;
     }
+    Ok(())
 }
 
 // Removes the debug id of a map. Returns the debug id before and after the removal (`none` if there
@@ -111,11 +124,13 @@ fn ids(alloc: Global, text: &str) -> Result<String> {
 }
 
 #[test]
-fn debug_ids_of_hermes_maps_are_set(rt: HostRuntime) {
-    let text =
-        r#"{"sources":["a.js"],"mappings":"AAAA","debugId":"00000000-0000-0000-0000-000000000000","x_facebook_sources":[[{"names":["f"],"mappings":"AAA"}]]}"#;
+fn debug_ids_of_hermes_maps_are_set(rt: HostRuntime) -> Checked {
+    let text = concat!(
+        r#"{"sources":["a.js"],"mappings":"AAAA","debugId":"00000000-0000-0000-0000-0000000"#,
+        r#"00000","x_facebook_sources":[[{"names":["f"],"mappings":"AAA"}]]}"#,
+    );
     let want = "00000000-0000-0000-0000-000000000000 none f";
-    check!(rt, text, ids(rt.alloc(), text), want);
+    check(text, ids(rt.alloc(), text), want)
 }
 
 // The errors of reading a text as a regular map and as a Hermes map.
@@ -139,8 +154,9 @@ static KINDS: [(&str, &str); 3] = [
 ];
 
 #[test]
-fn each_kind_is_decoded_by_its_own_reader(rt: HostRuntime) {
+fn each_kind_is_decoded_by_its_own_reader(rt: HostRuntime) -> Checked {
     for (text, want) in KINDS.iter() {
-        check!(rt, text, kinds(rt.alloc(), text), want);
+        check(text, kinds(rt.alloc(), text), want)?;
     }
+    Ok(())
 }

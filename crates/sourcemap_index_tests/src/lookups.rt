@@ -2,13 +2,16 @@
 use crate::maps::{index_of, map_of};
 use sourcemap::errors::Result;
 use sourcemap::types::SourceMapIndex;
-use sourcemap_test_support::check;
+use sourcemap_test_support::checks::{Checked, check};
 use sourcemap_test_support::results::{box_result, text_or_none};
 use std::alloc::Global;
 
 // Two sections, the second of which starts in the middle of a line.
-const TWO: &str =
-    r#"{"version":3,"sections":[{"offset":{"line":0,"column":0},"map":{"version":3,"sources":["a.js"],"names":[],"mappings":"AAAA"}},{"offset":{"line":10,"column":4},"map":{"version":3,"sources":["b.js"],"names":[],"mappings":"AAAA"}}]}"#;
+const TWO: &str = concat!(
+    r#"{"version":3,"sections":[{"offset":{"line":0,"column":0},"map":{"version":3,"#,
+    r#""sources":["a.js"],"names":[],"mappings":"AAAA"}},{"offset":{"line":10,"column":4},"#,
+    r#""map":{"version":3,"sources":["b.js"],"names":[],"mappings":"AAAA"}}]}"#,
+);
 
 // On the first line of a section, columns count from the offset's column. On later lines, columns
 // count from 0. So the tokens of this section are at 2:4, 2:8 and 3:4.
@@ -17,33 +20,50 @@ const LINES: &str =
 
 // A section with a range token at its offset. On the token's line, the original column increases by
 // one with each generated column after the token, but never exceeds 4294967295.
-const RANGED: &str =
-    r#"{"sections":[{"offset":{"line":1,"column":3},"map":{"sources":["a.js"],"mappings":"AAAO","rangeMappings":"B"}}]}"#;
+const RANGED: &str = concat!(
+    r#"{"sections":[{"offset":{"line":1,"column":3},"map":{"sources":["a.js"],"#,
+    r#""mappings":"AAAO","rangeMappings":"B"}}]}"#,
+);
 
 // Two sections with the same offset. The position at the offset is looked up in the first section.
 // Later positions are looked up in the second section.
-const EQUAL: &str =
-    r#"{"sections":[{"offset":{"line":1,"column":2},"map":{"sources":["a.js"],"mappings":"AAAA"}},{"offset":{"line":1,"column":2},"map":{"sources":["b.js"],"mappings":"AAAA"}}]}"#;
+const EQUAL: &str = concat!(
+    r#"{"sections":[{"offset":{"line":1,"column":2},"map":{"sources":["a.js"],"#,
+    r#""mappings":"AAAA"}},{"offset":{"line":1,"column":2},"map":{"sources":["b.js"],"#,
+    r#""mappings":"AAAA"}}]}"#,
+);
 
 // A section without a map, and one whose map has no token on its first line.
-const LINKED: &str =
-    r#"{"sections":[{"offset":{"line":0,"column":0},"map":{"sources":["a.js"],"mappings":"AAAA"}},{"offset":{"line":1,"column":0},"url":"u"},{"offset":{"line":2,"column":0},"map":{"sources":["c.js"],"mappings":";AAAA"}}]}"#;
+const LINKED: &str = concat!(
+    r#"{"sections":[{"offset":{"line":0,"column":0},"map":{"sources":["a.js"],"#,
+    r#""mappings":"AAAA"}},{"offset":{"line":1,"column":0},"url":"u"},{"offset":{"line":2,"#,
+    r#""column":0},"map":{"sources":["c.js"],"mappings":";AAAA"}}]}"#,
+);
 
 // One section, whose map is an index map.
-const NESTED: &str =
-    r#"{"sections":[{"offset":{"line":2,"column":3},"map":{"sections":[{"offset":{"line":1,"column":0},"map":{"sources":["a.js"],"mappings":"AAAA"}}]}}]}"#;
+const NESTED: &str = concat!(
+    r#"{"sections":[{"offset":{"line":2,"column":3},"map":{"sections":[{"offset":{"line":1,"#,
+    r#""column":0},"map":{"sources":["a.js"],"mappings":"AAAA"}}]}}]}"#,
+);
 
 // There is no token before the first section.
 const LATE: &str =
     r#"{"sections":[{"offset":{"line":5,"column":0},"map":{"sources":["a.js"],"mappings":"AAAA"}}]}"#;
 
 // The later section begins among the tokens of the earlier one.
-const MIXED: &str =
-    r#"{"sections":[{"offset":{"line":0,"column":0},"map":{"sources":["a.js"],"mappings":"AAAA,SAAA"}},{"offset":{"line":0,"column":5},"map":{"sources":["b.js"],"mappings":"AAAA"}}]}"#;
+const MIXED: &str = concat!(
+    r#"{"sections":[{"offset":{"line":0,"column":0},"map":{"sources":["a.js"],"#,
+    r#""mappings":"AAAA,SAAA"}},{"offset":{"line":0,"column":5},"map":{"sources":["b.js"],"#,
+    r#""mappings":"AAAA"}}]}"#,
+);
 
 // The second section has a Hermes map. A lookup in a Hermes map searches its regular map.
-const HERMES: &str =
-    r#"{"sections":[{"offset":{"line":0,"column":0},"map":{"sources":["a.js"],"mappings":"AAAA"}},{"offset":{"line":1,"column":2},"map":{"sources":["b.js"],"mappings":"AAAO","rangeMappings":"B","x_facebook_sources":[[{"names":["f"],"mappings":"AAA"}]]}}]}"#;
+const HERMES: &str = concat!(
+    r#"{"sections":[{"offset":{"line":0,"column":0},"map":{"sources":["a.js"],"#,
+    r#""mappings":"AAAA"}},{"offset":{"line":1,"column":2},"map":{"sources":["b.js"],"#,
+    r#""mappings":"AAAO","rangeMappings":"B","x_facebook_sources":[[{"names":["f"],"#,
+    r#""mappings":"AAA"}]]}}]}"#,
+);
 
 // An index map, a line and a column. Then the text of the token that a lookup of this position
 // finds, or `none` if the lookup finds no token.
@@ -89,19 +109,21 @@ fn index_lookup_text(alloc: Global, text: &str, line: u32, col: u32) -> Result<S
 }
 
 #[test]
-fn positions_are_looked_up_in_the_closest_section(rt: HostRuntime) {
+fn positions_are_looked_up_in_the_closest_section(rt: HostRuntime) -> Checked {
     let alloc = rt.alloc();
     for (text, line, col, want) in POSITIONS.iter() {
-        check!(rt, text, lookup_text(alloc, text, *line, *col), want);
-        check!(rt, text, index_lookup_text(alloc, text, *line, *col), want);
+        check(text, lookup_text(alloc, text, *line, *col), want)?;
+        check(text, index_lookup_text(alloc, text, *line, *col), want)?;
     }
+    Ok(())
 }
 
 // An index map, a line and a column. Then the texts of the tokens that two lookups of this position
 // find: first a lookup in the index map, then a lookup in the flattened map. The texts differ for
 // `MIXED`. In `MIXED`, the earlier section has a token after the start of the later section. Only a
 // lookup in the flattened map finds this token.
-static FLAT_POSITIONS: [(&str, u32, u32, &str, &str); 4] = [
+static FLAT_POSITIONS: [(&str, u32, u32, &str, &str); 5] = [
+    (TWO, 9, 0, "a.js:0:0", "a.js:0:0"),
     (TWO, 10, 4, "b.js:0:0", "b.js:0:0"),
     (TWO, 10, 9, "b.js:0:0", "b.js:0:0"),
     (TWO, 10, 3, "a.js:0:0", "a.js:0:0"),
@@ -125,12 +147,13 @@ fn flat_lookup_text(alloc: Global, text: &str, line: u32, col: u32) -> Result<St
 }
 
 #[test]
-fn positions_are_looked_up_in_an_index_and_in_its_flat_map(rt: HostRuntime) {
+fn positions_are_looked_up_in_an_index_and_in_its_flat_map(rt: HostRuntime) -> Checked {
     let alloc = rt.alloc();
     for (text, line, col, by_index, by_flat) in FLAT_POSITIONS.iter() {
         let got = index_lookup_text(alloc, text, *line, *col);
-        check!(rt, text, got, by_index);
+        check(text, got, by_index)?;
         let got = flat_lookup_text(alloc, text, *line, *col);
-        check!(rt, text, got, by_flat);
+        check(text, got, by_flat)?;
     }
+    Ok(())
 }

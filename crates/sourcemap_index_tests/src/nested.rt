@@ -5,7 +5,7 @@ use serde_json::Value;
 use sourcemap::decoder::decode_slice;
 use sourcemap::errors::Result;
 use sourcemap::types::{DecodedMap, SourceMapIndex, SourceMapSection};
-use sourcemap_test_support::check;
+use sourcemap_test_support::checks::{Checked, check};
 use sourcemap_test_support::results::{again, box_result, error_of, text_or_none};
 use std::alloc::Global;
 
@@ -64,13 +64,14 @@ static TEXTS: [(usize, &str); 4] = [
 ];
 
 #[test]
-fn nested_index_maps_are_looked_up(rt: HostRuntime) {
+fn nested_index_maps_are_looked_up(rt: HostRuntime) -> Checked {
     let alloc = rt.alloc();
     for (depth, want) in TEXTS.iter() {
         let got = first_token_text(alloc, nested_index(alloc, *depth));
-        check!(rt, "in memory", got, "a.js:0:0");
-        check!(rt, want, read(alloc, *depth), want);
+        check("in memory", got, "a.js:0:0")?;
+        check(want, read(alloc, *depth), want)?;
     }
+    Ok(())
 }
 
 // The text of the token at 0:0 in the flattened map, or `no index`.
@@ -135,13 +136,13 @@ fn print_nested(alloc: Global, depth: usize) -> Result<String> {
 }
 
 #[test]
-fn a_hundred_nested_index_maps_are_flattened_copied_and_read_back(rt: HostRuntime) {
+fn a_hundred_nested_index_maps_are_flattened_copied_and_read_back(rt: HostRuntime) -> Checked {
     let alloc = rt.alloc();
-    check!(rt, "flat", flatten_nested(alloc, 100), "a.js:0:0");
-    check!(rt, "copied", copy_nested(alloc, 100), "a.js:0:0 true");
-    check!(rt, "by values", read_back(alloc, 100), "a.js:0:0 true");
-    check!(rt, "moved", move_nested(alloc, 100), "a.js:0:0 true");
-    check!(rt, "printed", print_nested(alloc, 100), "100");
+    check("flat", flatten_nested(alloc, 100), "a.js:0:0")?;
+    check("copied", copy_nested(alloc, 100), "a.js:0:0 true")?;
+    check("by values", read_back(alloc, 100), "a.js:0:0 true")?;
+    check("moved", move_nested(alloc, 100), "a.js:0:0 true")?;
+    check("printed", print_nested(alloc, 100), "100")
 }
 
 fn text_of_bytes(alloc: Global, map: &DecodedMap, bytes: &[u8]) -> Result<String> {
@@ -177,8 +178,9 @@ static WRITTEN: [(usize, &str); 4] = [
 ];
 
 #[test]
-fn nested_index_maps_are_written_at_any_depth(rt: HostRuntime) {
+fn nested_index_maps_are_written_at_any_depth(rt: HostRuntime) -> Checked {
     for (depth, want) in WRITTEN.iter() {
-        check!(rt, want, write_nested(rt.alloc(), *depth), want);
+        check(want, write_nested(rt.alloc(), *depth), want)?;
     }
+    Ok(())
 }

@@ -6,7 +6,7 @@ use sourcemap::SourceMapHermes;
 use sourcemap::decoder::decode;
 use sourcemap::errors::{Error, Result};
 use sourcemap::types::{DecodedMap, SourceMap, SourceMapIndex};
-use sourcemap_test_support::check;
+use sourcemap_test_support::checks::{Checked, check, check_that};
 use sourcemap_test_support::readers::HaltingReader;
 use sourcemap_test_support::results::{again, box_result, error_of};
 use std::alloc::Global;
@@ -50,23 +50,25 @@ fn is_read_alike(alloc: Global, text: &str) -> Result<String> {
 }
 
 #[test]
-fn maps_are_read_byte_by_byte(rt: HostRuntime) {
+fn maps_are_read_byte_by_byte(rt: HostRuntime) -> Checked {
     let alloc = rt.alloc();
     for text in TEXTS.iter() {
-        check!(rt, text, again(|| is_read_alike(alloc, text)), "true");
+        check(text, again(|| is_read_alike(alloc, text)), "true")?;
         let got = again(|| decode_halting(alloc, text, usize::MAX));
-        check!(rt, text, got, "a.js:0:0");
+        check(text, got, "a.js:0:0")?;
     }
+    Ok(())
 }
 
 #[test]
-fn each_read_may_fail(rt: HostRuntime) {
+fn each_read_may_fail(rt: HostRuntime) -> Checked {
     for text in TEXTS.iter() {
         for reads in 0..=text.len() {
             let got = decode_halting(rt.alloc(), text, reads);
-            check!(rt, text, got, "timed out");
+            check(text, got, "timed out")?;
         }
     }
+    Ok(())
 }
 
 // The kind of map that is read. Each kind has its own `from_reader`.
@@ -96,18 +98,19 @@ static KINDS: [(Kind, &str, &str); 3] = [
 ];
 
 #[test]
-fn maps_of_one_kind_are_read(rt: HostRuntime) {
+fn maps_of_one_kind_are_read(rt: HostRuntime) -> Checked {
     let alloc = rt.alloc();
     let incompatible = "encountered incompatible sourcemap format";
     for (kind, text, other) in KINDS.iter() {
         let got = read_error(alloc, *kind, text, usize::MAX);
-        check!(rt, text, got, "no error");
+        check(text, got, "no error")?;
         let got = read_error(alloc, *kind, other, usize::MAX);
-        check!(rt, other, got, incompatible);
+        check(other, got, incompatible)?;
         for reads in 0..=text.len() {
-            check!(rt, text, read_error(alloc, *kind, text, reads), "timed out");
+            check(text, read_error(alloc, *kind, text, reads), "timed out")?;
         }
     }
+    Ok(())
 }
 
 fn ran_out(alloc: Global, text: &str, reads: usize) -> bool {
@@ -116,8 +119,9 @@ fn ran_out(alloc: Global, text: &str, reads: usize) -> bool {
 }
 
 #[test]
-fn a_read_that_runs_out_of_memory_is_out_of_memory(rt: HostRuntime) {
+fn a_read_that_runs_out_of_memory_is_out_of_memory(rt: HostRuntime) -> Checked {
     for reads in 0..=REGULAR.len() {
-        assert!(rt; ran_out(rt.alloc(), REGULAR, reads), "after {reads} reads");
+        check_that("out of memory", ran_out(rt.alloc(), REGULAR, reads))?;
     }
+    Ok(())
 }

@@ -3,7 +3,7 @@ use crate::decoding::sections_text;
 use crate::maps::index_of;
 use sourcemap::errors::Result;
 use sourcemap::types::SourceMapIndex;
-use sourcemap_test_support::check;
+use sourcemap_test_support::checks::{Checked, check};
 use std::alloc::Global;
 
 fn moved_text(alloc: Global, index: &mut SourceMapIndex, rows: u32) -> Result<String> {
@@ -16,8 +16,10 @@ fn move_rows(alloc: Global, text: &str, rows: u32) -> Result<String> {
     moved_text(alloc, &mut *index_of(alloc, text)?, rows)
 }
 
-const ROWS: &str =
-    r#"{"sections":[{"offset":{"line":0,"column":0}},{"offset":{"line":10,"column":0}},{"offset":{"line":20,"column":10}},{"offset":{"line":30,"column":40}}]}"#;
+const ROWS: &str = concat!(
+    r#"{"sections":[{"offset":{"line":0,"column":0}},{"offset":{"line":10,"column":0}},"#,
+    r#"{"offset":{"line":20,"column":10}},{"offset":{"line":30,"column":40}}]}"#,
+);
 
 const LAST_ROW: &str =
     r#"{"sections":[{"offset":{"line":0,"column":0}},{"offset":{"line":4294967295,"column":0}}]}"#;
@@ -25,8 +27,10 @@ const LAST_ROW: &str =
 const TWO_ROWS: &str =
     r#"{"sections":[{"offset":{"line":0,"column":0}},{"offset":{"line":10,"column":0}}]}"#;
 
-const FOUR_ROWS: &str =
-    r#"{"sections":[{"offset":{"line":0,"column":0}},{"offset":{"line":10,"column":0}},{"offset":{"line":20,"column":0}},{"offset":{"line":4294967295,"column":0}}]}"#;
+const FOUR_ROWS: &str = concat!(
+    r#"{"sections":[{"offset":{"line":0,"column":0}},{"offset":{"line":10,"column":0}},"#,
+    r#"{"offset":{"line":20,"column":0}},{"offset":{"line":4294967295,"column":0}}]}"#,
+);
 
 // Each row: an index map, the number of lines to move its sections down, and the wanted text. The
 // text begins with `true` if the sections are moved, otherwise with `false`. The list of the
@@ -67,20 +71,29 @@ static MOVED: [(&str, u32, &str); 8] = [
 ];
 
 #[test]
-fn sections_move_down_all_or_none(rt: HostRuntime) {
+fn sections_move_down_all_or_none(rt: HostRuntime) -> Checked {
     let alloc = rt.alloc();
     for (text, rows, want) in MOVED.iter() {
-        check!(rt, text, move_rows(alloc, text, *rows), want);
+        check(text, move_rows(alloc, text, *rows), want)?;
     }
+    Ok(())
 }
 
 // An index map with a file name and a debug id. Its second section starts on line 1, and the map of
 // this section is an index map.
-const FILED: &str =
-    r#"{"file":"test.js","debugId":"0123456789abcdef0123456789abcdef","sections":[{"offset":{"line":0,"column":7},"url":"u"},{"offset":{"line":1,"column":3},"map":{"sections":[{"offset":{"line":0,"column":1},"map":{"sources":["a.js"],"mappings":"AAAA"}}]}}]}"#;
+const FILED: &str = concat!(
+    r#"{"file":"test.js","debugId":"0123456789abcdef0123456789abcdef","#,
+    r#""sections":[{"offset":{"line":0,"column":7},"url":"u"},{"offset":{"line":1,"#,
+    r#""column":3},"map":{"sections":[{"offset":{"line":0,"column":1},"#,
+    r#""map":{"sources":["a.js"],"mappings":"AAAA"}}]}}]}"#,
+);
 
-const FILED_LOWER: &str =
-    r#"{"file":"test.js","debugId":"0123456789abcdef0123456789abcdef","sections":[{"offset":{"line":4294967294,"column":7},"url":"u"},{"offset":{"line":4294967295,"column":3},"map":{"sections":[{"offset":{"line":0,"column":1},"map":{"sources":["a.js"],"mappings":"AAAA"}}]}}]}"#;
+const FILED_LOWER: &str = concat!(
+    r#"{"file":"test.js","debugId":"0123456789abcdef0123456789abcdef","#,
+    r#""sections":[{"offset":{"line":4294967294,"column":7},"url":"u"},"#,
+    r#"{"offset":{"line":4294967295,"column":3},"map":{"sections":[{"offset":{"line":0,"#,
+    r#""column":1},"map":{"sources":["a.js"],"mappings":"AAAA"}}]}}]}"#,
+);
 
 fn move_and_compare(
     alloc: Global,
@@ -108,9 +121,10 @@ static MOVED_WHOLE: [(&str, u32, &str, &str); 4] = [
 ];
 
 #[test]
-fn only_rows_change_when_sections_move(rt: HostRuntime) {
+fn only_rows_change_when_sections_move(rt: HostRuntime) -> Checked {
     let alloc = rt.alloc();
     for (text, rows, after, want) in MOVED_WHOLE.iter() {
-        check!(rt, text, decode_and_move(alloc, text, *rows, after), want);
+        check(text, decode_and_move(alloc, text, *rows, after), want)?;
     }
+    Ok(())
 }

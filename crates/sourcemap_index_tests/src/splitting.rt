@@ -4,9 +4,11 @@ use sourcemap::errors::{Error, Result};
 use sourcemap::ram_bundle::{RamBundle, SplitRamBundleModuleIter, split_ram_bundle};
 use sourcemap::sourceview::SourceView;
 use sourcemap::types::{SourceMap, SourceMapIndex};
-use sourcemap_test_support::check;
+use sourcemap_test_support::checks::{Checked, check};
 use sourcemap_test_support::results::error_of;
 use std::alloc::Global;
+use std::fs;
+use std::rt::Files;
 
 // `ONE` has one module, `xyz`, after the startup code `ab`. `CUT` is `ONE` without the last two
 // bytes. In `LINES` the module has two lines, `xy` and `z`.
@@ -19,12 +21,17 @@ const LINES: &[u8] = b"\xe5\xd1\x0b\xfb\x01\0\0\0\x02\0\0\0\x02\0\0\0\x05\0\0\0a
 const THREE_MODULES: &[u8] =
     b"\xe5\xd1\x0b\xfb\x03\0\0\0\0\0\0\0\0\0\0\0\x04\0\0\0\x04\0\0\0\x03\0\0\0\x07\0\0\0\x02\0\0\0xyz\0uv\0w\0";
 
-const AT_FIVE: &str =
-    r#"{"sections":[{"offset":{"line":0,"column":0},"map":{"sources":["a.js"],"mappings":";;;;;AAAA,EAAE;AAAA"}}],"x_facebook_offsets":[5]}"#;
+const AT_FIVE: &str = concat!(
+    r#"{"sections":[{"offset":{"line":0,"column":0},"map":{"sources":["a.js"],"#,
+    r#""mappings":";;;;;AAAA,EAAE;AAAA"}}],"x_facebook_offsets":[5]}"#,
+);
 
 // The index map of `THREE_MODULES`. The three modules are on the generated lines 5, 6 and 7.
-const LINE_BY_LINE: &str =
-    r#"{"sections":[{"offset":{"line":0,"column":0},"map":{"sources":["a.js"],"sourcesContent":["A"],"names":["n"],"mappings":";;;;;AAAAA,EAAE;AAAA;AACAA"}}],"x_facebook_offsets":[5,6,7]}"#;
+const LINE_BY_LINE: &str = concat!(
+    r#"{"sections":[{"offset":{"line":0,"column":0},"map":{"sources":["a.js"],"#,
+    r#""sourcesContent":["A"],"names":["n"],"mappings":";;;;;AAAAA,EAAE;AAAA;AACAA"}}],"#,
+    r#""x_facebook_offsets":[5,6,7]}"#,
+);
 
 // A bundle, its index map, and the text that `split_text` returns for them.
 struct Row {
@@ -44,31 +51,50 @@ static ROWS: [Row; 28] = [
     Row {
         about: "a range token",
         bundle: ONE,
-        index: r#"{"sections":[{"offset":{"line":0,"column":0},"map":{"sources":["a.js"],"rangeMappings":";;;;;C","mappings":";;;;;AAAA,EAAE;AAAA"}}],"x_facebook_offsets":[5]}"#,
-        items: r#"0.js [xyz] {"file":"0.js","mappings":"AAAA,EAAE","names":[],"rangeMappings":"C","sources":["a.js"],"version":3}"#,
+        index: concat!(
+            r#"{"sections":[{"offset":{"line":0,"column":0},"map":{"sources":["a.js"],"#,
+            r#""rangeMappings":";;;;;C","mappings":";;;;;AAAA,EAAE;AAAA"}}],"#,
+            r#""x_facebook_offsets":[5]}"#,
+        ),
+        items: concat!(
+            r#"0.js [xyz] {"file":"0.js","mappings":"AAAA,EAAE","names":[],"rangeMappings":"C","#,
+            r#""sources":["a.js"],"version":3}"#,
+        ),
     },
     Row {
         about: "a null offset",
         bundle: ONE,
-        index: r#"{"sections":[{"offset":{"line":0,"column":0},"map":{"sources":["a.js"],"mappings":";;;;;AAAA,EAAE;AAAA"}}],"x_facebook_offsets":[null]}"#,
+        index: concat!(
+            r#"{"sections":[{"offset":{"line":0,"column":0},"map":{"sources":["a.js"],"#,
+            r#""mappings":";;;;;AAAA,EAAE;AAAA"}}],"x_facebook_offsets":[null]}"#,
+        ),
         items: "",
     },
     Row {
         about: "a null offset of a module that is cut",
         bundle: CUT,
-        index: r#"{"sections":[{"offset":{"line":0,"column":0},"map":{"sources":["a.js"],"mappings":";;;;;AAAA,EAAE;AAAA"}}],"x_facebook_offsets":[null]}"#,
+        index: concat!(
+            r#"{"sections":[{"offset":{"line":0,"column":0},"map":{"sources":["a.js"],"#,
+            r#""mappings":";;;;;AAAA,EAAE;AAAA"}}],"x_facebook_offsets":[null]}"#,
+        ),
         items: "invalid ram bundle module entry",
     },
     Row {
         about: "too few offsets",
         bundle: ONE,
-        index: r#"{"sections":[{"offset":{"line":0,"column":0},"map":{"sources":["a.js"],"mappings":";;;;;AAAA,EAAE;AAAA"}}],"x_facebook_offsets":[]}"#,
+        index: concat!(
+            r#"{"sections":[{"offset":{"line":0,"column":0},"map":{"sources":["a.js"],"#,
+            r#""mappings":";;;;;AAAA,EAAE;AAAA"}}],"x_facebook_offsets":[]}"#,
+        ),
         items: "invalid ram bundle module entry",
     },
     Row {
         about: "no offsets",
         bundle: ONE,
-        index: r#"{"sections":[{"offset":{"line":0,"column":0},"map":{"sources":["a.js"],"mappings":";;;;;AAAA,EAAE;AAAA"}}]}"#,
+        index: concat!(
+            r#"{"sections":[{"offset":{"line":0,"column":0},"map":{"sources":["a.js"],"#,
+            r#""mappings":";;;;;AAAA,EAAE;AAAA"}}]}"#,
+        ),
         items: "not a ram bundle",
     },
     Row {
@@ -80,14 +106,23 @@ static ROWS: [Row; 28] = [
     Row {
         about: "two lines: columns past the last line's width stay on the first",
         bundle: LINES,
-        index: r#"{"sections":[{"offset":{"line":0,"column":0},"map":{"sources":["a.js"],"mappings":";;;;;AAAA,SAAS;AAAA,CAAC"}}],"x_facebook_offsets":[5]}"#,
-        items: "0.js [xy\nz] {\"file\":\"0.js\",\"mappings\":\"AAAA,SAAS;AAAA\",\"names\":[],\"sources\":[\"a.js\"],\"version\":3}",
+        index: concat!(
+            r#"{"sections":[{"offset":{"line":0,"column":0},"map":{"sources":["a.js"],"#,
+            r#""mappings":";;;;;AAAA,SAAS;AAAA,CAAC"}}],"x_facebook_offsets":[5]}"#,
+        ),
+        items: concat!(
+            "0.js [xy\nz] {\"file\":\"0.js\",\"mappings\":\"AAAA,SAAS;AAAA\",\"names\":[],",
+            "\"sources\":[\"a.js\"],\"version\":3}",
+        ),
     },
     Row {
         about: "an empty last line",
         bundle: b"\xe5\xd1\x0b\xfb\x01\0\0\0\0\0\0\0\0\0\0\0\x04\0\0\0xy\n\0",
         index: AT_FIVE,
-        items: "0.js [xy\n] {\"file\":\"0.js\",\"mappings\":\"AAAA,EAAE\",\"names\":[],\"sources\":[\"a.js\"],\"version\":3}",
+        items: concat!(
+            "0.js [xy\n] {\"file\":\"0.js\",\"mappings\":\"AAAA,EAAE\",\"names\":[],",
+            "\"sources\":[\"a.js\"],\"version\":3}",
+        ),
     },
     Row {
         about: "no text",
@@ -98,110 +133,197 @@ static ROWS: [Row; 28] = [
     Row {
         about: "a surrogate pair has two columns",
         bundle: b"\xe5\xd1\x0b\xfb\x01\0\0\0\0\0\0\0\0\0\0\0\x05\0\0\0\xf0\x9f\x91\x8c\0",
-        index: r#"{"sections":[{"offset":{"line":0,"column":0},"map":{"sources":["a.js"],"mappings":";;;;;AAAA,CAAC,CAAC"}}],"x_facebook_offsets":[5]}"#,
+        index: concat!(
+            r#"{"sections":[{"offset":{"line":0,"column":0},"map":{"sources":["a.js"],"#,
+            r#""mappings":";;;;;AAAA,CAAC,CAAC"}}],"x_facebook_offsets":[5]}"#,
+        ),
         items: r#"0.js [👌] {"file":"0.js","mappings":"AAAA,CAAC","names":[],"sources":["a.js"],"version":3}"#,
     },
     Row {
         about: "each line end",
         bundle: b"\xe5\xd1\x0b\xfb\x01\0\0\0\0\0\0\0\0\0\0\0\x07\0\0\0a\r\nb\rc\0",
-        index: r#"{"sections":[{"offset":{"line":0,"column":0},"map":{"sources":["a.js"],"mappings":";;;;;AAAA,CAAC;AACA,CAAC;AACA,CAAC"}}],"x_facebook_offsets":[5]}"#,
-        items: "0.js [a\r\nb\rc] {\"file\":\"0.js\",\"mappings\":\"AAAA,CAAC;AACA,CAAC;AACA\",\"names\":[],\"sources\":[\"a.js\"],\"version\":3}",
+        index: concat!(
+            r#"{"sections":[{"offset":{"line":0,"column":0},"map":{"sources":["a.js"],"#,
+            r#""mappings":";;;;;AAAA,CAAC;AACA,CAAC;AACA,CAAC"}}],"x_facebook_offsets":[5]}"#,
+        ),
+        items: concat!(
+            "0.js [a\r\nb\rc] {\"file\":\"0.js\",\"mappings\":\"AAAA,CAAC;AACA,CAAC;AACA\",",
+            "\"names\":[],\"sources\":[\"a.js\"],\"version\":3}",
+        ),
     },
     Row {
         about: "a token at the end",
         bundle: ONE,
-        index: r#"{"sections":[{"offset":{"line":0,"column":0},"map":{"sources":["a.js"],"mappings":";;;;;AAAA,GAAG"}}],"x_facebook_offsets":[5]}"#,
+        index: concat!(
+            r#"{"sections":[{"offset":{"line":0,"column":0},"map":{"sources":["a.js"],"#,
+            r#""mappings":";;;;;AAAA,GAAG"}}],"x_facebook_offsets":[5]}"#,
+        ),
         items: r#"0.js [xyz] {"file":"0.js","mappings":"AAAA","names":[],"sources":["a.js"],"version":3}"#,
     },
     Row {
         about: "two tokens at the first position",
         bundle: ONE,
-        index: r#"{"sections":[{"offset":{"line":0,"column":0},"map":{"sources":["a.js"],"mappings":";;;;;AAAA,AAAC"}}],"x_facebook_offsets":[5]}"#,
+        index: concat!(
+            r#"{"sections":[{"offset":{"line":0,"column":0},"map":{"sources":["a.js"],"#,
+            r#""mappings":";;;;;AAAA,AAAC"}}],"x_facebook_offsets":[5]}"#,
+        ),
         items: r#"0.js [xyz] {"file":"0.js","mappings":"AAAA,AAAC","names":[],"sources":["a.js"],"version":3}"#,
     },
     Row {
         about: "a token before the module alone",
         bundle: ONE,
-        index: r#"{"sections":[{"offset":{"line":0,"column":0},"map":{"sources":["a.js"],"mappings":";;;AAAA"}}],"x_facebook_offsets":[5]}"#,
+        index: concat!(
+            r#"{"sections":[{"offset":{"line":0,"column":0},"map":{"sources":["a.js"],"#,
+            r#""mappings":";;;AAAA"}}],"x_facebook_offsets":[5]}"#,
+        ),
         items: r#"0.js [xyz] {"file":"0.js","mappings":"","names":[],"sources":[],"version":3}"#,
     },
     Row {
         about: "a token after the first position alone",
         bundle: ONE,
-        index: r#"{"sections":[{"offset":{"line":0,"column":0},"map":{"sources":["a.js"],"mappings":";;;;;CAAA"}}],"x_facebook_offsets":[5]}"#,
+        index: concat!(
+            r#"{"sections":[{"offset":{"line":0,"column":0},"map":{"sources":["a.js"],"#,
+            r#""mappings":";;;;;CAAA"}}],"x_facebook_offsets":[5]}"#,
+        ),
         items: "invalid ram bundle module entry",
     },
     Row {
         about: "two modules on one line",
         bundle: b"\xe5\xd1\x0b\xfb\x02\0\0\0\0\0\0\0\0\0\0\0\x04\0\0\0\x04\0\0\0\x03\0\0\0xyz\0uv\0",
-        index: r#"{"sections":[{"offset":{"line":0,"column":0},"map":{"sources":["a.js"],"mappings":";;;;;AAAA,EAAE;AAAA"}}],"x_facebook_offsets":[5,5]}"#,
-        items: r#"0.js [xyz] {"file":"0.js","mappings":"AAAA,EAAE","names":[],"sources":["a.js"],"version":3} | 1.js [uv] {"file":"1.js","mappings":"AAAA","names":[],"sources":["a.js"],"version":3}"#,
+        index: concat!(
+            r#"{"sections":[{"offset":{"line":0,"column":0},"map":{"sources":["a.js"],"#,
+            r#""mappings":";;;;;AAAA,EAAE;AAAA"}}],"x_facebook_offsets":[5,5]}"#,
+        ),
+        items: concat!(
+            r#"0.js [xyz] {"file":"0.js","mappings":"AAAA,EAAE","names":[],"sources":["a.js"],"#,
+            r#""version":3} | 1.js [uv] {"file":"1.js","mappings":"AAAA","names":[],"#,
+            r#""sources":["a.js"],"version":3}"#,
+        ),
     },
     Row {
         about: "modules whose bytes overlap, and offsets out of order",
         bundle: b"\xe5\xd1\x0b\xfb\x02\0\0\0\0\0\0\0\0\0\0\0\x04\0\0\0\x01\0\0\0\x03\0\0\0xyz\0",
-        index: r#"{"sections":[{"offset":{"line":0,"column":0},"map":{"sources":["a.js"],"mappings":";;;;;AAAA,EAAE;AAAA"}}],"x_facebook_offsets":[6,5]}"#,
-        items: r#"0.js [xyz] {"file":"0.js","mappings":"AAAE","names":[],"sources":["a.js"],"version":3} | 1.js [yz] {"file":"1.js","mappings":"AAAA","names":[],"sources":["a.js"],"version":3}"#,
+        index: concat!(
+            r#"{"sections":[{"offset":{"line":0,"column":0},"map":{"sources":["a.js"],"#,
+            r#""mappings":";;;;;AAAA,EAAE;AAAA"}}],"x_facebook_offsets":[6,5]}"#,
+        ),
+        items: concat!(
+            r#"0.js [xyz] {"file":"0.js","mappings":"AAAE","names":[],"sources":["a.js"],"#,
+            r#""version":3} | 1.js [yz] {"file":"1.js","mappings":"AAAA","names":[],"#,
+            r#""sources":["a.js"],"version":3}"#,
+        ),
     },
     Row {
         about: "a module that is missing, one with a length of 0, one that is not UTF-8, and one more",
         bundle: b"\xe5\xd1\x0b\xfb\x04\0\0\0\0\0\0\0\0\0\0\0\0\0\0\0\x03\0\0\0\0\0\0\0\0\0\0\0\x02\0\0\0\x02\0\0\0\x04\0\0\0\xff\0xyz\0",
-        index: r#"{"sections":[{"offset":{"line":0,"column":0},"map":{"sources":["a.js"],"mappings":";;;;;AAAA,EAAE;AAAA"}}],"x_facebook_offsets":[9,5,5,5]}"#,
-        items: r#"invalid ram bundle module entry | invalid ram bundle module entry | 3.js [xyz] {"file":"3.js","mappings":"AAAA,EAAE","names":[],"sources":["a.js"],"version":3}"#,
+        index: concat!(
+            r#"{"sections":[{"offset":{"line":0,"column":0},"map":{"sources":["a.js"],"#,
+            r#""mappings":";;;;;AAAA,EAAE;AAAA"}}],"x_facebook_offsets":[9,5,5,5]}"#,
+        ),
+        items: concat!(
+            r#"invalid ram bundle module entry | invalid ram bundle module entry | 3.js [xyz] "#,
+            r#"{"file":"3.js","mappings":"AAAA,EAAE","names":[],"sources":["a.js"],"version":3}"#,
+        ),
     },
     Row {
         about: "an offset less than modules",
         bundle: b"\xe5\xd1\x0b\xfb\x02\0\0\0\0\0\0\0\0\0\0\0\x04\0\0\0\x04\0\0\0\x03\0\0\0xyz\0uv\0",
         index: AT_FIVE,
-        items: r#"0.js [xyz] {"file":"0.js","mappings":"AAAA,EAAE","names":[],"sources":["a.js"],"version":3} | invalid ram bundle module entry"#,
+        items: concat!(
+            r#"0.js [xyz] {"file":"0.js","mappings":"AAAA,EAAE","names":[],"sources":["a.js"],"#,
+            r#""version":3} | invalid ram bundle module entry"#,
+        ),
     },
     Row {
         about: "a null offset before another",
         bundle: b"\xe5\xd1\x0b\xfb\x02\0\0\0\0\0\0\0\0\0\0\0\x04\0\0\0\x04\0\0\0\x03\0\0\0xyz\0uv\0",
-        index: r#"{"sections":[{"offset":{"line":0,"column":0},"map":{"sources":["a.js"],"mappings":";;;;;AAAA,EAAE;AAAA"}}],"x_facebook_offsets":[null,5]}"#,
+        index: concat!(
+            r#"{"sections":[{"offset":{"line":0,"column":0},"map":{"sources":["a.js"],"#,
+            r#""mappings":";;;;;AAAA,EAAE;AAAA"}}],"x_facebook_offsets":[null,5]}"#,
+        ),
         items: r#"1.js [uv] {"file":"1.js","mappings":"AAAA","names":[],"sources":["a.js"],"version":3}"#,
     },
     Row {
         about: "the last line",
         bundle: b"\xe5\xd1\x0b\xfb\x01\0\0\0\0\0\0\0\0\0\0\0\x04\0\0\0xyz\0",
-        index: r#"{"sections":[{"offset":{"line":4294967295,"column":0},"map":{"sources":["a.js"],"mappings":"AAAA,SAAS"}}],"x_facebook_offsets":[4294967295]}"#,
+        index: concat!(
+            r#"{"sections":[{"offset":{"line":4294967295,"column":0},"map":{"sources":["a.js"],"#,
+            r#""mappings":"AAAA,SAAS"}}],"x_facebook_offsets":[4294967295]}"#,
+        ),
         items: r#"0.js [xyz] {"file":"0.js","mappings":"AAAA","names":[],"sources":["a.js"],"version":3}"#,
     },
     Row {
         about: "a text that passes the last line",
         bundle: b"\xe5\xd1\x0b\xfb\x01\0\0\0\0\0\0\0\0\0\0\0\x04\0\0\0x\ny\0",
-        index: r#"{"sections":[{"offset":{"line":4294967295,"column":0},"map":{"sources":["a.js"],"mappings":"AAAA,SAAS"}}],"x_facebook_offsets":[4294967295]}"#,
-        items: "0.js [x\ny] {\"file\":\"0.js\",\"mappings\":\"AAAA,SAAS\",\"names\":[],\"sources\":[\"a.js\"],\"version\":3}",
+        index: concat!(
+            r#"{"sections":[{"offset":{"line":4294967295,"column":0},"map":{"sources":["a.js"],"#,
+            r#""mappings":"AAAA,SAAS"}}],"x_facebook_offsets":[4294967295]}"#,
+        ),
+        items: concat!(
+            "0.js [x\ny] {\"file\":\"0.js\",\"mappings\":\"AAAA,SAAS\",\"names\":[],",
+            "\"sources\":[\"a.js\"],\"version\":3}",
+        ),
     },
     Row {
         about: "sources and names in the order of first use",
         bundle: ONE,
-        index: r#"{"sections":[{"offset":{"line":0,"column":0},"map":{"sourceRoot":"r","sources":["a.js","b.js"],"sourcesContent":["A","B"],"names":["n","m"],"ignoreList":[0,1],"mappings":";;;;;ACAAC,CDAAD"}}],"x_facebook_offsets":[5]}"#,
-        items: r#"0.js [xyz] {"file":"0.js","mappings":"AAAAA,CCAAC","names":["m","n"],"sources":["r/b.js","r/a.js"],"sourcesContent":["B","A"],"version":3}"#,
+        index: concat!(
+            r#"{"sections":[{"offset":{"line":0,"column":0},"map":{"sourceRoot":"r","#,
+            r#""sources":["a.js","b.js"],"sourcesContent":["A","B"],"names":["n","m"],"#,
+            r#""ignoreList":[0,1],"mappings":";;;;;ACAAC,CDAAD"}}],"x_facebook_offsets":[5]}"#,
+        ),
+        items: concat!(
+            r#"0.js [xyz] {"file":"0.js","mappings":"AAAAA,CCAAC","names":["m","n"],"#,
+            r#""sources":["r/b.js","r/a.js"],"sourcesContent":["B","A"],"version":3}"#,
+        ),
     },
     Row {
         about: "a token without a source",
         bundle: ONE,
-        index: r#"{"sections":[{"offset":{"line":0,"column":0},"map":{"sources":["a.js"],"mappings":";;;;;A,EAAA"}}],"x_facebook_offsets":[5]}"#,
+        index: concat!(
+            r#"{"sections":[{"offset":{"line":0,"column":0},"map":{"sources":["a.js"],"#,
+            r#""mappings":";;;;;A,EAAA"}}],"x_facebook_offsets":[5]}"#,
+        ),
         items: r#"0.js [xyz] {"file":"0.js","mappings":"A,EAAA","names":[],"sources":["a.js"],"version":3}"#,
     },
     Row {
         about: "two sections",
         bundle: ONE,
-        index: r#"{"sections":[{"offset":{"line":5,"column":0},"map":{"sources":["a.js"],"mappings":"AAAA"}},{"offset":{"line":5,"column":2},"map":{"sources":["b.js"],"mappings":"AAAA"}}],"x_facebook_offsets":[5]}"#,
+        index: concat!(
+            r#"{"sections":[{"offset":{"line":5,"column":0},"map":{"sources":["a.js"],"#,
+            r#""mappings":"AAAA"}},{"offset":{"line":5,"column":2},"map":{"sources":["b.js"],"#,
+            r#""mappings":"AAAA"}}],"x_facebook_offsets":[5]}"#,
+        ),
         items: r#"0.js [xyz] {"file":"0.js","mappings":"AAAA,ECAA","names":[],"sources":["a.js","b.js"],"version":3}"#,
     },
     Row {
         about: "a bundle of five numbers and three modules",
         bundle: b"\xe5\xd1\x0b\xfb\x05\0\0\0\x06\0\0\0\x06\0\0\0\x03\0\0\0\0\0\0\0\0\0\0\0\0\0\0\0\0\0\0\0\x09\0\0\0\x02\0\0\0\x0b\0\0\0\x03\0\0\0var a;ab\0c\0de\0",
-        index: r#"{"sections":[{"offset":{"line":0,"column":0},"map":{"sources":["a.js"],"sourcesContent":["A"],"mappings":"AAAA"}},{"offset":{"line":1,"column":0},"map":{"sources":["b.js"],"mappings":"AAAA,CAAC"}},{"offset":{"line":2,"column":0},"map":{"sources":["c.js"],"mappings":"AAAA,CAAC"}}],"x_facebook_offsets":[0,null,null,1,2],"x_metro_module_paths":["a.js","b.js","c.js","d.js","e.js","f.js","g.js"]}"#,
-        items: r#"0.js [ab] {"file":"0.js","mappings":"AAAA","names":[],"sources":["a.js"],"sourcesContent":["A"],"version":3} | 3.js [c] {"file":"3.js","mappings":"AAAA","names":[],"sources":["b.js"],"version":3} | 4.js [de] {"file":"4.js","mappings":"AAAA,CAAC","names":[],"sources":["c.js"],"version":3}"#,
+        index: concat!(
+            r#"{"sections":[{"offset":{"line":0,"column":0},"map":{"sources":["a.js"],"#,
+            r#""sourcesContent":["A"],"mappings":"AAAA"}},{"offset":{"line":1,"column":0},"#,
+            r#""map":{"sources":["b.js"],"mappings":"AAAA,CAAC"}},{"offset":{"line":2,"#,
+            r#""column":0},"map":{"sources":["c.js"],"mappings":"AAAA,CAAC"}}],"#,
+            r#""x_facebook_offsets":[0,null,null,1,2],"x_metro_module_paths":["a.js","b.js","#,
+            r#""c.js","d.js","e.js","f.js","g.js"]}"#,
+        ),
+        items: concat!(
+            r#"0.js [ab] {"file":"0.js","mappings":"AAAA","names":[],"sources":["a.js"],"#,
+            r#""sourcesContent":["A"],"version":3} | 3.js [c] {"file":"3.js","mappings":"AAAA","#,
+            r#""names":[],"sources":["b.js"],"version":3} | 4.js [de] {"file":"4.js","#,
+            r#""mappings":"AAAA,CAAC","names":[],"sources":["c.js"],"version":3}"#,
+        ),
     },
     Row {
         about: "a table of 4294967295 entries that is not there",
         bundle: b"\xe5\xd1\x0b\xfb\xff\xff\xff\xff\x02\0\0\0",
         index: AT_FIVE,
-        items: "invalid ram bundle module entry | invalid ram bundle module entry | invalid ram bundle module entry | invalid ram bundle module entry | invalid ram bundle module entry | invalid ram bundle module entry | invalid ram bundle module entry | invalid ram bundle module entry | invalid ram bundle module entry",
+        items: concat!(
+            "invalid ram bundle module entry | invalid ram bundle module entry | invalid ram ",
+            "bundle module entry | invalid ram bundle module entry | invalid ram bundle ",
+            "module entry | invalid ram bundle module entry | invalid ram bundle module ",
+            "entry | invalid ram bundle module entry | invalid ram bundle module entry",
+        ),
     },
 ];
 
@@ -245,17 +367,53 @@ fn read_and_split(alloc: Global, bytes: &[u8], text: &str) -> Result<String> {
 }
 
 #[test]
-fn bundles_are_split(rt: HostRuntime) {
+fn bundles_are_split(rt: HostRuntime) -> Checked {
     for row in &ROWS {
         let items = read_and_split(rt.alloc(), row.bundle, row.index);
-        check!(rt, row.about, items, row.items);
+        check(row.about, items, row.items)?;
     }
+    Ok(())
+}
+
+// A file bundle that has the modules 0 and 2 of `THREE_MODULES`, and no module 1.
+fn file_bundle<F: Files>(rt: &F, alloc: Global) -> Result<RamBundle<'static>> {
+    let _ = fs::remove_dir_all(&(rt, alloc), "split_files");
+    fs::create_dir_all(rt, "split_files/js-modules")?;
+    fs::write(rt, "split_files/main.js", "main")?;
+    fs::write(rt, "split_files/js-modules/UNBUNDLE", &ONE[..4])?;
+    fs::write(rt, "split_files/js-modules/0.js", "xyz")?;
+    fs::write(rt, "split_files/js-modules/2.js", "w")?;
+    let bundle = RamBundle::parse_unbundle_from_path(rt, alloc, "split_files/main.js")?;
+    fs::remove_dir_all(&(rt, alloc), "split_files")?;
+    Ok(bundle)
+}
+
+fn split_files<F: Files>(rt: &F, alloc: Global) -> Result<String> {
+    let index = index_of(alloc, LINE_BY_LINE)?;
+    split_text(alloc, &file_bundle(rt, alloc)?, &*index)
+}
+
+#[test]
+fn file_bundles_are_split(rt: HostRuntime) -> Checked {
+    let want = concat!(
+        r#"0.js [xyz] {"file":"0.js","mappings":"AAAAA,EAAE","names":["n"],"#,
+        r#""sources":["a.js"],"sourcesContent":["A"],"#,
+        r#""version":3} | 2.js [w] {"file":"2.js","mappings":"AACEA","names":["n"],"#,
+        r#""sources":["a.js"],"sourcesContent":["A"],"version":3}"#,
+    );
+    check("files", split_files(&rt, rt.alloc()), want)
 }
 
 static ITEMS: [&str; 3] = [
-    r#"0.js [xyz] {"file":"0.js","mappings":"AAAAA,EAAE","names":["n"],"sources":["a.js"],"sourcesContent":["A"],"version":3}"#,
+    concat!(
+        r#"0.js [xyz] {"file":"0.js","mappings":"AAAAA,EAAE","names":["n"],"sources":["a.js"],"#,
+        r#""sourcesContent":["A"],"version":3}"#,
+    ),
     r#"1.js [uv] {"file":"1.js","mappings":"AAAE","names":[],"sources":["a.js"],"sourcesContent":["A"],"version":3}"#,
-    r#"2.js [w] {"file":"2.js","mappings":"AACEA","names":["n"],"sources":["a.js"],"sourcesContent":["A"],"version":3}"#,
+    concat!(
+        r#"2.js [w] {"file":"2.js","mappings":"AACEA","names":["n"],"sources":["a.js"],"#,
+        r#""sourcesContent":["A"],"version":3}"#,
+    ),
 ];
 
 // Returns true in three cases: the text of the item is `want`; the item is the error `OutOfMemory`;
@@ -300,9 +458,15 @@ fn split_where_memory_fails(alloc: Global) -> Result<String> {
 // If one allocation fails while an item is made, only this item is `OutOfMemory`. The other items
 // are as in `ITEMS`. The next call of `split_ram_bundle` then returns all items.
 #[test]
-fn an_error_of_an_item_costs_no_other(rt: HostRuntime) {
+fn an_error_of_an_item_costs_no_other(rt: HostRuntime) -> Checked {
     let got = split_where_memory_fails(rt.alloc());
-    let want =
-        r#"3 | 0.js [xyz] {"file":"0.js","mappings":"AAAAA,EAAE","names":["n"],"sources":["a.js"],"sourcesContent":["A"],"version":3} | 1.js [uv] {"file":"1.js","mappings":"AAAE","names":[],"sources":["a.js"],"sourcesContent":["A"],"version":3} | 2.js [w] {"file":"2.js","mappings":"AACEA","names":["n"],"sources":["a.js"],"sourcesContent":["A"],"version":3}"#;
-    check!(rt, "items", got, want);
+    let want = concat!(
+        r#"3 | 0.js [xyz] {"file":"0.js","mappings":"AAAAA,EAAE","names":["n"],"#,
+        r#""sources":["a.js"],"sourcesContent":["A"],"#,
+        r#""version":3} | 1.js [uv] {"file":"1.js","mappings":"AAAE","names":[],"#,
+        r#""sources":["a.js"],"sourcesContent":["A"],"#,
+        r#""version":3} | 2.js [w] {"file":"2.js","mappings":"AACEA","names":["n"],"#,
+        r#""sources":["a.js"],"sourcesContent":["A"],"version":3}"#,
+    );
+    check("items", got, want)
 }

@@ -5,11 +5,10 @@ use crate::maps::map_of;
 use sourcemap::encoder::encode;
 use sourcemap::errors::{Error, Result};
 use sourcemap::types::DecodedMap;
-use sourcemap_test_support::check;
+use sourcemap_test_support::checks::{Checked, check};
 use sourcemap_test_support::writers::{HaltingWriter, NarrowWriter};
 use std::alloc::Global;
 use std::io::{BufWriter, Write};
-use std::process::Abort;
 use std::str;
 
 // A regular map, a Hermes map and an index, as they are written.
@@ -121,12 +120,13 @@ static WHOLE: [Way; 4] = [
 ];
 
 #[test]
-fn all_bytes_are_written(rt: HostRuntime) {
+fn all_bytes_are_written(rt: HostRuntime) -> Checked {
     for text in WRITTEN.iter() {
         for way in WHOLE.iter() {
-            check!(rt, text, write_by(rt.alloc(), text, *way), text);
+            check(text, write_by(rt.alloc(), text, *way), text)?;
         }
     }
+    Ok(())
 }
 
 // The first `most` characters of a text, a space, and the text of an error.
@@ -140,25 +140,21 @@ fn cut_text(alloc: Global, text: &str, most: usize, error: &str) -> Result<Strin
     Ok(out)
 }
 
-fn check_cut(rt: &impl Abort, alloc: Global, text: &str, way: Way, want: Result<String>) {
-    match want {
-        Ok(want) => check!(rt, text, write_by(alloc, text, way), want.as_str()),
-        Err(error) => {
-            let got: Result<String> = Err(error);
-            check!(rt, text, got, "");
-        }
-    }
+fn check_cut(alloc: Global, text: &str, way: Way, want: Result<String>) -> Checked {
+    let want = want?;
+    check(text, write_by(alloc, text, way), want.as_str())
 }
 
 #[test]
-fn each_write_may_fail_or_take_nothing(rt: HostRuntime) {
+fn each_write_may_fail_or_take_nothing(rt: HostRuntime) -> Checked {
     let alloc = rt.alloc();
     for text in WRITTEN.iter() {
         for most in 0..text.len() {
             let failed = cut_text(alloc, text, most, "broken pipe");
-            check_cut(&rt, alloc, text, Way::Failing(Some(most)), failed);
+            check_cut(alloc, text, Way::Failing(Some(most)), failed)?;
             let full = cut_text(alloc, text, most, "failed to write whole buffer");
-            check_cut(&rt, alloc, text, Way::Halting(Some(most)), full);
+            check_cut(alloc, text, Way::Halting(Some(most)), full)?;
         }
     }
+    Ok(())
 }

@@ -2,7 +2,7 @@
 use crate::maps::{index_of, map_of, record_text, value_text};
 use crate::samples::{BUNDLE, HERMES, LINKED};
 use sourcemap::errors::{Error, Result};
-use sourcemap_test_support::check;
+use sourcemap_test_support::checks::{Checked, check};
 use sourcemap_test_support::results::again;
 use std::alloc::Global;
 
@@ -65,14 +65,33 @@ static WRITTEN: [(&str, &str); 9] = [
         r#"{"sections":[],"sources":null,"version":3,"x_facebook_offsets":[]}"#,
     ),
     (
-        r#"{"sections":[{"offset":{"line":0,"column":0},"map":{"sections":[],"x_facebook_offsets":[5,null],"x_metro_module_paths":["a.js"]}}],"x_metro_module_paths":["b.js"]}"#,
-        r#"{"sections":[{"map":{"sections":[],"sources":null,"version":3,"x_facebook_offsets":[5,null],"x_metro_module_paths":["a.js"]},"offset":{"column":0,"line":0},"url":null}],"sources":null,"version":3,"x_metro_module_paths":["b.js"]}"#,
+        concat!(
+            r#"{"sections":[{"offset":{"line":0,"column":0},"map":{"sections":[],"#,
+            r#""x_facebook_offsets":[5,null],"x_metro_module_paths":["a.js"]}}],"#,
+            r#""x_metro_module_paths":["b.js"]}"#,
+        ),
+        concat!(
+            r#"{"sections":[{"map":{"sections":[],"sources":null,"version":3,"#,
+            r#""x_facebook_offsets":[5,null],"x_metro_module_paths":["a.js"]},"#,
+            r#""offset":{"column":0,"line":0},"url":null}],"sources":null,"version":3,"#,
+            r#""x_metro_module_paths":["b.js"]}"#,
+        ),
     ),
     // `x_facebook_offsets` and `x_metro_module_paths` of a regular map or a Hermes map are not
     // written.
     (
-        r#"{"sections":[{"offset":{"line":0,"column":0},"map":{"mappings":"A","x_facebook_offsets":[5],"x_metro_module_paths":["a.js"]}},{"offset":{"line":1,"column":0},"map":{"mappings":"A","x_facebook_offsets":[5],"x_metro_module_paths":["a.js"],"x_facebook_sources":[]}}]}"#,
-        r#"{"sections":[{"map":{"mappings":"A","names":[],"sources":[],"version":3},"offset":{"column":0,"line":0},"url":null},{"map":{"mappings":"A","names":[],"sources":[],"version":3,"x_facebook_sources":[]},"offset":{"column":0,"line":1},"url":null}],"sources":null,"version":3}"#,
+        concat!(
+            r#"{"sections":[{"offset":{"line":0,"column":0},"map":{"mappings":"A","#,
+            r#""x_facebook_offsets":[5],"x_metro_module_paths":["a.js"]}},{"offset":{"line":1,"#,
+            r#""column":0},"map":{"mappings":"A","x_facebook_offsets":[5],"#,
+            r#""x_metro_module_paths":["a.js"],"x_facebook_sources":[]}}]}"#,
+        ),
+        concat!(
+            r#"{"sections":[{"map":{"mappings":"A","names":[],"sources":[],"version":3},"#,
+            r#""offset":{"column":0,"line":0},"url":null},{"map":{"mappings":"A","names":[],"#,
+            r#""sources":[],"version":3,"x_facebook_sources":[]},"offset":{"column":0,"#,
+            r#""line":1},"url":null}],"sources":null,"version":3}"#,
+        ),
     ),
     (
         LINKED,
@@ -80,26 +99,44 @@ static WRITTEN: [(&str, &str); 9] = [
     ),
     (
         r#"{"sections":[{"offset":{"line":0,"column":1},"map":{"mappings":"A"}}],"file":"f"}"#,
-        r#"{"file":"f","sections":[{"map":{"mappings":"A","names":[],"sources":[],"version":3},"offset":{"column":1,"line":0},"url":null}],"sources":null,"version":3}"#,
+        concat!(
+            r#"{"file":"f","sections":[{"map":{"mappings":"A","names":[],"sources":[],"#,
+            r#""version":3},"offset":{"column":1,"line":0},"url":null}],"sources":null,"#,
+            r#""version":3}"#,
+        ),
     ),
     (
-        r#"{"sections":[{"offset":{"line":2,"column":0},"url":"u","map":{"sections":[],"debugId":"0123456789abcdef0123456789abcdef"}}],"sourceRoot":"r"}"#,
-        r#"{"sections":[{"map":{"debugId":"01234567-89ab-cdef-0123-456789abcdef","sections":[],"sources":null,"version":3},"offset":{"column":0,"line":2},"url":"u"}],"sources":null,"version":3}"#,
+        concat!(
+            r#"{"sections":[{"offset":{"line":2,"column":0},"url":"u","map":{"sections":[],"#,
+            r#""debugId":"0123456789abcdef0123456789abcdef"}}],"sourceRoot":"r"}"#,
+        ),
+        concat!(
+            r#"{"sections":[{"map":{"debugId":"01234567-89ab-cdef-0123-456789abcdef","#,
+            r#""sections":[],"sources":null,"version":3},"offset":{"column":0,"line":2},"#,
+            r#""url":"u"}],"sources":null,"version":3}"#,
+        ),
     ),
     (
         HERMES,
-        r#"{"sections":[{"map":{"mappings":"AAAA","names":[],"sources":["a.js"],"version":3},"offset":{"column":0,"line":0},"url":null},{"map":{"mappings":"AAAA;AAAA","names":[],"sources":["b.js"],"version":3,"x_facebook_sources":[[{"mappings":"AAA","names":["f"]}],null]},"offset":{"column":2,"line":1},"url":null}],"sources":null,"version":3}"#,
+        concat!(
+            r#"{"sections":[{"map":{"mappings":"AAAA","names":[],"sources":["a.js"],"#,
+            r#""version":3},"offset":{"column":0,"line":0},"url":null},"#,
+            r#"{"map":{"mappings":"AAAA;AAAA","names":[],"sources":["b.js"],"version":3,"#,
+            r#""x_facebook_sources":[[{"mappings":"AAA","names":["f"]}],null]},"#,
+            r#""offset":{"column":2,"line":1},"url":null}],"sources":null,"version":3}"#,
+        ),
     ),
 ];
 
 #[test]
-fn indexes_are_written(rt: HostRuntime) {
+fn indexes_are_written(rt: HostRuntime) -> Checked {
     let alloc = rt.alloc();
     for (text, want) in WRITTEN.iter() {
-        check!(rt, text, write_text(alloc, text), want);
-        check!(rt, text, into_value_text(alloc, text), want);
-        check!(rt, text, into_record_text(alloc, text), want);
-        check!(rt, text, to_writer_text(alloc, text), want);
-        check!(rt, text, index_to_writer_text(alloc, text), want);
+        check(text, write_text(alloc, text), want)?;
+        check(text, into_value_text(alloc, text), want)?;
+        check(text, into_record_text(alloc, text), want)?;
+        check(text, to_writer_text(alloc, text), want)?;
+        check(text, index_to_writer_text(alloc, text), want)?;
     }
+    Ok(())
 }

@@ -2,7 +2,7 @@
 // `charset=utf8`. Each other form returns an error. One text is encoded as a data URL.
 use sourcemap_errors::errors::Result;
 use sourcemap_json::data_url::{data_url, data_url_bytes};
-use sourcemap_test_support::check;
+use sourcemap_test_support::checks::{Checked, check};
 use sourcemap_test_support::results::error_text;
 use std::alloc::Global;
 use std::str;
@@ -62,10 +62,10 @@ fn read(alloc: Global, url: &str) -> Result<String> {
 }
 
 #[test]
-fn reads_and_writes(rt: HostRuntime) {
+fn reads_and_writes(rt: HostRuntime) -> Checked {
     for (about, url, want) in READ.iter() {
-        check!(rt, about, read(rt.alloc(), url), want);
+        check(about, read(rt.alloc(), url), want)?;
     }
     let (about, url, text) = READ[1];
-    check!(rt, about, data_url(rt.alloc(), text.as_bytes()), url);
+    check(about, data_url(rt.alloc(), text.as_bytes()), url)
 }

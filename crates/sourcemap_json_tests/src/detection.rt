@@ -2,7 +2,7 @@
 // Some readers are interrupted or fail.
 use sourcemap_errors::errors::{Error, Result};
 use sourcemap_json::detector::{is_sourcemap, is_sourcemap_slice};
-use sourcemap_test_support::check;
+use sourcemap_test_support::checks::{Checked, check, check_that};
 use sourcemap_test_support::readers::{HaltingReader, NarrowReader};
 use std::alloc::Global;
 use std::io::ErrorKind;
@@ -32,7 +32,10 @@ static MAPS: [(&str, &str); 11] = [
     ),
     (
         "a whole map",
-        r#"{"version":3,"sources":["coolstuff.js"],"names":["x","alert"],"mappings":"AAAA,GAAIA,GAAI,EACR,IAAIA,GAAK,EAAG,CACVC,MAAM"}"#,
+        concat!(
+            r#"{"version":3,"sources":["coolstuff.js"],"names":["x","alert"],"mappings":"AAAA,"#,
+            r#"GAAIA,GAAI,EACR,IAAIA,GAAK,EAAG,CACVC,MAAM"}"#,
+        ),
     ),
     (
         "a whole map after a longer header",
@@ -81,35 +84,36 @@ fn detect(alloc: Global, bytes: &[u8]) -> Result<String> {
 }
 
 #[test]
-fn maps_and_other_texts(rt: HostRuntime) {
+fn maps_and_other_texts(rt: HostRuntime) -> Checked {
     for (about, text) in MAPS.iter() {
         let got = detect(rt.alloc(), text.as_bytes());
-        check!(rt, about, got, "true, true, true");
+        check(about, got, "true, true, true")?;
     }
     for (about, text) in OTHERS.iter() {
         let got = detect(rt.alloc(), text.as_bytes());
-        check!(rt, about, got, "false, false, false");
+        check(about, got, "false, false, false")?;
     }
+    Ok(())
 }
 
 // Calls `is_sourcemap` on a reader that returns the first `count` bytes and then fails.
-fn detect_failing(alloc: Global, bytes: &[u8], count: usize) -> Result<String> {
+fn detect_failing(alloc: Global, bytes: &[u8], count: usize) -> Result<bool> {
     let reader = NarrowReader {
         rest: bytes,
         left: Some(count),
         kind: ErrorKind::TimedOut,
     };
-    let is_map = is_sourcemap(alloc, reader)?;
-    Ok(format!(in alloc; "{is_map}")?)
+    is_sourcemap(alloc, reader)
 }
 
 #[test]
-fn a_failed_read_is_no_map(rt: HostRuntime) {
+fn a_failed_read_is_no_map(rt: HostRuntime) -> Checked {
     let bytes = r#"{"sections":[]}"#.as_bytes();
     for count in 0..=bytes.len() {
-        let got = detect_failing(rt.alloc(), bytes, count);
-        check!(rt, "a reader that fails", got, "false");
+        let is_map = detect_failing(rt.alloc(), bytes, count)?;
+        check_that("a reader that fails", !is_map)?;
     }
+    Ok(())
 }
 
 // Whether detection returns `OutOfMemory` if the reader runs out of memory after `reads` reads that
@@ -120,12 +124,11 @@ fn runs_out_of_memory(alloc: Global, bytes: &[u8], reads: usize) -> bool {
 }
 
 #[test]
-fn out_of_memory_alone_is_an_error(rt: HostRuntime) {
+fn out_of_memory_alone_is_an_error(rt: HostRuntime) -> Checked {
     let bytes = r#"{"sections":[]}"#.as_bytes();
     for reads in 0..=bytes.len() {
-        assert!(rt;
-            runs_out_of_memory(rt.alloc(), bytes, reads),
-            "after {reads} reads"
-        );
+        let is_out = runs_out_of_memory(rt.alloc(), bytes, reads);
+        check_that("a reader that runs out of memory", is_out)?;
     }
+    Ok(())
 }

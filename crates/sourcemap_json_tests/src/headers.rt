@@ -1,7 +1,7 @@
 // Junk headers, with bytes that come one by one and reads that fail.
 use sourcemap_errors::errors::{Error, Result};
 use sourcemap_json::decoder::{StripHeaderReader, strip_junk_header};
-use sourcemap_test_support::check;
+use sourcemap_test_support::checks::{Checked, check};
 use sourcemap_test_support::readers::NarrowReader;
 use sourcemap_test_support::results::error_text;
 use std::alloc::Global;
@@ -45,10 +45,11 @@ fn read(alloc: Global, text: &[u8]) -> Result<String> {
 }
 
 #[test]
-fn drops_the_header(rt: HostRuntime) {
+fn drops_the_header(rt: HostRuntime) -> Checked {
     for (about, text, want) in READ.iter() {
-        check!(rt, about, read(rt.alloc(), text), want);
+        check(about, read(rt.alloc(), text), want)?;
     }
+    Ok(())
 }
 
 // A label, bytes, and what `strip_junk_header` keeps of them, or the error.
@@ -74,10 +75,11 @@ fn strip(alloc: Global, text: &[u8]) -> Result<String> {
 }
 
 #[test]
-fn strips_the_header(rt: HostRuntime) {
+fn strips_the_header(rt: HostRuntime) -> Checked {
     for (about, text, want) in STRIPPED.iter() {
-        check!(rt, about, strip(rt.alloc(), text), want);
+        check(about, strip(rt.alloc(), text), want)?;
     }
+    Ok(())
 }
 
 // Each read returns one byte, or none if `rest` or the buffer is empty. When `left` bytes remain,
@@ -160,11 +162,12 @@ fn read_by_sizes(
 }
 
 #[test]
-fn errors_come_at_their_reads(rt: HostRuntime) {
+fn errors_come_at_their_reads(rt: HostRuntime) -> Checked {
     for (about, text, left, sizes, want) in INVALID.iter() {
         let got = read_by_sizes(rt.alloc(), text, *left, *sizes);
-        check!(rt, about, got, want);
+        check(about, got, want)?;
     }
+    Ok(())
 }
 
 // A label, how many bytes are left where the inner reader fails, the kind of its error, and the
@@ -228,9 +231,10 @@ fn read_through_errors(alloc: Global, left: usize, kind: ErrorKind) -> Result<St
 }
 
 #[test]
-fn errors_of_the_inner_reader_are_passed_on(rt: HostRuntime) {
+fn errors_of_the_inner_reader_are_passed_on(rt: HostRuntime) -> Checked {
     for (about, left, kind, want) in PASSED_ON.iter() {
         let got = read_through_errors(rt.alloc(), *left, *kind);
-        check!(rt, about, got, want);
+        check(about, got, want)?;
     }
+    Ok(())
 }

@@ -2,7 +2,7 @@
 use serde_json::Value;
 use sourcemap_errors::errors::{Error, JsonFault, Result};
 use sourcemap_json::jsontypes::{DebugId, FacebookScopeMapping, MinimalRawSourceMap, RawSourceMap};
-use sourcemap_test_support::check;
+use sourcemap_test_support::checks::{Checked, check, check_that};
 use sourcemap_test_support::records::record;
 use std::alloc::Global;
 
@@ -34,9 +34,9 @@ fn is_of_wrong_shape(alloc: Global, text: &str) -> Result<bool> {
 }
 
 #[test]
-fn wrong_shapes(rt: HostRuntime) -> Result<()> {
+fn wrong_shapes(rt: HostRuntime) -> Checked {
     for text in WRONG_SHAPE.iter() {
-        assert!(rt; is_of_wrong_shape(rt.alloc(), text)?, "{text}");
+        check_that(text, is_of_wrong_shape(rt.alloc(), text)?)?;
     }
     Ok(())
 }
@@ -58,13 +58,32 @@ static WRITTEN: [(&str, &str, &str); 5] = [
     ),
     (
         "an index in an index",
-        r#"{"version":3,"sections":[{"offset":{"line":2,"column":3},"map":{"version":3,"sections":[{"offset":{"line":1,"column":0},"url":"u"}]}}]}"#,
-        r#"{"sections":[{"map":{"sections":[{"map":null,"offset":{"column":0,"line":1},"url":"u"}],"sources":null,"version":3},"offset":{"column":3,"line":2},"url":null}],"sources":null,"version":3}"#,
+        concat!(
+            r#"{"version":3,"sections":[{"offset":{"line":2,"column":3},"map":{"version":3,"#,
+            r#""sections":[{"offset":{"line":1,"column":0},"url":"u"}]}}]}"#,
+        ),
+        concat!(
+            r#"{"sections":[{"map":{"sections":[{"map":null,"offset":{"column":0,"line":1},"#,
+            r#""url":"u"}],"sources":null,"version":3},"offset":{"column":3,"line":2},"#,
+            r#""url":null}],"sources":null,"version":3}"#,
+        ),
     ),
     (
         "all keys of a map without sections",
-        r#"{"version":3,"file":7,"debug_id":"00000000000000000000000000000000","ignoreList":[1,3],"mappings":"A","names":[true,7,"a"],"rangeMappings":"B","sourceRoot":"r","sources":["a.js",null],"sourcesContent":[null,"x"],"x_facebook_offsets":[5,null],"x_facebook_sources":[null,[{"names":["<global>"],"mappings":"AAA"}]],"x_metro_module_paths":["p"]}"#,
-        r#"{"debugId":"00000000-0000-0000-0000-000000000000","file":7,"ignoreList":[1,3],"mappings":"A","names":[true,7,"a"],"rangeMappings":"B","sourceRoot":"r","sources":["a.js",null],"sourcesContent":[null,"x"],"version":3,"x_facebook_offsets":[5,null],"x_facebook_sources":[null,[{"mappings":"AAA","names":["<global>"]}]],"x_metro_module_paths":["p"]}"#,
+        concat!(
+            r#"{"version":3,"file":7,"debug_id":"00000000000000000000000000000000","#,
+            r#""ignoreList":[1,3],"mappings":"A","names":[true,7,"a"],"rangeMappings":"B","#,
+            r#""sourceRoot":"r","sources":["a.js",null],"sourcesContent":[null,"x"],"#,
+            r#""x_facebook_offsets":[5,null],"x_facebook_sources":[null,[{"names":["<global>"],"#,
+            r#""mappings":"AAA"}]],"x_metro_module_paths":["p"]}"#,
+        ),
+        concat!(
+            r#"{"debugId":"00000000-0000-0000-0000-000000000000","file":7,"ignoreList":[1,3],"#,
+            r#""mappings":"A","names":[true,7,"a"],"rangeMappings":"B","sourceRoot":"r","#,
+            r#""sources":["a.js",null],"sourcesContent":[null,"x"],"version":3,"#,
+            r#""x_facebook_offsets":[5,null],"x_facebook_sources":[null,[{"mappings":"AAA","#,
+            r#""names":["<global>"]}]],"x_metro_module_paths":["p"]}"#,
+        ),
     ),
 ];
 
@@ -92,14 +111,14 @@ fn are_equal(alloc: Global, one: &str, other: &str) -> Result<bool> {
 }
 
 #[test]
-fn written_texts(rt: HostRuntime) -> Result<()> {
+fn written_texts(rt: HostRuntime) -> Checked {
     let alloc = rt.alloc();
     for (about, text, want) in WRITTEN.iter() {
         for text in [*text, *want] {
             let got = value_text(alloc, by_reference(alloc, text));
-            check!(rt, about, got, want);
-            check!(rt, about, value_text(alloc, by_moving(alloc, text)), want);
-            assert!(rt; are_equal(alloc, text, want)?, "{about}");
+            check(about, got, want)?;
+            check(about, value_text(alloc, by_moving(alloc, text)), want)?;
+            check_that(about, are_equal(alloc, text, want)?)?;
         }
     }
     Ok(())
@@ -141,15 +160,15 @@ fn id_in(alloc: Global, text: &str) -> Result<String> {
 }
 
 #[test]
-fn debug_ids(rt: HostRuntime) {
+fn debug_ids(rt: HostRuntime) -> Checked {
     for (about, text, want) in IDS.iter() {
-        check!(rt, about, id_text(rt.alloc(), DebugId::parse(text)), want);
+        check(about, id_text(rt.alloc(), DebugId::parse(text)), want)?;
     }
     // `debugId` wins
     let text =
         r#"{"debug_id":"11111111-1111-1111-1111-111111111111","debugId":"00000000000000000000000000000000"}"#;
     let got = id_in(rt.alloc(), text);
-    check!(rt, text, got, "00000000-0000-0000-0000-000000000000");
+    check(text, got, "00000000-0000-0000-0000-000000000000")
 }
 
 const NAMES: &str = r#"{"names":[1.5,true,7,"a"],"mappings":null,"version":3}"#;
@@ -178,9 +197,9 @@ fn keys_in(alloc: Global, text: &str) -> Result<String> {
 }
 
 #[test]
-fn names_and_keys(rt: HostRuntime) {
-    check!(rt, NAMES, names_in(rt.alloc(), NAMES), r#"4 true 7 "a""#);
-    check!(rt, NAMES, keys_in(rt.alloc(), NAMES), "Some(3) true false");
+fn names_and_keys(rt: HostRuntime) -> Checked {
+    check(NAMES, names_in(rt.alloc(), NAMES), r#"4 true 7 "a""#)?;
+    check(NAMES, keys_in(rt.alloc(), NAMES), "Some(3) true false")
 }
 
 fn new_scopes_equal_their_copy(alloc: Global) -> Result<bool> {
@@ -198,7 +217,6 @@ fn equals_its_copy(scopes: &FacebookScopeMapping) -> Result<bool> {
 }
 
 #[test]
-fn scopes_are_copied(rt: HostRuntime) -> Result<()> {
-    assert!(rt; new_scopes_equal_their_copy(rt.alloc())?);
-    Ok(())
+fn scopes_are_copied(rt: HostRuntime) -> Checked {
+    check_that("a copy", new_scopes_equal_their_copy(rt.alloc())?)
 }

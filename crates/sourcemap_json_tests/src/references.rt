@@ -8,7 +8,7 @@ use sourcemap_json::detector::{
     SourceMapRef, is_sourcemap, locate_sourcemap_reference, locate_sourcemap_reference_slice,
 };
 use sourcemap_source_views::sourceview::SourceView;
-use sourcemap_test_support::check;
+use sourcemap_test_support::checks::{Checked, check, check_that};
 use sourcemap_test_support::readers::{HaltingReader, NarrowReader};
 use sourcemap_test_support::results::{error_text, text_or_none};
 use std::alloc::Global;
@@ -108,12 +108,13 @@ fn reference_text(alloc: Global, found: Result<Option<SourceMapRef>>) -> Result<
 }
 
 #[test]
-fn locates_in_slices(rt: HostRuntime) {
+fn locates_in_slices(rt: HostRuntime) -> Checked {
     let alloc = rt.alloc();
     for (about, bytes, want) in LOCATED.iter() {
         let found = locate_sourcemap_reference_slice(alloc, bytes);
-        check!(rt, about, reference_text(alloc, found), want);
+        check(about, reference_text(alloc, found), want)?;
     }
+    Ok(())
 }
 
 fn read(alloc: Global, bytes: &[u8], reads: usize) -> Result<String> {
@@ -126,21 +127,22 @@ fn read(alloc: Global, bytes: &[u8], reads: usize) -> Result<String> {
 }
 
 #[test]
-fn locates_in_readers(rt: HostRuntime) {
+fn locates_in_readers(rt: HostRuntime) -> Checked {
     for (about, bytes, want) in LOCATED.iter() {
-        check!(rt, about, read(rt.alloc(), bytes, usize::MAX), want);
+        check(about, read(rt.alloc(), bytes, usize::MAX), want)?;
     }
+    Ok(())
 }
 
 #[test]
-fn a_failed_read_is_no_reference(rt: HostRuntime) {
+fn a_failed_read_is_no_reference(rt: HostRuntime) -> Checked {
     let bytes = b"a\n//# sourceMappingURL=a.map";
     for reads in 0..29 {
         let got = read(rt.alloc(), bytes, reads);
-        check!(rt, "a read that fails", got, "timed out");
+        check("a read that fails", got, "timed out")?;
     }
     let got = read(rt.alloc(), bytes, 29);
-    check!(rt, "no read that fails", got, "#a.map");
+    check("no read that fails", got, "#a.map")
 }
 
 // The reference in a reader that is interrupted before each byte. After `reads` reads that were
@@ -151,11 +153,12 @@ fn read_halting(alloc: Global, bytes: &[u8], reads: usize, kind: ErrorKind) -> R
 }
 
 #[test]
-fn interrupted_reads_are_made_again(rt: HostRuntime) {
+fn interrupted_reads_are_made_again(rt: HostRuntime) -> Checked {
     for (about, bytes, want) in LOCATED.iter() {
         let found = read_halting(rt.alloc(), bytes, usize::MAX, ErrorKind::TimedOut);
-        check!(rt, about, found, want);
+        check(about, found, want)?;
     }
+    Ok(())
 }
 
 fn runs_out_of_memory(alloc: Global, reads: usize) -> bool {
@@ -168,13 +171,12 @@ fn runs_out_of_memory(alloc: Global, reads: usize) -> bool {
 }
 
 #[test]
-fn a_read_that_runs_out_of_memory_is_out_of_memory(rt: HostRuntime) {
+fn a_read_that_runs_out_of_memory_is_out_of_memory(rt: HostRuntime) -> Checked {
     for reads in 0..29 {
-        assert!(rt;
-            runs_out_of_memory(rt.alloc(), reads),
-            "after {reads} reads"
-        );
+        let is_out = runs_out_of_memory(rt.alloc(), reads);
+        check_that("a reader that runs out of memory", is_out)?;
     }
+    Ok(())
 }
 
 fn read_view(alloc: Global, bytes: &[u8]) -> Result<String> {
@@ -183,10 +185,11 @@ fn read_view(alloc: Global, bytes: &[u8]) -> Result<String> {
 }
 
 #[test]
-fn views_have_the_same_reference(rt: HostRuntime) {
+fn views_have_the_same_reference(rt: HostRuntime) -> Checked {
     for (about, bytes, want) in LOCATED[..13].iter() {
-        check!(rt, about, read_view(rt.alloc(), bytes), want);
+        check(about, read_view(rt.alloc(), bytes), want)?;
     }
+    Ok(())
 }
 
 // A label. Then a long text: its start, the piece that it repeats 3,000 times, and its end. Then
@@ -269,11 +272,12 @@ fn slice_and_reader(alloc: Global, head: &[u8], piece: &[u8], tail: &[u8]) -> Re
 }
 
 #[test]
-fn locates_in_long_texts(rt: HostRuntime) {
+fn locates_in_long_texts(rt: HostRuntime) -> Checked {
     for (about, head, piece, tail, want) in LONG.iter() {
         let got = slice_and_reader(rt.alloc(), head, piece, tail);
-        check!(rt, about, got, want);
+        check(about, got, want)?;
     }
+    Ok(())
 }
 
 // The URL in a reference, the URL of the file that holds the reference, and the resolved URL, or
@@ -298,10 +302,11 @@ fn resolve(alloc: Global, url: &str, base: &str) -> Result<String> {
 }
 
 #[test]
-fn leads_to_urls(rt: HostRuntime) {
+fn leads_to_urls(rt: HostRuntime) -> Checked {
     for (url, base, want) in RESOLVED.iter() {
-        check!(rt, url, resolve(rt.alloc(), url, base), want);
+        check(url, resolve(rt.alloc(), url, base), want)?;
     }
+    Ok(())
 }
 
 // The URL in a reference, the path of the file that holds the reference, and the resolved path, or
@@ -315,16 +320,23 @@ static PATHS: [(&str, &str, &str); 6] = [
     ("data:application/json,{}", "/x/a.js", "none"),
 ];
 
-fn resolve_path_of(alloc: Global, url: &str, base: &str) -> Result<String> {
-    let reference = SourceMapRef::LegacyRef(String::from_str(alloc, url)?);
+fn resolve_path_of(alloc: Global, url: &str, base: &str, is_legacy: bool) -> Result<String> {
+    let url = String::from_str(alloc, url)?;
+    let reference = if is_legacy {
+        SourceMapRef::LegacyRef(url)
+    } else {
+        SourceMapRef::Ref(url)
+    };
     text_or_none(alloc, reference.resolve_path(base)?)
 }
 
 #[test]
-fn leads_to_paths(rt: HostRuntime) {
+fn leads_to_paths(rt: HostRuntime) -> Checked {
     for (url, base, want) in PATHS.iter() {
-        check!(rt, url, resolve_path_of(rt.alloc(), url, base), want);
+        check(url, resolve_path_of(rt.alloc(), url, base, false), want)?;
+        check(url, resolve_path_of(rt.alloc(), url, base, true), want)?;
     }
+    Ok(())
 }
 
 fn are_equal(a: &SourceMapRef, b: &SourceMapRef) -> bool
@@ -344,11 +356,11 @@ fn compare(alloc: Global, a: &str, b: &str) -> Result<String> {
 }
 
 #[test]
-fn equal_by_mark_and_text(rt: HostRuntime) {
+fn equal_by_mark_and_text(rt: HostRuntime) -> Checked {
     let got = compare(rt.alloc(), "a", "a");
-    check!(rt, "one text", got, "a true false");
+    check("one text", got, "a true false")?;
     let got = compare(rt.alloc(), "a", "b");
-    check!(rt, "two texts", got, "a false false");
+    check("two texts", got, "a false false")
 }
 
 // A reader that fails at its first read.
@@ -381,9 +393,10 @@ fn detect_failing(alloc: Global, kind: ErrorKind) -> Result<String> {
 }
 
 #[test]
-fn reads_that_fail_for_memory_are_out_of_memory(rt: HostRuntime) {
+fn reads_that_fail_for_memory_are_out_of_memory(rt: HostRuntime) -> Checked {
     for (kind, want, is_map) in FAILED.iter() {
-        check!(rt, want, locate_failing(rt.alloc(), *kind), want);
-        check!(rt, is_map, detect_failing(rt.alloc(), *kind), is_map);
+        check(want, locate_failing(rt.alloc(), *kind), want)?;
+        check(is_map, detect_failing(rt.alloc(), *kind), is_map)?;
     }
+    Ok(())
 }

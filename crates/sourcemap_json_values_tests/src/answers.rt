@@ -2,9 +2,8 @@
 // `none`. The only error is out of memory.
 use serde_json::{Category, Result, Value};
 use sourcemap_json_read::values::value_from_slice;
-use sourcemap_test_support::check;
+use sourcemap_test_support::checks::{Checked, check};
 use std::alloc::Global;
-use std::process::Abort;
 
 fn compact_text(alloc: Global, answer: Result<Value>) -> Result<String> {
     match answer {
@@ -25,7 +24,7 @@ pub fn kit_answer(alloc: Global, bytes: &[u8]) -> Result<String> {
 }
 
 /// Checks that both readers read the value `want` from this text, or refuse it if `want` is `none`.
-pub fn check_row(rt: &impl Abort, alloc: Global, text: &str, want: &str) {
-    check!(rt, text, answer(alloc, text.as_bytes()), want);
-    check!(rt, text, kit_answer(alloc, text.as_bytes()), want);
+pub fn check_row(alloc: Global, text: &str, want: &str) -> Checked {
+    check(text, answer(alloc, text.as_bytes()), want)?;
+    check(text, kit_answer(alloc, text.as_bytes()), want)
 }

@@ -2,6 +2,7 @@
 // runs are as long as such a block, or one byte longer or shorter.
 use crate::answers::check_row;
 use serde_json::Result;
+use sourcemap_test_support::checks::Checked;
 use std::alloc::Global;
 
 static LENGTHS: [usize; 8] = [0, 1, 31, 32, 33, 63, 64, 65];
@@ -48,13 +49,13 @@ fn around(alloc: Global, before: usize, inner: &str, after: usize) -> Result<Str
 }
 
 #[test]
-fn escapes_among_plain_runs_are_read(rt: HostRuntime) -> Result<()> {
+fn escapes_among_plain_runs_are_read(rt: HostRuntime) -> Checked {
     for (spelled, written) in ESCAPES.iter() {
         for before in LENGTHS.iter() {
             for after in LENGTHS.iter() {
                 let text = around(rt.alloc(), *before, spelled, *after)?;
                 let want = around(rt.alloc(), *before, written, *after)?;
-                check_row(&rt, rt.alloc(), text.as_str(), want.as_str());
+                check_row(rt.alloc(), text.as_str(), want.as_str())?;
             }
         }
     }
@@ -62,12 +63,12 @@ fn escapes_among_plain_runs_are_read(rt: HostRuntime) -> Result<()> {
 }
 
 #[test]
-fn wide_characters_between_escapes_are_read(rt: HostRuntime) -> Result<()> {
+fn wide_characters_between_escapes_are_read(rt: HostRuntime) -> Checked {
     for (spelled, written) in WIDE.iter() {
         for before in 0..40 {
             let text = around(rt.alloc(), before, spelled, 3)?;
             let want = around(rt.alloc(), before, written, 3)?;
-            check_row(&rt, rt.alloc(), text.as_str(), want.as_str());
+            check_row(rt.alloc(), text.as_str(), want.as_str())?;
         }
     }
     Ok(())
@@ -79,11 +80,11 @@ fn without_end(alloc: Global, before: usize, inner: &str) -> Result<String> {
 }
 
 #[test]
-fn invalid_escapes_after_plain_runs_are_refused(rt: HostRuntime) -> Result<()> {
+fn invalid_escapes_after_plain_runs_are_refused(rt: HostRuntime) -> Checked {
     for error in ERRORS.iter() {
         for before in 0..70 {
             let text = without_end(rt.alloc(), before, error)?;
-            check_row(&rt, rt.alloc(), text.as_str(), "none");
+            check_row(rt.alloc(), text.as_str(), "none")?;
         }
     }
     Ok(())

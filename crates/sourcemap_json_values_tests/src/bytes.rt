@@ -1,7 +1,6 @@
 // Bytes that are UTF-8, and bytes that are not.
 use crate::answers::{answer, kit_answer};
-use serde_json::Result;
-use sourcemap_test_support::check;
+use sourcemap_test_support::checks::{Checked, check, check_that};
 use std::alloc::{AllocError, Global};
 use std::result::Result as StdResult;
 
@@ -35,11 +34,12 @@ static BYTES: [(&[u8], &str); 23] = [
 ];
 
 #[test]
-fn only_bytes_of_utf8_are_read(rt: HostRuntime) {
+fn only_bytes_of_utf8_are_read(rt: HostRuntime) -> Checked {
     for (bytes, want) in BYTES.iter() {
-        check!(rt, want, answer(rt.alloc(), bytes), want);
-        check!(rt, want, kit_answer(rt.alloc(), bytes), want);
+        check(want, answer(rt.alloc(), bytes), want)?;
+        check(want, kit_answer(rt.alloc(), bytes), want)?;
     }
+    Ok(())
 }
 
 // Bytes for the middle of an ASCII string, and whether these bytes are UTF-8.
@@ -67,17 +67,14 @@ fn surround(alloc: Global, letters: usize, inner: &[u8]) -> StdResult<Vec<u8>, A
 }
 
 #[test]
-fn characters_at_each_index_of_a_block_are_tested(rt: HostRuntime) -> Result<()> {
+fn characters_at_each_index_of_a_block_are_tested(rt: HostRuntime) -> Checked {
     for (inner, is_read) in AMID.iter() {
         for letters in 0..140 {
             let text = surround(rt.alloc(), letters, inner)?;
             let found = answer(rt.alloc(), text.as_slice())?;
-            assert!(rt;
-                (found.as_str() != "none") == *is_read,
-                "{letters}: {found}"
-            );
+            check_that(found.as_str(), (found.as_str() != "none") == *is_read)?;
             let got = kit_answer(rt.alloc(), text.as_slice());
-            check!(rt, "as the kit", got, found.as_str());
+            check("as the kit", got, found.as_str())?;
         }
     }
     Ok(())

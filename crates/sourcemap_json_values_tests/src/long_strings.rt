@@ -3,6 +3,7 @@
 // buffer more than once.
 use crate::answers::check_row;
 use serde_json::Result;
+use sourcemap_test_support::checks::Checked;
 use std::alloc::Global;
 
 // A JSON string that is read, and the same string in compact JSON, both without enclosing quotes.
@@ -37,13 +38,13 @@ fn surround(alloc: Global, before: usize, inner: &str, rest: usize) -> Result<St
 }
 
 #[test]
-fn escapes_at_each_index_of_a_block_are_read(rt: HostRuntime) -> Result<()> {
+fn escapes_at_each_index_of_a_block_are_read(rt: HostRuntime) -> Checked {
     for (spelled, written) in SPELLED.iter() {
         for (first, last) in OFFSETS.iter() {
             for before in *first..*last {
                 let text = surround(rt.alloc(), before, spelled, 300)?;
                 let want = surround(rt.alloc(), before, written, 300)?;
-                check_row(&rt, rt.alloc(), text.as_str(), want.as_str());
+                check_row(rt.alloc(), text.as_str(), want.as_str())?;
             }
         }
     }
@@ -53,35 +54,35 @@ fn escapes_at_each_index_of_a_block_are_read(rt: HostRuntime) -> Result<()> {
 // The reader decodes blocks of 64 bytes only while more than 128 bytes of the text are left. The
 // test tries lengths of `rest` below and above this limit.
 #[test]
-fn escapes_before_each_length_of_rest_are_read(rt: HostRuntime) -> Result<()> {
+fn escapes_before_each_length_of_rest_are_read(rt: HostRuntime) -> Checked {
     for (spelled, written) in SPELLED.iter() {
         for rest in 0..140 {
             let text = surround(rt.alloc(), 70, spelled, rest)?;
             let want = surround(rt.alloc(), 70, written, rest)?;
-            check_row(&rt, rt.alloc(), text.as_str(), want.as_str());
+            check_row(rt.alloc(), text.as_str(), want.as_str())?;
         }
     }
     Ok(())
 }
 
 #[test]
-fn errors_at_each_index_of_a_block_are_refused(rt: HostRuntime) -> Result<()> {
+fn errors_at_each_index_of_a_block_are_refused(rt: HostRuntime) -> Checked {
     for error in ERRORS.iter() {
         for before in 0..140 {
             let inner = format!(in rt.alloc(); "\\n{error}")?;
             let text = surround(rt.alloc(), before, inner.as_str(), 300)?;
-            check_row(&rt, rt.alloc(), text.as_str(), "none");
+            check_row(rt.alloc(), text.as_str(), "none")?;
         }
     }
     Ok(())
 }
 
 #[test]
-fn texts_without_an_end_are_refused(rt: HostRuntime) -> Result<()> {
+fn texts_without_an_end_are_refused(rt: HostRuntime) -> Checked {
     for after in 0..300 {
         let last = "b".repeat(rt.alloc(), after)?;
         let text = format!(in rt.alloc(); "\"a\\n{last}")?;
-        check_row(&rt, rt.alloc(), text.as_str(), "none");
+        check_row(rt.alloc(), text.as_str(), "none")?;
     }
     Ok(())
 }
@@ -89,14 +90,14 @@ fn texts_without_an_end_are_refused(rt: HostRuntime) -> Result<()> {
 // For the first string of each text, the reader extends its buffer several times, by 4096 bytes
 // each time. The other strings of the text reuse the extended buffer.
 #[test]
-fn strings_longer_than_the_first_buffer_are_read(rt: HostRuntime) -> Result<()> {
+fn strings_longer_than_the_first_buffer_are_read(rt: HostRuntime) -> Checked {
     for before in 0..70 {
         let first = "a".repeat(rt.alloc(), before)?;
         let lines = r#"some line \"é\" with no end\n"#.repeat(rt.alloc(), 500)?;
         let text = format!(in rt.alloc();
             "[\"{first}{lines}\",\"\\n{first}\",\"{lines}{first}\",\"x\\t\"]"
         )?;
-        check_row(&rt, rt.alloc(), text.as_str(), text.as_str());
+        check_row(rt.alloc(), text.as_str(), text.as_str())?;
     }
     Ok(())
 }

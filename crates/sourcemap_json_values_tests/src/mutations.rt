@@ -2,7 +2,7 @@
 // `serde_json` must read each such text as the same value, or both must refuse the text.
 use crate::answers::{answer, kit_answer};
 use serde_json::Result;
-use sourcemap_test_support::check;
+use sourcemap_test_support::checks::{Checked, check};
 use std::alloc::Global;
 
 static TEXTS: [&str; 4] = [
@@ -37,13 +37,13 @@ fn change_bytes(alloc: Global, text: &str, mut number: u64) -> Result<Vec<u8>> {
 }
 
 #[test]
-fn changed_texts_are_read_as_the_kit_reads_them(rt: HostRuntime) -> Result<()> {
+fn changed_texts_are_read_as_the_kit_reads_them(rt: HostRuntime) -> Checked {
     for text in TEXTS.iter() {
         for number in 0..1000 {
             let bytes = change_bytes(rt.alloc(), text, number)?;
             let want = kit_answer(rt.alloc(), bytes.as_slice())?;
             let got = answer(rt.alloc(), bytes.as_slice());
-            check!(rt, text, got, want.as_str());
+            check(text, got, want.as_str())?;
         }
     }
     Ok(())

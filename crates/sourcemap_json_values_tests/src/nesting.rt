@@ -1,7 +1,7 @@
 // Arrays and objects of up to 128 levels, and strings that begin with 0 to 99 letters `a`.
 use crate::answers::{answer, kit_answer};
 use serde_json::Result;
-use sourcemap_test_support::check;
+use sourcemap_test_support::checks::{Checked, check};
 use std::alloc::Global;
 
 // A text that opens levels, the text that closes them, how often both are repeated, and what the
@@ -32,18 +32,18 @@ fn nest(alloc: Global, row: &(&str, &str, usize, &str)) -> Result<String> {
 }
 
 #[test]
-fn values_are_read_up_to_127_levels_deep(rt: HostRuntime) -> Result<()> {
+fn values_are_read_up_to_127_levels_deep(rt: HostRuntime) -> Checked {
     for row in LEVELS.iter() {
         let text = nest(rt.alloc(), row)?;
         let got = answer(rt.alloc(), text.as_bytes());
-        check!(rt, text.as_str(), got, text.as_str());
+        check(text.as_str(), got, text.as_str())?;
     }
     for row in TOO_MANY.iter() {
         let text = nest(rt.alloc(), row)?;
         let got = answer(rt.alloc(), text.as_bytes());
-        check!(rt, text.as_str(), got, "none");
+        check(text.as_str(), got, "none")?;
         let got = kit_answer(rt.alloc(), text.as_bytes());
-        check!(rt, text.as_str(), got, "none");
+        check(text.as_str(), got, "none")?;
     }
     Ok(())
 }
@@ -57,12 +57,12 @@ fn pad(alloc: Global, length: usize, end: &str) -> Result<String> {
 }
 
 #[test]
-fn texts_of_each_length_are_read(rt: HostRuntime) -> Result<()> {
+fn texts_of_each_length_are_read(rt: HostRuntime) -> Checked {
     for end in ENDS.iter() {
         for length in 0..100 {
             let text = pad(rt.alloc(), length, end)?;
             let got = answer(rt.alloc(), text.as_bytes());
-            check!(rt, text.as_str(), got, text.as_str());
+            check(text.as_str(), got, text.as_str())?;
         }
     }
     Ok(())

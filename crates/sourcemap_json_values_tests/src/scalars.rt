@@ -1,7 +1,6 @@
 // Strings, numbers and literals, each a JSON text of its own.
 use crate::answers::{answer, kit_answer};
-use serde_json::Result;
-use sourcemap_test_support::check;
+use sourcemap_test_support::checks::{Checked, check};
 
 // A JSON text, and its value in compact JSON, or `none` if the text is invalid.
 static STRINGS: [(&str, &str); 36] = [
@@ -111,34 +110,37 @@ static LITERALS: [(&str, &str); 13] = [
 ];
 
 #[test]
-fn strings_are_read_and_invalid_ones_refused(rt: HostRuntime) {
+fn strings_are_read_and_invalid_ones_refused(rt: HostRuntime) -> Checked {
     for (text, want) in STRINGS.iter() {
-        check!(rt, text, answer(rt.alloc(), text.as_bytes()), want);
-        check!(rt, text, kit_answer(rt.alloc(), text.as_bytes()), want);
-    }
-}
-
-#[test]
-fn numbers_are_read_and_invalid_ones_refused(rt: HostRuntime) {
-    for (text, want) in NUMBERS.iter() {
-        check!(rt, text, answer(rt.alloc(), text.as_bytes()), want);
-        check!(rt, text, kit_answer(rt.alloc(), text.as_bytes()), want);
-    }
-}
-
-#[test]
-fn numbers_past_64_bits_are_read_as_the_kit_reads_them(rt: HostRuntime) -> Result<()> {
-    for text in FAR_NUMBERS.iter() {
-        let want = kit_answer(rt.alloc(), text.as_bytes())?;
-        check!(rt, text, answer(rt.alloc(), text.as_bytes()), want.as_str());
+        check(text, answer(rt.alloc(), text.as_bytes()), want)?;
+        check(text, kit_answer(rt.alloc(), text.as_bytes()), want)?;
     }
     Ok(())
 }
 
 #[test]
-fn only_null_true_and_false_are_literals(rt: HostRuntime) {
-    for (text, want) in LITERALS.iter() {
-        check!(rt, text, answer(rt.alloc(), text.as_bytes()), want);
-        check!(rt, text, kit_answer(rt.alloc(), text.as_bytes()), want);
+fn numbers_are_read_and_invalid_ones_refused(rt: HostRuntime) -> Checked {
+    for (text, want) in NUMBERS.iter() {
+        check(text, answer(rt.alloc(), text.as_bytes()), want)?;
+        check(text, kit_answer(rt.alloc(), text.as_bytes()), want)?;
     }
+    Ok(())
+}
+
+#[test]
+fn numbers_past_64_bits_are_read_as_the_kit_reads_them(rt: HostRuntime) -> Checked {
+    for text in FAR_NUMBERS.iter() {
+        let want = kit_answer(rt.alloc(), text.as_bytes())?;
+        check(text, answer(rt.alloc(), text.as_bytes()), want.as_str())?;
+    }
+    Ok(())
+}
+
+#[test]
+fn only_null_true_and_false_are_literals(rt: HostRuntime) -> Checked {
+    for (text, want) in LITERALS.iter() {
+        check(text, answer(rt.alloc(), text.as_bytes()), want)?;
+        check(text, kit_answer(rt.alloc(), text.as_bytes()), want)?;
+    }
+    Ok(())
 }

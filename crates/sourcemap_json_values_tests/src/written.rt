@@ -1,9 +1,8 @@
 // Values written as compact JSON.
 use serde_json::{Result, Value};
 use sourcemap_json_write::writing::value_to_vec;
-use sourcemap_test_support::check;
+use sourcemap_test_support::checks::{Checked, check};
 use std::alloc::{AllocError, Global};
-use std::process::Abort;
 use std::result::Result as StdResult;
 use std::str::from_utf8;
 
@@ -84,8 +83,8 @@ fn pair(alloc: Global, first: Value, second: Value) -> StdResult<Value, AllocErr
 }
 
 // Checks how a value is written: alone, and next to a long string.
-fn check_written(rt: &impl Abort, alloc: Global, value: Value, want: &str) -> Result<()> {
-    check!(rt, want, compact_text(alloc, &value), want);
+fn check_written(alloc: Global, value: Value, want: &str) -> Checked {
+    check(want, compact_text(alloc, &value), want)?;
     let mut long = String::new(alloc);
     for _ in 0..4096 {
         long.push('x')?;
@@ -95,8 +94,7 @@ fn check_written(rt: &impl Abort, alloc: Global, value: Value, want: &str) -> Re
         wanted.push_str(part)?;
     }
     let answer = compact_text(alloc, &pair(alloc, value, Value::String(long))?);
-    check!(rt, want, answer, wanted.as_str());
-    Ok(())
+    check(want, answer, wanted.as_str())
 }
 
 // Returns `around`, then `len` times `run`, then `between`, then again `len` times `run`, then
@@ -132,25 +130,25 @@ fn letters(alloc: Global, len: u8, index: u8) -> Result<String> {
 }
 
 #[test]
-fn strings_are_written_with_their_escapes(rt: HostRuntime) -> Result<()> {
+fn strings_are_written_with_their_escapes(rt: HostRuntime) -> Checked {
     for (text, want) in TEXTS.iter() {
         let value = Value::String(String::from_str(rt.alloc(), text)?);
-        check_written(&rt, rt.alloc(), value, want)?;
+        check_written(rt.alloc(), value, want)?;
     }
     Ok(())
 }
 
 #[test]
-fn values_are_written_compactly(rt: HostRuntime) -> Result<()> {
+fn values_are_written_compactly(rt: HostRuntime) -> Checked {
     for (text, want) in VALUES.iter() {
         let value = Value::from_str(rt.alloc(), text)?;
-        check_written(&rt, rt.alloc(), value, want)?;
+        check_written(rt.alloc(), value, want)?;
     }
     Ok(())
 }
 
 #[test]
-fn escapes_between_runs_of_each_length_are_written(rt: HostRuntime) -> Result<()> {
+fn escapes_between_runs_of_each_length_are_written(rt: HostRuntime) -> Checked {
     for len in LENGTHS.iter() {
         for (run, byte, escape) in [
             ("a", "\n", "\\n"),
@@ -162,7 +160,7 @@ fn escapes_between_runs_of_each_length_are_written(rt: HostRuntime) -> Result<()
         {
             let text = two_runs(rt.alloc(), run, *len, byte, "")?;
             let want = two_runs(rt.alloc(), run, *len, escape, "\"")?;
-            check_written(&rt, rt.alloc(), Value::String(text), want.as_str())?;
+            check_written(rt.alloc(), Value::String(text), want.as_str())?;
         }
     }
     Ok(())
@@ -173,13 +171,13 @@ fn escapes_between_runs_of_each_length_are_written(rt: HostRuntime) -> Result<()
 // blocks. So the test tries strings of each length up to 70. For each index, one string needs an
 // escape at this index only. Another string of the same length needs no escape.
 #[test]
-fn an_escape_at_each_index_of_a_short_string_is_written(rt: HostRuntime) -> Result<()> {
+fn an_escape_at_each_index_of_a_short_string_is_written(rt: HostRuntime) -> Checked {
     for len in 0..71u8 {
         for index in 0..72u8 {
             let value = Value::String(letters(rt.alloc(), len, index)?);
             let want = value.to_string(rt.alloc())?;
             let got = compact_text(rt.alloc(), &value);
-            check!(rt, want.as_str(), got, want.as_str());
+            check(want.as_str(), got, want.as_str())?;
         }
     }
     Ok(())

@@ -3,7 +3,7 @@ use crate::lookups::lookup_text;
 use crate::samples::{Made, NONE, make_map, map_text};
 use sourcemap::errors::{Error, Result};
 use sourcemap::types::{RawToken, SourceMap, Token};
-use sourcemap_test_support::check;
+use sourcemap_test_support::checks::{Checked, check, check_that};
 use sourcemap_test_support::results::{box_result, text_or_none};
 use sourcemap_test_support::tokens::Row;
 use std::alloc::Global;
@@ -136,12 +136,13 @@ fn adjust_rows(alloc: Global, originals: &[Row], adjustments: &[Row]) -> Made {
 }
 
 #[test]
-fn adjusted_maps_are_looked_up(rt: HostRuntime) {
+fn adjusted_maps_are_looked_up(rt: HostRuntime) -> Checked {
     let alloc = rt.alloc();
     for (originals, adjustments, (line, col), want) in ADJUSTED.iter() {
         let map = adjust_rows(alloc, originals, adjustments);
-        check!(rt, want, lookup_text(alloc, map, *line, *col), want);
+        check(want, lookup_text(alloc, map, *line, *col), want)?;
     }
+    Ok(())
 }
 
 // Label. The tokens of the original map, then those of the adjustment. All tokens of the adjusted
@@ -347,12 +348,13 @@ fn tokens_of(alloc: Global, map: Made) -> Result<String> {
 }
 
 #[test]
-fn adjusted_maps_have_these_tokens_and_no_others(rt: HostRuntime) {
+fn adjusted_maps_have_these_tokens_and_no_others(rt: HostRuntime) -> Checked {
     let alloc = rt.alloc();
     for (about, originals, adjustments, want) in LISTS.iter() {
         let map = adjust_rows(alloc, originals, adjustments);
-        check!(rt, about, tokens_of(alloc, map), want);
+        check(about, tokens_of(alloc, map), want)?;
     }
+    Ok(())
 }
 
 // Label. The tokens of the original map, then the tokens of the adjustment. A new position, then an
@@ -431,17 +433,18 @@ fn meaning(alloc: Global, map: Made, (line, col): (u32, u32)) -> Result<String> 
 }
 
 #[test]
-fn moved_positions_keep_their_meaning(rt: HostRuntime) {
+fn moved_positions_keep_their_meaning(rt: HostRuntime) -> Checked {
     let alloc = rt.alloc();
     for (about, tokens, positions, want) in ALIKE.iter() {
         // prover: array parts outside of a pattern
         let [originals, adjustments] = *tokens;
         let [position, old_position] = *positions;
         let old_meaning = meaning(alloc, original(alloc, originals), old_position);
-        check!(rt, about, old_meaning, want);
+        check(about, old_meaning, want)?;
         let map = adjust_rows(alloc, originals, adjustments);
-        check!(rt, about, meaning(alloc, map, position), want);
+        check(about, meaning(alloc, map, position), want)?;
     }
+    Ok(())
 }
 
 // The tokens of the original map, the tokens of the adjustment, and the adjusted map as text. In
@@ -471,12 +474,13 @@ static WRITTEN: [(&[Row], &[Row], &str); 3] = [
 ];
 
 #[test]
-fn adjusted_maps_are_written(rt: HostRuntime) {
+fn adjusted_maps_are_written(rt: HostRuntime) -> Checked {
     let alloc = rt.alloc();
     for (originals, adjustments, want) in WRITTEN.iter() {
         let map = adjust_rows(alloc, originals, adjustments);
-        check!(rt, want, map_text(alloc, map), want);
+        check(want, map_text(alloc, map), want)?;
     }
+    Ok(())
 }
 
 // Whether an adjustment is refused and leaves the map unchanged.
@@ -495,13 +499,12 @@ fn is_refused_at(alloc: Global, map: &mut SourceMap) -> Result<bool> {
     is_refused_by_last(alloc, map, &*before)
 }
 
-fn refusal_text(alloc: Global) -> Result<String> {
+fn is_refused_whole(alloc: Global) -> Result<bool> {
     let mut map = original(alloc, &NEIGHBOURS)?;
-    let is_as_before = is_refused_at(alloc, &mut *map)?;
-    Ok(format!(in alloc; "{is_as_before}")?)
+    is_refused_at(alloc, &mut *map)
 }
 
 #[test]
-fn an_error_leaves_the_map_unchanged(rt: HostRuntime) {
-    check!(rt, "past the last column", refusal_text(rt.alloc()), "true");
+fn an_error_leaves_the_map_unchanged(rt: HostRuntime) -> Checked {
+    check_that("past the last column", is_refused_whole(rt.alloc())?)
 }

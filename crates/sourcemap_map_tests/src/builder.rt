@@ -4,7 +4,7 @@ use sourcemap::encoder::Encodable;
 use sourcemap::errors::{Error, Result};
 use sourcemap::jsontypes::DebugId;
 use sourcemap::types::{RawToken, SourceMap};
-use sourcemap_test_support::check;
+use sourcemap_test_support::checks::{Checked, check};
 use std::alloc::Global;
 
 // A call of a builder method. If the name of a variant does not suggest the method, a comment names
@@ -262,7 +262,10 @@ static ROWS: [Row; 7] = [
         ],
         answers: "0 - 0 1 1:2=2:3:4#0 0:2=4294967295:3:4#4294967295+ - ",
         getters: r#"(Some("f"), Some("r")) (Some("x.js"), Some("y.js")) (false, None)"#,
-        written: r#"{"file":"f","mappings":"E;EEGIA","names":["n"],"rangeMappings":"B;","sourceRoot":"r","sources":["x.js","x.js","y.js"],"version":3}"#,
+        written: concat!(
+            r#"{"file":"f","mappings":"E;EEGIA","names":["n"],"rangeMappings":"B;","#,
+            r#""sourceRoot":"r","sources":["x.js","x.js","y.js"],"version":3}"#,
+        ),
     },
     Row {
         about: "a text that is cut keeps its id",
@@ -292,7 +295,11 @@ static ROWS: [Row; 7] = [
         ],
         answers: "- - - 0 0 1 1 0 0 - ",
         getters: r#"(Some("out.js"), Some("r")) (Some("a"), None) (false, None)"#,
-        written: r#"{"debugId":"00000000-0000-0000-0000-000000000000","file":"out.js","ignoreList":[1],"mappings":"","names":["a","b"],"sourceRoot":"r","sources":["a","b"],"version":3}"#,
+        written: concat!(
+            r#"{"debugId":"00000000-0000-0000-0000-000000000000","file":"out.js","#,
+            r#""ignoreList":[1],"mappings":"","names":["a","b"],"sourceRoot":"r","#,
+            r#""sources":["a","b"],"version":3}"#,
+        ),
     },
     Row {
         about: "every call",
@@ -313,7 +320,12 @@ static ROWS: [Row; 7] = [
         ],
         answers: "- - - 0 0 - 0:0=0:0:12#1+ 0:0=0:0:7#4294967295+ 1:2=1:3:4#4294967295 1:5=1:3:4#4294967295 - - - ",
         getters: r#"(Some("out.js"), Some("r")) (Some("c.js"), None) (true, Some("text"))"#,
-        written: r#"{"debugId":"01234567-89ab-cdef-0123-456789abcdef","file":"out.js","ignoreList":[1],"mappings":"AAAYC,AAAL;ECGH,GAAA","names":["n","x"],"rangeMappings":"D;","sourceRoot":"r","sources":["c.js","b.js"],"sourcesContent":["text",null],"version":3}"#,
+        written: concat!(
+            r#"{"debugId":"01234567-89ab-cdef-0123-456789abcdef","file":"out.js","#,
+            r#""ignoreList":[1],"mappings":"AAAYC,AAAL;ECGH,GAAA","names":["n","x"],"#,
+            r#""rangeMappings":"D;","sourceRoot":"r","sources":["c.js","b.js"],"#,
+            r#""sourcesContent":["text",null],"version":3}"#,
+        ),
     },
     Row {
         about: "a token is added as it answers where it was found, and by texts",
@@ -324,7 +336,10 @@ static ROWS: [Row; 7] = [
         ],
         answers: "0 0:5=1:1:4#4294967295+ 0:5=1:1:4#0+ ",
         getters: r#"(Some("f"), None) (Some("b.js"), None) (false, None)"#,
-        written: r#"{"file":"f","mappings":"KCCI,AAAAA","names":["n"],"rangeMappings":"D","sources":["b.js","a.js"],"version":3}"#,
+        written: concat!(
+            r#"{"file":"f","mappings":"KCCI,AAAAA","names":["n"],"rangeMappings":"D","#,
+            r#""sources":["b.js","a.js"],"version":3}"#,
+        ),
     },
     Row {
         about: "contents are taken back",
@@ -359,15 +374,16 @@ fn describe(alloc: Global, builder: Result<SourceMapBuilder>) -> Result<String> 
 }
 
 #[test]
-fn builders_return_and_are_written(rt: HostRuntime) {
+fn builders_return_and_are_written(rt: HostRuntime) -> Checked {
     let alloc = rt.alloc();
     for row in ROWS.iter() {
-        check!(rt, row.about, answers(alloc, row.steps), row.answers);
+        check(row.about, answers(alloc, row.steps), row.answers)?;
         let got = describe(alloc, builder_after(alloc, row.steps));
-        check!(rt, row.about, got, row.getters);
+        check(row.about, got, row.getters)?;
         let got = write_built(alloc, builder_after(alloc, row.steps));
-        check!(rt, row.about, got, row.written);
+        check(row.about, got, row.written)?;
     }
+    Ok(())
 }
 
 fn builder_text(alloc: Global, builder: Result<SourceMapBuilder>) -> Result<String> {
@@ -377,10 +393,10 @@ fn builder_text(alloc: Global, builder: Result<SourceMapBuilder>) -> Result<Stri
 }
 
 #[test]
-fn sources_are_resolved_against_the_root(rt: HostRuntime) {
+fn sources_are_resolved_against_the_root(rt: HostRuntime) -> Checked {
     let want = r#"(Some("r/x.js"), Some("r/x.js"), Some("r/y.js")) 2"#;
     let got = builder_text(rt.alloc(), builder_after(rt.alloc(), ROWS[0].steps));
-    check!(rt, want, got, want);
+    check(want, got, want)
 }
 
 // Label, prefixes, a source, and the source after `strip_prefixes` was called with the prefixes.
@@ -423,8 +439,9 @@ fn strip_source(alloc: Global, prefixes: &[&str], source: &str) -> Result<String
 }
 
 #[test]
-fn prefixes_are_cut(rt: HostRuntime) {
+fn prefixes_are_cut(rt: HostRuntime) -> Checked {
     for (about, prefixes, source, want) in PREFIXES.iter() {
-        check!(rt, about, strip_source(rt.alloc(), prefixes, source), want);
+        check(about, strip_source(rt.alloc(), prefixes, source), want)?;
     }
+    Ok(())
 }

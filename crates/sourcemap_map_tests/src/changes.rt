@@ -2,7 +2,7 @@
 use crate::samples::{Made, map_text, mixed_map};
 use sourcemap::errors::{Error, Result};
 use sourcemap::types::SourceMap;
-use sourcemap_test_support::check;
+use sourcemap_test_support::checks::{Checked, check};
 use sourcemap_test_support::results::box_result;
 use std::alloc::Global;
 
@@ -117,13 +117,16 @@ fn make_all(map: &mut SourceMap, changes: &[Change<'_>]) -> Result<()> {
 }
 
 #[test]
-fn changes_are_atomic(rt: HostRuntime) {
+fn changes_are_atomic(rt: HostRuntime) -> Checked {
     let alloc = rt.alloc();
-    check!(rt, "marks", change_marks(alloc, mixed_map(alloc)), MARKS);
-    let want =
-        r#"{"file":"out.js","ignoreList":[1,3],"mappings":"EAAA,AIAA,GJCE;I","names":[],"rangeMappings":"E;","sourceRoot":"root/","sources":["a.js","b.js","http:a","https:a","a.js"],"sourcesContent":[null,null,"text",null,null],"version":3}"#;
+    check("marks", change_marks(alloc, mixed_map(alloc)), MARKS)?;
+    let want = concat!(
+        r#"{"file":"out.js","ignoreList":[1,3],"mappings":"EAAA,AIAA,GJCE;I","names":[],"#,
+        r#""rangeMappings":"E;","sourceRoot":"root/","sources":["a.js","b.js","http:a","#,
+        r#""https:a","a.js"],"sourcesContent":[null,null,"text",null,null],"version":3}"#,
+    );
     let got = map_text(alloc, apply_changes(mixed_map(alloc), &CHANGES));
-    check!(rt, "written", got, want);
+    check("written", got, want)
 }
 
 fn push_sources(out: &mut String, map: &SourceMap) -> Result<()> {
@@ -189,17 +192,18 @@ static ROOTS: [(&str, &str); 3] = [
 ];
 
 #[test]
-fn sources_are_resolved_against_the_root(rt: HostRuntime) {
+fn sources_are_resolved_against_the_root(rt: HostRuntime) -> Checked {
     let alloc = rt.alloc();
     for (root, want) in ROOTS.iter() {
         let map = apply_changes(mixed_map(alloc), &[Change::Root(root)]);
-        check!(rt, want, lists_of(alloc, map), want);
+        check(want, lists_of(alloc, map), want)?;
     }
+    Ok(())
 }
 
 #[test]
-fn lists_have_the_changes(rt: HostRuntime) {
+fn lists_have_the_changes(rt: HostRuntime) -> Checked {
     let want = "root/a.js root/b.js http:a https:a root/a.js | - - text - - | 1 3 | ";
     let map = apply_changes(mixed_map(rt.alloc()), &CHANGES);
-    check!(rt, want, lists_of(rt.alloc(), map), want);
+    check(want, lists_of(rt.alloc(), map), want)
 }

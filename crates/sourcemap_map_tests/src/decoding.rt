@@ -2,13 +2,17 @@
 // of decoded maps, and the writing of data URLs.
 use sourcemap::errors::Result;
 use sourcemap::{DecodedMap, SourceMap, decode, decode_data_url, decode_slice};
-use sourcemap_test_support::check;
+use sourcemap_test_support::checks::{Checked, check, check_that};
+use sourcemap_test_support::readers::HaltingReader;
 use sourcemap_test_support::results::{again, error_of, text_or_none};
 use std::alloc::Global;
+use std::io::ErrorKind;
 
 // The example map in the documentation of the Rust crate `sourcemap`.
-const README: &str =
-    r#"{"version":3,"sources":["coolstuff.js"],"names":["x","alert"],"mappings":"AAAA,GAAIA,GAAI,EACR,IAAIA,GAAK,EAAG,CACVC,MAAM"}"#;
+const README: &str = concat!(
+    r#"{"version":3,"sources":["coolstuff.js"],"names":["x","alert"],"mappings":"AAAA,"#,
+    r#"GAAIA,GAAI,EACR,IAAIA,GAAK,EAAG,CACVC,MAAM"}"#,
+);
 
 // Label and a text to decode as a regular map. Then the number of tokens of the decoded map, or the
 // text of the decoding error.
@@ -46,6 +50,11 @@ static REGULAR: [(&str, &str, &str); 7] = [
     ),
 ];
 
+// A reader that returns these bytes one by one and is interrupted before each.
+fn one_by_one(bytes: &[u8]) -> HaltingReader<'_> {
+    HaltingReader::new(bytes, usize::MAX, ErrorKind::TimedOut)
+}
+
 fn count(alloc: Global, answer: Result<SourceMap>) -> Result<String> {
     match answer {
         Ok(map) => Ok(format!(in alloc; "{}", map.get_token_count())?),
@@ -64,16 +73,17 @@ fn are_read_alike(alloc: Global, text: &str) -> Result<bool> {
 }
 
 #[test]
-fn regular_maps_are_read_alone(rt: HostRuntime) -> Result<()> {
+fn regular_maps_are_read_alone(rt: HostRuntime) -> Checked {
     for (about, text, want) in REGULAR.iter() {
         let bytes = text.as_bytes();
         let got = count(rt.alloc(), SourceMap::from_slice(rt.alloc(), bytes));
-        check!(rt, about, got, want);
+        check(about, got, want)?;
         let got = count(rt.alloc(), SourceMap::from_reader(rt.alloc(), bytes));
-        check!(rt, about, got, want);
+        check(about, got, want)?;
+        let read = SourceMap::from_reader(rt.alloc(), one_by_one(bytes));
+        check(about, count(rt.alloc(), read), want)?;
     }
-    assert!(rt; are_read_alike(rt.alloc(), README)?);
-    Ok(())
+    check_that("slice and reader", are_read_alike(rt.alloc(), README)?)
 }
 
 // Label and a text to decode. Then the text of the token closest to position 0:0 in the decoded
@@ -102,14 +112,17 @@ fn lookup_text(alloc: Global, answer: Result<DecodedMap>) -> Result<String> {
 }
 
 #[test]
-fn maps_of_any_kind_are_read(rt: HostRuntime) {
+fn maps_of_any_kind_are_read(rt: HostRuntime) -> Checked {
     for (about, text, want) in ANY_KIND.iter() {
         let bytes = text.as_bytes();
         let sliced = again(|| lookup_text(rt.alloc(), decode_slice(rt.alloc(), bytes)));
-        check!(rt, about, sliced, want);
+        check(about, sliced, want)?;
         let read = again(|| lookup_text(rt.alloc(), decode(rt.alloc(), bytes)));
-        check!(rt, about, read, want);
+        check(about, read, want)?;
+        let read = decode(rt.alloc(), one_by_one(bytes));
+        check(about, lookup_text(rt.alloc(), read), want)?;
     }
+    Ok(())
 }
 
 // Decodes the first `end` bytes of a text. Returns the text of the token closest to position 0:0,
@@ -123,11 +136,12 @@ fn read_beginning(alloc: Global, text: &str, end: usize) -> Result<String> {
 }
 
 #[test]
-fn proper_beginnings_of_a_text_are_no_json(rt: HostRuntime) {
+fn proper_beginnings_of_a_text_are_no_json(rt: HostRuntime) -> Checked {
     let want = "bad json: the text is not JSON";
     for end in 0..README.len() {
-        check!(rt, want, read_beginning(rt.alloc(), README, end), want);
+        check(want, read_beginning(rt.alloc(), README, end), want)?;
     }
+    Ok(())
 }
 
 // Whether a map equals its copy. Then, after `set_debug_id(None)`, whether the map differs from the
@@ -145,10 +159,9 @@ fn copies(alloc: Global, text: &str) -> Result<(bool, bool)> {
 }
 
 #[test]
-fn maps_of_any_kind_are_copied(rt: HostRuntime) -> Result<()> {
+fn maps_of_any_kind_are_copied(rt: HostRuntime) -> Checked {
     let text = r#"{"debugId":"01234567-89ab-cdef-0123-456789abcdef","mappings":"A"}"#;
-    assert!(rt; copies(rt.alloc(), text)? == (true, true));
-    Ok(())
+    check_that(text, copies(rt.alloc(), text)? == (true, true))
 }
 
 // Label and a text to decode. Then the debug id of the decoded map, or `none`.
@@ -161,7 +174,10 @@ static DEBUG_IDS: [(&str, &str, &str); 3] = [
     ),
     (
         "both keys",
-        r#"{"debug_id":"11111111-1111-1111-1111-111111111111","debugId":"00000000-0000-0000-0000-000000000000","mappings":""}"#,
+        concat!(
+            r#"{"debug_id":"11111111-1111-1111-1111-111111111111","#,
+            r#""debugId":"00000000-0000-0000-0000-000000000000","mappings":""}"#,
+        ),
         "00000000-0000-0000-0000-000000000000",
     ),
 ];
@@ -172,17 +188,18 @@ fn debug_id(alloc: Global, text: &str) -> Result<String> {
 }
 
 #[test]
-fn of_two_debug_ids_the_newer_key_wins(rt: HostRuntime) {
+fn of_two_debug_ids_the_newer_key_wins(rt: HostRuntime) -> Checked {
     for (about, text, want) in DEBUG_IDS.iter() {
-        check!(rt, about, debug_id(rt.alloc(), text), want);
+        check(about, debug_id(rt.alloc(), text), want)?;
     }
+    Ok(())
 }
 
 const WRITTEN: &str = r#"{"mappings":"A","names":[],"sources":[],"version":3}"#;
 
 // Label and a data URL to decode. Then the JSON text that encodes the decoded map, or the text of
 // the decoding error.
-static URLS: [(&str, &str, &str); 3] = [
+static URLS: [(&str, &str, &str); 4] = [
     (
         "no charset",
         "data:application/json;base64,eyJtYXBwaW5ncyI6IkEifQ==",
@@ -190,12 +207,20 @@ static URLS: [(&str, &str, &str); 3] = [
     ),
     (
         "a charset, as it is written",
-        "data:application/json;charset=utf-8;base64,eyJtYXBwaW5ncyI6IkEiLCJuYW1lcyI6W10sInNvdXJjZXMiOltdLCJ2ZXJzaW9uIjozfQ==",
+        concat!(
+            "data:application/json;charset=utf-8;base64,",
+            "eyJtYXBwaW5ncyI6IkEiLCJuYW1lcyI6W10sInNvdXJjZXMiOltdLCJ2ZXJzaW9uIjozfQ==",
+        ),
         WRITTEN,
     ),
     (
         "another charset",
         "data:application/json;charset=latin1;base64,e30=",
+        "the provided data URL is invalid",
+    ),
+    (
+        "another charset, before a map",
+        "data:application/json;charset=latin1;base64,eyJtYXBwaW5ncyI6IkEifQ==",
         "the provided data URL is invalid",
     ),
 ];
@@ -213,11 +238,11 @@ fn url_of(alloc: Global, text: &str) -> Result<String> {
 }
 
 #[test]
-fn data_urls_are_read_and_written(rt: HostRuntime) {
+fn data_urls_are_read_and_written(rt: HostRuntime) -> Checked {
     for (about, url, want) in URLS.iter() {
         let read = again(|| write_decoded(rt.alloc(), decode_data_url(rt.alloc(), url)));
-        check!(rt, about, read, want);
+        check(about, read, want)?;
     }
     let (about, url, text) = URLS[1];
-    check!(rt, about, url_of(rt.alloc(), text), url);
+    check(about, url_of(rt.alloc(), text), url)
 }

@@ -5,11 +5,10 @@ use crate::samples::{Made, NONE, make_map, mixed_map, range_map, readme};
 use crate::writing::{BARE, WRITTEN, cut_writing, outcome_text, regular};
 use sourcemap::encoder::{encode_in_parts, encode_to_vec};
 use sourcemap::{Result, SourceMap};
-use sourcemap_test_support::check;
+use sourcemap_test_support::checks::{Checked, check, check_that};
 use sourcemap_test_support::writers::{HaltingWriter, NarrowWriter};
 use std::alloc::Global;
 use std::io::Write;
-use std::process::Abort;
 use std::{io, str};
 
 // The line of the far token.
@@ -71,11 +70,11 @@ fn far_text(alloc: Global) -> Result<String> {
 }
 
 #[test]
-fn far_lines_take_little_memory(rt: HostRuntime) {
+fn far_lines_take_little_memory(rt: HostRuntime) -> Checked {
     // worked out by hand: `mappings` and `rangeMappings` have 300,000,000 line ends each
     let want =
         r#"{"file":"f","mappings":"A","names":[],"rangeMappings":"B","sources":[],"version":3} 600000000 true"#;
-    check!(rt, "a far line", far_text(rt.alloc()), want);
+    check("a far line", far_text(rt.alloc()), want)
 }
 
 // Writes the map with `encode_in_parts`, and returns the `outcome_text`. The writer takes one byte
@@ -94,38 +93,38 @@ fn decoded_text(alloc: Global, text: &str, left: Option<usize>) -> Result<String
 }
 
 #[test]
-fn parts_are_the_text(rt: HostRuntime) {
+fn parts_are_the_text(rt: HostRuntime) -> Checked {
     let alloc = rt.alloc();
     for (about, text, want) in WRITTEN.iter() {
-        check!(rt, about, decoded_text(alloc, text, None), want);
-        check!(rt, about, decoded_text(alloc, want, None), want);
+        check(about, decoded_text(alloc, text, None), want)?;
+        check(about, decoded_text(alloc, want, None), want)?;
     }
+    Ok(())
 }
 
 // Checks that `encode_in_parts` writes the bytes that `encode_to_vec` returns.
-fn check_same(rt: &impl Abort, alloc: Global, about: &str, map: Made) {
-    let outcome = match map {
-        Ok(map) => same_text(alloc, &*map),
-        Err(error) => Err(error),
-    };
-    check!(rt, about, outcome, "true");
+fn check_same(alloc: Global, about: &str, map: Made) -> Checked {
+    check_that(about, is_same_of(alloc, map)?)
 }
 
-fn same_text(alloc: Global, map: &SourceMap) -> Result<String> {
+fn is_same_of(alloc: Global, map: Made) -> Result<bool> {
+    is_same(alloc, &*map?)
+}
+
+fn is_same(alloc: Global, map: &SourceMap) -> Result<bool> {
     let whole = encode_to_vec(alloc, map)?;
     let mut parts = Vec::new(alloc);
     encode_in_parts(alloc, map, &mut parts)?;
-    let is_same = whole.as_slice() == parts.as_slice();
-    Ok(format!(in alloc; "{is_same}")?)
+    Ok(whole.as_slice() == parts.as_slice())
 }
 
 #[test]
-fn parts_are_the_text_of_made_maps(rt: HostRuntime) {
+fn parts_are_the_text_of_made_maps(rt: HostRuntime) -> Checked {
     let alloc = rt.alloc();
-    check_same(&rt, alloc, "the map of the documentation", readme(alloc));
-    check_same(&rt, alloc, "a range token after a repeat", range_map(alloc));
-    check_same(&rt, alloc, "sources, a name and a range", mixed_map(alloc));
-    check_same(&rt, alloc, "many tokens", many(alloc));
+    check_same(alloc, "the map of the documentation", readme(alloc))?;
+    check_same(alloc, "a range token after a repeat", range_map(alloc))?;
+    check_same(alloc, "sources, a name and a range", mixed_map(alloc))?;
+    check_same(alloc, "many tokens", many(alloc))
 }
 
 // In JSON, the `mappings` of this map take some 24 KB, and the contents some 18 KB. Both are longer
@@ -149,14 +148,15 @@ fn many_text(alloc: Global) -> Result<String> {
 }
 
 #[test]
-fn parts_end_where_a_write_fails(rt: HostRuntime) {
+fn parts_end_where_a_write_fails(rt: HostRuntime) -> Checked {
     let alloc = rt.alloc();
     let (about, text, want) = BARE;
     for taken in 0..want.len() {
-        let due = cut_writing(alloc, want, taken).expect(&rt, "memory");
+        let due = cut_writing(alloc, want, taken)?;
         let out = decoded_text(alloc, text, Some(taken));
-        check!(rt, about, out, due.as_str());
+        check(about, out, due.as_str())?;
     }
+    Ok(())
 }
 
 fn halted_text(alloc: Global, text: &str, left: Option<usize>) -> Result<String> {
@@ -171,9 +171,9 @@ fn halted_text(alloc: Global, text: &str, left: Option<usize>) -> Result<String>
 }
 
 #[test]
-fn parts_are_written_past_interruptions(rt: HostRuntime) {
+fn parts_are_written_past_interruptions(rt: HostRuntime) -> Checked {
     let (about, text, want) = BARE;
-    check!(rt, about, halted_text(rt.alloc(), text, None), want);
+    check(about, halted_text(rt.alloc(), text, None), want)?;
     let due = "{\"m failed to write whole buffer";
-    check!(rt, about, halted_text(rt.alloc(), text, Some(3)), due);
+    check(about, halted_text(rt.alloc(), text, Some(3)), due)
 }

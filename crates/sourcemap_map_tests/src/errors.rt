@@ -2,7 +2,7 @@
 // texts must have these numbers.
 use sourcemap::Error;
 use sourcemap::errors::{Base64Fault, RangeFault, Result};
-use sourcemap_test_support::check;
+use sourcemap_test_support::checks::{Checked, check};
 use std::alloc::Global;
 use std::io::ErrorKind;
 use std::{io, str};
@@ -30,26 +30,27 @@ fn utf8_text(alloc: Global, bytes: &[u8]) -> Result<String> {
 }
 
 #[test]
-fn errors_of_the_library_print_its_texts(rt: HostRuntime) {
+fn errors_of_the_library_print_its_texts(rt: HostRuntime) -> Checked {
     for (kind, want) in KINDS.iter() {
         let error = Error::from(io::Error::from(*kind));
-        check!(rt, want, describe(rt.alloc(), error), want);
+        check(want, describe(rt.alloc(), error), want)?;
     }
     for (bytes, want) in NOT_UTF8.iter() {
-        check!(rt, want, utf8_text(rt.alloc(), bytes), want);
+        check(want, utf8_text(rt.alloc(), bytes), want)?;
     }
+    Ok(())
 }
 
 #[test]
-fn errors_of_positions_print_their_numbers(rt: HostRuntime) {
+fn errors_of_positions_print_their_numbers(rt: HostRuntime) -> Checked {
     let range = Error::from(RangeFault {
         start: 12,
         size: 3,
         len: 14,
     });
     let got = describe(rt.alloc(), range);
-    check!(rt, "range", got, "parse error: 12+3 past 14");
+    check("range", got, "parse error: 12+3 past 14")?;
     let digit = Error::from(Base64Fault { at: 7 });
     let want = "invalid range mapping index: bad base64 at 7";
-    check!(rt, "digit", describe(rt.alloc(), digit), want);
+    check("digit", describe(rt.alloc(), digit), want)
 }

@@ -1,7 +1,7 @@
 //! Which texts are identifiers, and which identifier the first word of a text starts with.
 use sourcemap::Result;
 use sourcemap::js_identifiers::{get_javascript_token, is_valid_javascript_identifier};
-use sourcemap_test_support::check;
+use sourcemap_test_support::checks::{Checked, check};
 use sourcemap_test_support::results::optional_text;
 use std::alloc::Global;
 
@@ -54,8 +54,9 @@ fn describe(alloc: Global, text: &str) -> Result<String> {
 }
 
 #[test]
-fn identifiers_are_recognized(rt: HostRuntime) {
+fn identifiers_are_recognized(rt: HostRuntime) -> Checked {
     for (text, want) in TEXTS.iter() {
-        check!(rt, text, describe(rt.alloc(), text), want);
+        check(text, describe(rt.alloc(), text), want)?;
     }
+    Ok(())
 }

@@ -1,9 +1,8 @@
 //! Tables of lines, and positions by UTF-16 columns.
 use sourcemap::Result;
 use sourcemap_core::lines::{LineTable, utf16_offset};
-use sourcemap_test_support::check;
+use sourcemap_test_support::checks::{Checked, check};
 use std::alloc::Global;
-use std::process::Abort;
 
 // A text. Then the number of its lines, and the range of each line.
 static TEXTS: [(&str, &str); 9] = [
@@ -37,10 +36,11 @@ fn push_range(answer: &mut String, range: Option<(usize, usize)>) -> Result<()> 
 }
 
 #[test]
-fn tables_hold_where_lines_begin_and_end(rt: HostRuntime) {
+fn tables_hold_where_lines_begin_and_end(rt: HostRuntime) -> Checked {
     for (text, want) in TEXTS.iter() {
-        check!(rt, text, describe(rt.alloc(), text), want);
+        check(text, describe(rt.alloc(), text), want)?;
     }
+    Ok(())
 }
 
 // Line ends, the position where they start, and the length of the text. The line ends are near
@@ -120,17 +120,16 @@ fn all_ranges(alloc: Global, text: &str) -> Result<String> {
     Ok(answer)
 }
 
-fn check_ends(rt: &impl Abort, alloc: Global, text: &str) -> Result<()> {
+fn check_ends(alloc: Global, text: &str) -> Checked {
     let want = lines_by_character(alloc, text)?;
-    check!(rt, text, all_ranges(alloc, text), want.as_str());
-    Ok(())
+    check(text, all_ranges(alloc, text), want.as_str())
 }
 
 #[test]
-fn line_ends_at_the_edges_of_blocks_are_found(rt: HostRuntime) -> Result<()> {
+fn line_ends_at_the_edges_of_blocks_are_found(rt: HostRuntime) -> Checked {
     for (ends, position, length) in ENDS.iter() {
         let text = with_ends(rt.alloc(), ends, *position, *length)?;
-        check_ends(&rt, rt.alloc(), text.as_str())?;
+        check_ends(rt.alloc(), text.as_str())?;
     }
     Ok(())
 }
@@ -159,8 +158,9 @@ fn offset_text(alloc: Global, line: &str, col: u64) -> Result<String> {
 }
 
 #[test]
-fn utf16_columns_lead_to_byte_offsets(rt: HostRuntime) {
+fn utf16_columns_lead_to_byte_offsets(rt: HostRuntime) -> Checked {
     for (line, col, want) in COLUMNS.iter() {
-        check!(rt, line, offset_text(rt.alloc(), line, *col), want);
+        check(line, offset_text(rt.alloc(), line, *col), want)?;
     }
+    Ok(())
 }

@@ -3,7 +3,7 @@
 use crate::samples::{Made, bare, map_text, range_map, readme, record_of};
 use sourcemap::decoder::decode_regular;
 use sourcemap::errors::Result;
-use sourcemap_test_support::check;
+use sourcemap_test_support::checks::{Checked, check};
 use sourcemap_test_support::results::{box_result, text_or_none};
 use std::alloc::Global;
 
@@ -40,39 +40,43 @@ fn read_back(alloc: Global, map: Made) -> Made {
 }
 
 #[test]
-fn tokens_out_of_order_are_looked_up(rt: HostRuntime) {
+fn tokens_out_of_order_are_looked_up(rt: HostRuntime) -> Checked {
     let alloc = rt.alloc();
     for (line, col, want) in README.iter() {
         let got = lookup_text(alloc, readme(alloc), *line, *col);
-        check!(rt, want, got, want);
+        check(want, got, want)?;
         let back = read_back(alloc, readme(alloc));
-        check!(rt, want, lookup_text(alloc, back, *line, *col), want);
+        check(want, lookup_text(alloc, back, *line, *col), want)?;
     }
+    Ok(())
 }
 
 #[test]
-fn ranges_reach_along_their_line(rt: HostRuntime) {
+fn ranges_reach_along_their_line(rt: HostRuntime) -> Checked {
     let alloc = rt.alloc();
     for (line, col, want) in RANGED.iter() {
         let got = lookup_text(alloc, range_map(alloc), *line, *col);
-        check!(rt, want, got, want);
+        check(want, got, want)?;
         let back = read_back(alloc, range_map(alloc));
-        check!(rt, want, lookup_text(alloc, back, *line, *col), want);
+        check(want, lookup_text(alloc, back, *line, *col), want)?;
     }
+    Ok(())
 }
 
 #[test]
-fn tokens_are_written_in_order(rt: HostRuntime) {
+fn tokens_are_written_in_order(rt: HostRuntime) -> Checked {
     let alloc = rt.alloc();
-    let want =
-        r#"{"file":"f","mappings":"AAAA,GAAIA,GAAI,EACR,IAAIA,GAAK,EAAG,CACVC,MAAM","names":["x","alert"],"sources":["coolstuff.js"],"version":3}"#;
-    check!(rt, "readme", map_text(alloc, readme(alloc)), want);
+    let want = concat!(
+        r#"{"file":"f","mappings":"AAAA,GAAIA,GAAI,EACR,IAAIA,GAAK,EAAG,CACVC,MAAM","#,
+        r#""names":["x","alert"],"sources":["coolstuff.js"],"version":3}"#,
+    );
+    check("readme", map_text(alloc, readme(alloc)), want)?;
     let want =
         r#"{"file":"f","mappings":"AAAA,KAAK","names":[],"rangeMappings":"C","sources":["coolstuff.js"],"version":3}"#;
-    check!(rt, "ranged", map_text(alloc, range_map(alloc)), want);
+    check("ranged", map_text(alloc, range_map(alloc)), want)?;
     let want =
         r#"{"file":"f","mappings":"A;A","names":[],"rangeMappings":";B","sources":[],"version":3}"#;
-    check!(rt, "bare", map_text(alloc, bare(alloc)), want);
+    check("bare", map_text(alloc, bare(alloc)), want)?;
     let got = map_text(alloc, read_back(alloc, bare(alloc)));
-    check!(rt, "bare", got, want);
+    check("bare", got, want)
 }

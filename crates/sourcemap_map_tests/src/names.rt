@@ -1,7 +1,7 @@
 // Tests of the original names of functions, of the views of contents, and of `rev_token_iter`.
 use crate::writing::decode_boxed;
 use sourcemap::{DecodedMap, Result, SourceMap, SourceView, Token};
-use sourcemap_test_support::check;
+use sourcemap_test_support::checks::{Checked, check};
 use std::alloc::Global;
 
 // The generated text of `MAP`. The function `foo` of the source is called `b` here.
@@ -10,12 +10,16 @@ const TEXT: &str = "function b(){}";
 const MAP: &str = r#"{"version":3,"sources":["a.js"],"names":["foo"],"mappings":"AAAA,SAASA"}"#;
 
 // An index map. Its section has the same tokens as `MAP`, and starts at line 2, column 3.
-const INDEX: &str =
-    r#"{"sections":[{"offset":{"line":2,"column":3},"map":{"sources":["a.js"],"names":["foo"],"mappings":"AAAA,SAASA"}}]}"#;
+const INDEX: &str = concat!(
+    r#"{"sections":[{"offset":{"line":2,"column":3},"map":{"sources":["a.js"],"#,
+    r#""names":["foo"],"mappings":"AAAA,SAASA"}}]}"#,
+);
 
 // A Hermes map. The first line of its generated text is bytecode.
-const HERMES: &str =
-    r#"{"sources":["a.js"],"names":[],"mappings":"AAAA,EAAC;AAAA","x_facebook_sources":[[{"names":["<global>","f"],"mappings":"AAA,CCA"}]]}"#;
+const HERMES: &str = concat!(
+    r#"{"sources":["a.js"],"names":[],"mappings":"AAAA,EAAC;AAAA","#,
+    r#""x_facebook_sources":[[{"names":["<global>","f"],"mappings":"AAA,CCA"}]]}"#,
+);
 
 // A map, a generated position, a minified name, and the original name found, or `none`.
 static NAMES: [(&str, (u32, u32), &str, &str); 17] = [
@@ -69,11 +73,12 @@ fn describe(
 }
 
 #[test]
-fn names_of_functions_are_guessed_by_maps(rt: HostRuntime) {
+fn names_of_functions_are_guessed_by_maps(rt: HostRuntime) -> Checked {
     for (map, position, minified, want) in NAMES.iter() {
         let got = name_in(rt.alloc(), map, *position, minified);
-        check!(rt, minified, got, want);
+        check(minified, got, want)?;
     }
+    Ok(())
 }
 
 // A map, a generated position, whether a minified name is passed, whether a view is passed. Then
@@ -108,11 +113,12 @@ fn name_with(
 }
 
 #[test]
-fn maps_but_hermes_maps_need_a_name_and_a_view(rt: HostRuntime) {
+fn maps_but_hermes_maps_need_a_name_and_a_view(rt: HostRuntime) -> Checked {
     for (map, position, with_name, with_view, want) in LESS.iter() {
         let got = name_with(rt.alloc(), map, *position, *with_name, *with_view);
-        check!(rt, map, got, want);
+        check(map, got, want)?;
     }
+    Ok(())
 }
 
 // Calls `get_original_function_name` of `SourceMap`, `SourceMapIndex` or `SourceMapHermes`, not of
@@ -129,10 +135,10 @@ fn name_by_kind(alloc: Global, map: &str, (line, col): (u32, u32)) -> Result<Str
 }
 
 #[test]
-fn each_kind_of_map_names_functions(rt: HostRuntime) {
-    check!(rt, "map", name_by_kind(rt.alloc(), MAP, (0, 9)), "foo");
-    check!(rt, "index", name_by_kind(rt.alloc(), INDEX, (2, 12)), "foo");
-    check!(rt, "hermes", name_by_kind(rt.alloc(), HERMES, (0, 7)), "f");
+fn each_kind_of_map_names_functions(rt: HostRuntime) -> Checked {
+    check("map", name_by_kind(rt.alloc(), MAP, (0, 9)), "foo")?;
+    check("index", name_by_kind(rt.alloc(), INDEX, (2, 12)), "foo")?;
+    check("hermes", name_by_kind(rt.alloc(), HERMES, (0, 7)), "f")
 }
 
 // The column of the last token on line 1, and the name found for the function `b`, or `none`. The
@@ -159,14 +165,17 @@ fn name_from_afar(alloc: Global, last: u32) -> Result<String> {
 }
 
 #[test]
-fn walks_are_128_tokens_long(rt: HostRuntime) {
+fn walks_are_128_tokens_long(rt: HostRuntime) -> Checked {
     for (last, want) in FAR.iter() {
-        check!(rt, want, name_from_afar(rt.alloc(), *last), want);
+        check(want, name_from_afar(rt.alloc(), *last), want)?;
     }
+    Ok(())
 }
 
-const WITH_CONTENTS: &str =
-    r#"{"version":3,"sources":["a.js","b.js","c.js"],"sourcesContent":["x\ny",null,"abc👌def\r\nblah"],"names":[],"mappings":"AAAA,CCAA,CCAA,C"}"#;
+const WITH_CONTENTS: &str = concat!(
+    r#"{"version":3,"sources":["a.js","b.js","c.js"],"sourcesContent":["x\ny",null,"#,
+    r#""abc👌def\r\nblah"],"names":[],"mappings":"AAAA,CCAA,CCAA,C"}"#,
+);
 
 // A source id, a line number, and the text of this line of the contents.
 static LINES: [(u32, u32, &str); 9] = [
@@ -206,11 +215,12 @@ fn line_of_token(alloc: Global, id: u32, line: u32) -> Result<String> {
 }
 
 #[test]
-fn contents_are_views(rt: HostRuntime) {
+fn contents_are_views(rt: HostRuntime) -> Checked {
     for (id, line, want) in LINES.iter() {
-        check!(rt, want, line_of_source(rt.alloc(), *id, *line), want);
-        check!(rt, want, line_of_token(rt.alloc(), *id, *line), want);
+        check(want, line_of_source(rt.alloc(), *id, *line), want)?;
+        check(want, line_of_token(rt.alloc(), *id, *line), want)?;
     }
+    Ok(())
 }
 
 // A token at each of the columns 3, 4 and 5 of line 0.
@@ -254,8 +264,9 @@ static WALKS: [(usize, &str); 4] = [
 ];
 
 #[test]
-fn walks_along_the_tokens_of_a_map_find_identifiers(rt: HostRuntime) {
+fn walks_along_the_tokens_of_a_map_find_identifiers(rt: HostRuntime) -> Checked {
     for (last, want) in WALKS.iter() {
-        check!(rt, want, walk_tokens(rt.alloc(), "abc👌def", *last), want);
+        check(want, walk_tokens(rt.alloc(), "abc👌def", *last), want)?;
     }
+    Ok(())
 }

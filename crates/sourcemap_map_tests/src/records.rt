@@ -1,7 +1,7 @@
 // Equality of records and sections, field by field.
 use sourcemap::errors::Result;
 use sourcemap::jsontypes::{RawSection, RawSourceMap};
-use sourcemap_test_support::check;
+use sourcemap_test_support::checks::{Checked, check, check_that};
 use sourcemap_test_support::records::record;
 use std::alloc::Global;
 
@@ -43,10 +43,10 @@ fn compare_records(alloc: Global, one: &str, other: &str) -> Result<char> {
 }
 
 #[test]
-fn records_that_differ_in_a_field_are_not_equal(rt: HostRuntime) -> Result<()> {
+fn records_that_differ_in_a_field_are_not_equal(rt: HostRuntime) -> Checked {
     for text in ONE_FIELD.iter() {
-        assert!(rt; compare_records(rt.alloc(), "{}", text)? == '!', "{text}");
-        assert!(rt; compare_records(rt.alloc(), text, text)? == '=', "{text}");
+        check_that(text, compare_records(rt.alloc(), "{}", text)? == '!')?;
+        check_that(text, compare_records(rt.alloc(), text, text)? == '=')?;
     }
     Ok(())
 }
@@ -84,7 +84,7 @@ fn compare_sections(alloc: Global, text: &str) -> Result<String> {
 }
 
 #[test]
-fn sections_that_differ_in_a_field_are_not_equal(rt: HostRuntime) {
+fn sections_that_differ_in_a_field_are_not_equal(rt: HostRuntime) -> Checked {
     let got = compare_sections(rt.alloc(), SECTIONS);
-    check!(rt, "sections", got, "==!!!!!");
+    check("sections", got, "==!!!!!")
 }

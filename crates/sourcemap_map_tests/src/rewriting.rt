@@ -2,7 +2,7 @@
 use crate::samples::record_text;
 use sourcemap::errors::Result;
 use sourcemap::types::{RewriteOptions, SourceMap};
-use sourcemap_test_support::check;
+use sourcemap_test_support::checks::{Checked, check};
 use sourcemap_test_support::results::error_text;
 use std::alloc::Global;
 use std::rt::Files;
@@ -36,12 +36,21 @@ static DEFAULT: [(&str, &str, &str); 4] = [
     ),
     (
         "a root, against which sources are then resolved",
-        r#"{"mappings":"AAAA,GAAIA,GAAI,EACR,IAAIA,GAAK,EAAG,CACVC,MAAM","names":["x","alert"],"sourceRoot":"r","sources":["coolstuff.js"]}"#,
-        r#"{"mappings":"AAAA,GAAIA,GAAI,EACR,IAAIA,GAAK,EAAG,CACVC,MAAM","names":["x","alert"],"sources":["r/coolstuff.js"],"version":3}"#,
+        concat!(
+            r#"{"mappings":"AAAA,GAAIA,GAAI,EACR,IAAIA,GAAK,EAAG,CACVC,MAAM","names":["x","#,
+            r#""alert"],"sourceRoot":"r","sources":["coolstuff.js"]}"#,
+        ),
+        concat!(
+            r#"{"mappings":"AAAA,GAAIA,GAAI,EACR,IAAIA,GAAK,EAAG,CACVC,MAAM","names":["x","#,
+            r#""alert"],"sources":["r/coolstuff.js"],"version":3}"#,
+        ),
     ),
     (
         "two sources of one text, and names in the order of use",
-        r#"{"ignoreList":[1],"mappings":"ACAAC,CCAAA,CDAAD","names":["m","n"],"sources":["a.js","b.js","b.js"],"sourcesContent":["x",null,"y"]}"#,
+        concat!(
+            r#"{"ignoreList":[1],"mappings":"ACAAC,CCAAA,CDAAD","names":["m","n"],"#,
+            r#""sources":["a.js","b.js","b.js"],"sourcesContent":["x",null,"y"]}"#,
+        ),
         r#"{"mappings":"AAAAA,CAAAA,CAAAC","names":["n","m"],"sources":["b.js"],"sourcesContent":["y"],"version":3}"#,
     ),
     (
@@ -52,12 +61,13 @@ static DEFAULT: [(&str, &str, &str); 4] = [
 ];
 
 #[test]
-fn used_sources_and_names_are_kept(rt: HostRuntime) {
+fn used_sources_and_names_are_kept(rt: HostRuntime) -> Checked {
     let options = RewriteOptions::default();
     for (about, text, want) in DEFAULT.iter() {
         let answer = rewrite_with(&rt, rt.alloc(), text, &options);
-        check!(rt, about, answer, want);
+        check(about, answer, want)?;
     }
+    Ok(())
 }
 
 const PATHS: &str = r#"{"mappings":"AAAA,CCAA","sources":["/a/b/x.js","/a/b/y.js"]}"#;
@@ -105,28 +115,39 @@ static CUT: [(&str, &str, &[&str], &str); 6] = [
 ];
 
 #[test]
-fn prefixes_are_cut(rt: HostRuntime) {
+fn prefixes_are_cut(rt: HostRuntime) -> Checked {
     for (about, text, prefixes, want) in CUT.iter() {
         let options = RewriteOptions {
             strip_prefixes: prefixes,
             ..RewriteOptions::default()
         };
         let answer = rewrite_with(&rt, rt.alloc(), text, &options);
-        check!(rt, about, answer, want);
+        check(about, answer, want)?;
     }
+    Ok(())
 }
 
-const TWO_NAMES: &str =
-    r#"{"debug_id":"11111111-1111-1111-1111-111111111111","mappings":"ACAAA,CDAAC","names":["m","n"],"sources":["a.js","b.js"],"sourcesContent":["x","y"]}"#;
+const TWO_NAMES: &str = concat!(
+    r#"{"debug_id":"11111111-1111-1111-1111-111111111111","mappings":"ACAAA,CDAAC","#,
+    r#""names":["m","n"],"sources":["a.js","b.js"],"sourcesContent":["x","y"]}"#,
+);
 
 // Label, the JSON of a map, and the options `with_names` and `with_source_contents`. Then the JSON
 // of the rewritten map.
 static LESS: [(&str, &str, (bool, bool), &str); 4] = [
     (
         "names go, and the debug id stays",
-        r#"{"debugId":"00000000-0000-0000-0000-000000000000","mappings":"AAAA,GAAIA,GAAI,EACR,IAAIA,GAAK,EAAG,CACVC,MAAM","names":["x","alert"],"sources":["coolstuff.js"]}"#,
+        concat!(
+            r#"{"debugId":"00000000-0000-0000-0000-000000000000","mappings":"AAAA,GAAIA,GAAI,"#,
+            r#"EACR,IAAIA,GAAK,EAAG,CACVC,MAAM","names":["x","alert"],"#,
+            r#""sources":["coolstuff.js"]}"#,
+        ),
         (false, false),
-        r#"{"debugId":"00000000-0000-0000-0000-000000000000","mappings":"AAAA,GAAI,GAAI,EACR,IAAI,GAAK,EAAG,CACV,MAAM","names":[],"sources":["coolstuff.js"],"version":3}"#,
+        concat!(
+            r#"{"debugId":"00000000-0000-0000-0000-000000000000","mappings":"AAAA,GAAI,GAAI,"#,
+            r#"EACR,IAAI,GAAK,EAAG,CACV,MAAM","names":[],"sources":["coolstuff.js"],"#,
+            r#""version":3}"#,
+        ),
     ),
     (
         "contents go",
@@ -138,18 +159,24 @@ static LESS: [(&str, &str, (bool, bool), &str); 4] = [
         "names alone go",
         TWO_NAMES,
         (false, true),
-        r#"{"debugId":"11111111-1111-1111-1111-111111111111","mappings":"AAAA,CCAA","names":[],"sources":["b.js","a.js"],"sourcesContent":["y","x"],"version":3}"#,
+        concat!(
+            r#"{"debugId":"11111111-1111-1111-1111-111111111111","mappings":"AAAA,CCAA","#,
+            r#""names":[],"sources":["b.js","a.js"],"sourcesContent":["y","x"],"version":3}"#,
+        ),
     ),
     (
         "contents alone go",
         TWO_NAMES,
         (true, false),
-        r#"{"debugId":"11111111-1111-1111-1111-111111111111","mappings":"AAAAA,CCAAC","names":["m","n"],"sources":["b.js","a.js"],"version":3}"#,
+        concat!(
+            r#"{"debugId":"11111111-1111-1111-1111-111111111111","mappings":"AAAAA,CCAAC","#,
+            r#""names":["m","n"],"sources":["b.js","a.js"],"version":3}"#,
+        ),
     ),
 ];
 
 #[test]
-fn names_and_contents_are_left_out(rt: HostRuntime) {
+fn names_and_contents_are_left_out(rt: HostRuntime) -> Checked {
     for (about, text, (with_names, with_source_contents), want) in LESS.iter() {
         let options = RewriteOptions {
             with_names: *with_names,
@@ -157,8 +184,9 @@ fn names_and_contents_are_left_out(rt: HostRuntime) {
             ..RewriteOptions::default()
         };
         let answer = rewrite_with(&rt, rt.alloc(), text, &options);
-        check!(rt, about, answer, want);
+        check(about, answer, want)?;
     }
+    Ok(())
 }
 
 // A current directory and a base path. Neither path is absolute.
@@ -169,7 +197,7 @@ static RELATIVE: [(Option<&str>, Option<&str>); 3] = [
 ];
 
 #[test]
-fn contents_are_loaded_from_absolute_folders_alone(rt: HostRuntime) {
+fn contents_are_loaded_from_absolute_folders_alone(rt: HostRuntime) -> Checked {
     let want = "invalid input parameter";
     for (current_dir, base_path) in RELATIVE.iter() {
         let options = RewriteOptions {
@@ -179,8 +207,9 @@ fn contents_are_loaded_from_absolute_folders_alone(rt: HostRuntime) {
             ..RewriteOptions::default()
         };
         let got = rewrite_with(&rt, rt.alloc(), PATHS, &options);
-        check!(rt, want, got, want);
+        check(want, got, want)?;
     }
+    Ok(())
 }
 
 // Label, a map, and the ids that `rewrite_with_ids` returns with default options. There is one id
@@ -216,9 +245,10 @@ fn old_ids<F: Files>(
 }
 
 #[test]
-fn sources_are_known_by_their_old_ids(rt: HostRuntime) {
+fn sources_are_known_by_their_old_ids(rt: HostRuntime) -> Checked {
     let options = RewriteOptions::default();
     for (about, text, want) in OLD_IDS.iter() {
-        check!(rt, about, old_ids(&rt, rt.alloc(), text, &options), want);
+        check(about, old_ids(&rt, rt.alloc(), text, &options), want)?;
     }
+    Ok(())
 }

@@ -2,7 +2,7 @@
 use crate::samples::{Made, NONE};
 use sourcemap::errors::Result;
 use sourcemap::types::{RawToken, SourceMap};
-use sourcemap_test_support::check;
+use sourcemap_test_support::checks::{Checked, check, check_that};
 use sourcemap_test_support::results::box_result;
 use sourcemap_test_support::tokens::token;
 use std::alloc::Global;
@@ -83,9 +83,8 @@ fn most_steps(map: &SourceMap) -> u32 {
 // Whether some lookup on line 2 makes at least eight comparisons. In `long_line`, line 2 has 3,000
 // tokens at distinct columns. A comparison has three outcomes. So lookups with at most seven
 // comparisons can find at most 2,187 (3^7) different tokens.
-fn counts_enough(alloc: Global, map: Made) -> Result<String> {
-    let is_enough = most_steps(&*map?) >= 8;
-    Ok(format!(in alloc; "{is_enough}")?)
+fn counts_enough(map: Made) -> Result<bool> {
+    Ok(most_steps(&*map?) >= 8)
 }
 
 static AMONG_NONE: [Counted; 2] = [
@@ -128,47 +127,51 @@ static ON_A_LONG_LINE: [Counted; 13] = [
 ];
 
 #[test]
-fn no_tokens_take_two_comparisons(rt: HostRuntime) {
+fn no_tokens_take_two_comparisons(rt: HostRuntime) -> Checked {
     for row in AMONG_NONE.iter() {
         let got = describe(rt.alloc(), equal_tokens(rt.alloc(), 0), row);
-        check!(rt, "none", got, row.3);
+        check("none", got, row.3)?;
     }
+    Ok(())
 }
 
 #[test]
-fn a_thousand_equal_tokens_take_few_comparisons(rt: HostRuntime) {
+fn a_thousand_equal_tokens_take_few_comparisons(rt: HostRuntime) -> Checked {
     for row in AMONG_THOUSAND.iter() {
         let got = describe(rt.alloc(), equal_tokens(rt.alloc(), 1000), row);
-        check!(rt, "thousand", got, row.3);
+        check("thousand", got, row.3)?;
     }
+    Ok(())
 }
 
 #[test]
-fn a_million_equal_tokens_take_few_comparisons(rt: HostRuntime) {
+fn a_million_equal_tokens_take_few_comparisons(rt: HostRuntime) -> Checked {
     for row in AMONG_MILLION.iter() {
         let got = describe(rt.alloc(), equal_tokens(rt.alloc(), 1000000), row);
-        check!(rt, "million", got, row.3);
+        check("million", got, row.3)?;
     }
+    Ok(())
 }
 
 #[test]
-fn lines_without_tokens_take_few_comparisons(rt: HostRuntime) {
+fn lines_without_tokens_take_few_comparisons(rt: HostRuntime) -> Checked {
     for row in ON_TWO_LINES.iter() {
         let got = describe(rt.alloc(), two_lines(rt.alloc()), row);
-        check!(rt, "two lines", got, row.3);
+        check("two lines", got, row.3)?;
     }
+    Ok(())
 }
 
 #[test]
-fn tokens_of_a_long_line_take_few_comparisons(rt: HostRuntime) {
+fn tokens_of_a_long_line_take_few_comparisons(rt: HostRuntime) -> Checked {
     for row in ON_A_LONG_LINE.iter() {
         let got = describe(rt.alloc(), long_line(rt.alloc()), row);
-        check!(rt, "long line", got, row.3);
+        check("long line", got, row.3)?;
     }
+    Ok(())
 }
 
 #[test]
-fn distinct_tokens_take_enough_comparisons(rt: HostRuntime) {
-    let got = counts_enough(rt.alloc(), long_line(rt.alloc()));
-    check!(rt, "enough", got, "true");
+fn distinct_tokens_take_enough_comparisons(rt: HostRuntime) -> Checked {
+    check_that("enough", counts_enough(long_line(rt.alloc()))?)
 }

@@ -2,7 +2,7 @@
 use crate::samples::{Made, mixed_map};
 use sourcemap::errors::Result;
 use sourcemap::types::{SourceMap, Token, TokenIter};
-use sourcemap_test_support::check;
+use sourcemap_test_support::checks::{Checked, check};
 use std::alloc::Global;
 
 // Whether the first two tokens are equal, whether their raw tokens are equal, and whether the
@@ -24,9 +24,9 @@ fn compare_mixed(alloc: Global) -> Result<String> {
 }
 
 #[test]
-fn tokens_are_ordered_by_their_answers(rt: HostRuntime) {
+fn tokens_are_ordered_by_their_answers(rt: HostRuntime) -> Checked {
     let answer = compare_mixed(rt.alloc());
-    check!(rt, "order", answer, "Some((true, false, true))");
+    check("order", answer, "Some((true, false, true))")
 }
 
 // Label, and a position for `seek`. Then what `seek` returns, and the generated position and the
@@ -61,11 +61,12 @@ fn seek_in_map(alloc: Global, map: Made, line: u32, col: u32) -> Result<String> 
 }
 
 #[test]
-fn seeking_goes_on_after_the_closest_token(rt: HostRuntime) {
+fn seeking_goes_on_after_the_closest_token(rt: HostRuntime) -> Checked {
     for (about, line, col, want) in SOUGHT.iter() {
         let got = seek_in_map(rt.alloc(), mixed_map(rt.alloc()), *line, *col);
-        check!(rt, about, got, want);
+        check(about, got, want)?;
     }
+    Ok(())
 }
 
 // A position, and the closest token as printed by `{}`, `{:#}` and `{:?}`.
@@ -80,7 +81,10 @@ static PRINTED: [(u32, u32, &str); 4] = [
     (
         2,
         0,
-        "<unknown>:4294967295:4294967295|<unknown>:4294967295:4294967295 (1:4)|<Token <unknown>:4294967295:4294967295 (1:4)>",
+        concat!(
+            "<unknown>:4294967295:4294967295|<unknown>:4294967295:4294967295 (1:4)|<Token ",
+            "<unknown>:4294967295:4294967295 (1:4)>",
+        ),
     ),
 ];
 
@@ -97,9 +101,10 @@ fn lookup_line(alloc: Global, map: Made, line: u32, col: u32) -> Result<String> 
 }
 
 #[test]
-fn tokens_are_printed(rt: HostRuntime) {
+fn tokens_are_printed(rt: HostRuntime) -> Checked {
     for (line, col, want) in PRINTED.iter() {
         let got = lookup_line(rt.alloc(), mixed_map(rt.alloc()), *line, *col);
-        check!(rt, want, got, want);
+        check(want, got, want)?;
     }
+    Ok(())
 }

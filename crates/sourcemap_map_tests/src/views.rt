@@ -1,7 +1,7 @@
 //! Tests of source views: lines, slices of lines, copies, `Debug` text, and source map references.
 use sourcemap::Result;
 use sourcemap::sourceview::SourceView;
-use sourcemap_test_support::check;
+use sourcemap_test_support::checks::{Checked, check};
 use sourcemap_test_support::results::{again, optional_text};
 use std::alloc::Global;
 
@@ -82,11 +82,12 @@ fn slice_text(alloc: Global, text: &str, position: (u32, u32, u32)) -> Result<St
 }
 
 #[test]
-fn lines_are_sliced_by_utf16_columns(rt: HostRuntime) {
+fn lines_are_sliced_by_utf16_columns(rt: HostRuntime) -> Checked {
     for (text, position, want) in SLICES.iter() {
         let slice = again(|| slice_text(rt.alloc(), text, *position));
-        check!(rt, text, slice, want);
+        check(text, slice, want)?;
     }
+    Ok(())
 }
 
 // A text, its count of lines, and its lines in turn.
@@ -118,10 +119,11 @@ fn push_line(answer: &mut String, line: &str) -> Result<()> {
 }
 
 #[test]
-fn lines_in_turn(rt: HostRuntime) {
+fn lines_in_turn(rt: HostRuntime) -> Checked {
     for (text, want) in LINES.iter() {
-        check!(rt, text, again(|| lines_text(rt.alloc(), text)), want);
+        check(text, again(|| lines_text(rt.alloc(), text)), want)?;
     }
+    Ok(())
 }
 
 // Lines of a view by index, out of order and past the end.
@@ -156,11 +158,12 @@ fn line_at(alloc: Global, text: &str, line: u32) -> Result<String> {
 }
 
 #[test]
-fn lines_out_of_turn(rt: HostRuntime) {
+fn lines_out_of_turn(rt: HostRuntime) -> Checked {
     for (text, line, want) in LINES_BY_INDEX.iter() {
         let found = again(|| line_at(rt.alloc(), text, *line));
-        check!(rt, want, found, want);
+        check(want, found, want)?;
     }
+    Ok(())
 }
 
 fn is_view_of(alloc: Global, view: &SourceView, text: &str) -> Result<bool> {
@@ -185,9 +188,9 @@ fn copy_view(alloc: Global, text: &str, other: &str) -> Result<String> {
 }
 
 #[test]
-fn copies_are_equal_and_print_their_text(rt: HostRuntime) {
+fn copies_are_equal_and_print_their_text(rt: HostRuntime) -> Checked {
     let want = "true false a\nb SourceView { source: \"a\\nb\" }";
-    check!(rt, "copy", copy_view(rt.alloc(), "a\nb", "a\r\nb"), want);
+    check("copy", copy_view(rt.alloc(), "a\nb", "a\r\nb"), want)
 }
 
 // A text, and the first reference to a source map in the text, or `None`.
@@ -211,8 +214,9 @@ fn reference_of(alloc: Global, text: &str) -> Result<String> {
 }
 
 #[test]
-fn references_are_found(rt: HostRuntime) {
+fn references_are_found(rt: HostRuntime) -> Checked {
     for (text, want) in REFERENCES.iter() {
-        check!(rt, text, reference_of(rt.alloc(), text), want);
+        check(text, reference_of(rt.alloc(), text), want)?;
     }
+    Ok(())
 }

@@ -1,7 +1,7 @@
 //! Tests of walks back along tokens: `rev_token_iter` and `get_original_function_name`.
 use sourcemap::Result;
 use sourcemap::sourceview::{SourceView, WalkedToken};
-use sourcemap_test_support::check;
+use sourcemap_test_support::checks::{Checked, check};
 use sourcemap_test_support::results::{optional_text, push_optional};
 use std::alloc::Global;
 
@@ -160,10 +160,11 @@ fn along(alloc: Global, view: &SourceView, chain_tokens: &[ChainToken]) -> Resul
 }
 
 #[test]
-fn walks_find_the_identifier_at_each_position(rt: HostRuntime) {
+fn walks_find_the_identifier_at_each_position(rt: HostRuntime) -> Checked {
     for (text, positions, want) in WALKS.iter() {
-        check!(rt, text, walk_text(rt.alloc(), text, positions), want);
+        check(text, walk_text(rt.alloc(), text, positions), want)?;
     }
+    Ok(())
 }
 
 // A walk back over the text `function b(){}`. The walk can start with tokens on line 1, past the
@@ -260,10 +261,11 @@ fn guess_name(
 }
 
 #[test]
-fn walks_guess_the_name_after_the_word_function(rt: HostRuntime) {
+fn walks_guess_the_name_after_the_word_function(rt: HostRuntime) -> Checked {
     for (about, name, walk, want) in NAMES.iter() {
-        check!(rt, about, name_by_walk(rt.alloc(), name, *walk), want);
+        check(about, name_by_walk(rt.alloc(), name, *walk), want)?;
     }
+    Ok(())
 }
 
 // A text, the minified name to look for, and the guessed original name, or `none`. Each walk has
@@ -298,8 +300,9 @@ fn compare_walks(alloc: Global, text: &str, name: &str) -> Result<String> {
 }
 
 #[test]
-fn names_are_compared_whole(rt: HostRuntime) {
+fn names_are_compared_whole(rt: HostRuntime) -> Checked {
     for (text, name, want) in COMPARED.iter() {
-        check!(rt, text, compare_walks(rt.alloc(), text, name), want);
+        check(text, compare_walks(rt.alloc(), text, name), want)?;
     }
+    Ok(())
 }

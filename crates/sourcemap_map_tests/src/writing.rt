@@ -5,12 +5,11 @@ use serde_json::Value;
 use sourcemap::decoder::decode_regular;
 use sourcemap::encoder::{Encodable, encode, encode_to};
 use sourcemap::{DecodedMap, Error, Result, SourceMap, decode_slice};
-use sourcemap_test_support::check;
+use sourcemap_test_support::checks::{Checked, check};
 use sourcemap_test_support::records::record;
 use sourcemap_test_support::results::{again, box_result};
 use sourcemap_test_support::writers::NarrowWriter;
 use std::alloc::Global;
-use std::process::Abort;
 use std::str;
 
 /// Label, a map, and what it is written as.
@@ -31,13 +30,26 @@ pub static WRITTEN: [Row; 11] = [
     ),
     (
         "the map of the documentation",
-        r#"{"version":3,"sources":["coolstuff.js"],"names":["x","alert"],"mappings":"AAAA,GAAIA,GAAI,EACR,IAAIA,GAAK,EAAG,CACVC,MAAM"}"#,
-        r#"{"mappings":"AAAA,GAAIA,GAAI,EACR,IAAIA,GAAK,EAAG,CACVC,MAAM","names":["x","alert"],"sources":["coolstuff.js"],"version":3}"#,
+        concat!(
+            r#"{"version":3,"sources":["coolstuff.js"],"names":["x","alert"],"mappings":"AAAA,"#,
+            r#"GAAIA,GAAI,EACR,IAAIA,GAAK,EAAG,CACVC,MAAM"}"#,
+        ),
+        concat!(
+            r#"{"mappings":"AAAA,GAAIA,GAAI,EACR,IAAIA,GAAK,EAAG,CACVC,MAAM","names":["x","#,
+            r#""alert"],"sources":["coolstuff.js"],"version":3}"#,
+        ),
     ),
     (
         "a file, a root, and contents that are all missing",
-        r#"{"version":3,"file":"foo.js","sources":["./bar.js","./baz.js"],"sourceRoot":"webpack:///","sourcesContent":[null,null],"names":[],"mappings":""}"#,
-        r#"{"file":"foo.js","mappings":"","names":[],"sourceRoot":"webpack:///","sources":["./bar.js","./baz.js"],"version":3}"#,
+        concat!(
+            r#"{"version":3,"file":"foo.js","sources":["./bar.js","./baz.js"],"#,
+            r#""sourceRoot":"webpack:///","sourcesContent":[null,null],"names":[],"#,
+            r#""mappings":""}"#,
+        ),
+        concat!(
+            r#"{"file":"foo.js","mappings":"","names":[],"sourceRoot":"webpack:///","#,
+            r#""sources":["./bar.js","./baz.js"],"version":3}"#,
+        ),
     ),
     (
         "a debug id, under its older key",
@@ -47,7 +59,10 @@ pub static WRITTEN: [Row; 11] = [
     (
         "a missing source, too many contents, and a file that is a number",
         r#"{"sourcesContent":[null,"x","y"],"sources":[null,"a.js"],"file":7}"#,
-        r#"{"file":"<invalid>","mappings":"","names":[],"sources":["","a.js"],"sourcesContent":[null,"x"],"version":3}"#,
+        concat!(
+            r#"{"file":"<invalid>","mappings":"","names":[],"sources":["","a.js"],"#,
+            r#""sourcesContent":[null,"x"],"version":3}"#,
+        ),
     ),
     (
         "a range bit after an empty part",
@@ -117,20 +132,21 @@ fn write_moved(alloc: Global, map: Result<DecodedMap>) -> Result<String> {
     value_text(alloc, map?.into_value())
 }
 
-fn check_each_way(rt: &impl Abort, alloc: Global, about: &str, text: &str, want: &str) {
-    check!(rt, about, by_record(alloc, text), want);
-    check!(rt, about, by_moved_record(alloc, text), want);
-    check!(rt, about, by_value(alloc, text), want);
-    check!(rt, about, by_moved_value(alloc, text), want);
+fn check_each_way(alloc: Global, about: &str, text: &str, want: &str) -> Checked {
+    check(about, by_record(alloc, text), want)?;
+    check(about, by_moved_record(alloc, text), want)?;
+    check(about, by_value(alloc, text), want)?;
+    check(about, by_moved_value(alloc, text), want)
 }
 
 #[test]
-fn maps_are_written_as_expected(rt: HostRuntime) {
+fn maps_are_written_as_expected(rt: HostRuntime) -> Checked {
     let alloc = rt.alloc();
     for (about, text, want) in WRITTEN.iter() {
-        check_each_way(&rt, alloc, about, text, want);
-        check_each_way(&rt, alloc, about, want, want);
+        check_each_way(alloc, about, text, want)?;
+        check_each_way(alloc, about, want, want)?;
     }
+    Ok(())
 }
 
 // The calls that write a map's bytes.
@@ -227,21 +243,22 @@ fn error_with_bytes(alloc: Global, held: &[u8], error: &Error) -> Result<String>
 }
 
 fn check_each_call(
-    rt: &impl Abort,
     alloc: Global,
     (about, text, want): (&str, &str, &str),
     left: Option<usize>,
-) {
+) -> Checked {
     for call in CALLS.iter() {
-        check!(rt, about, held_text(alloc, text, *call, left), want);
+        check(about, held_text(alloc, text, *call, left), want)?;
     }
+    Ok(())
 }
 
 #[test]
-fn bytes_are_written_one_by_one(rt: HostRuntime) {
+fn bytes_are_written_one_by_one(rt: HostRuntime) -> Checked {
     for row in WRITTEN.iter() {
-        check_each_call(&rt, rt.alloc(), *row, None);
+        check_each_call(rt.alloc(), *row, None)?;
     }
+    Ok(())
 }
 
 // Writes a map to an empty writer, and returns the `outcome_text`. The buffer of the writer has
@@ -276,12 +293,13 @@ fn encode_any(alloc: Global, text: &str, capacity: usize) -> Result<String> {
 }
 
 #[test]
-fn nothing_is_written_without_memory(rt: HostRuntime) {
+fn nothing_is_written_without_memory(rt: HostRuntime) -> Checked {
     let alloc = rt.alloc();
     for (about, text, want) in WRITTEN.iter() {
-        check!(rt, about, encode_regular(alloc, text, want.len()), want);
-        check!(rt, about, encode_any(alloc, text, want.len()), want);
+        check(about, encode_regular(alloc, text, want.len()), want)?;
+        check(about, encode_any(alloc, text, want.len()), want)?;
     }
+    Ok(())
 }
 
 /// Returns the first `most` characters of `text`, then ` broken pipe`. `outcome_text` returns the
@@ -297,11 +315,12 @@ pub fn cut_writing(alloc: Global, text: &str, most: usize) -> Result<String> {
 }
 
 #[test]
-fn each_write_may_fail(rt: HostRuntime) {
+fn each_write_may_fail(rt: HostRuntime) -> Checked {
     let alloc = rt.alloc();
     let (about, text, want) = BARE;
     for taken in 0..want.len() {
-        let due = cut_writing(alloc, want, taken).expect(&rt, "memory");
-        check_each_call(&rt, alloc, (about, text, due.as_str()), Some(taken));
+        let due = cut_writing(alloc, want, taken)?;
+        check_each_call(alloc, (about, text, due.as_str()), Some(taken))?;
     }
+    Ok(())
 }

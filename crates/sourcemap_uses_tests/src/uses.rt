@@ -6,6 +6,7 @@ use sourcemap::{
     DecodedMap, Error, Result, SourceMap, SourceMapBuilder, SourceMapHermes, SourceMapIndex,
     SourceView, decode_slice,
 };
+use sourcemap_test_support::checks::{Checked, check, check_that};
 use sourcemap_test_support::results::box_result;
 use sourcemap_uses::adjusting::lookup_adjusted;
 use sourcemap_uses::building::lookup_once_written;
@@ -25,9 +26,7 @@ use sourcemap_uses::saving::save;
 use sourcemap_uses::shrinking::{lookup_once_shrunk, shrink};
 use sourcemap_uses::splitting::trace_first_module;
 use std::alloc::Global;
-use std::process::Abort;
 use std::rt::Files;
-use std::test::Fail;
 
 const MAP: &str = r#"{"version":3,"sources":["coolstuff.js","unused.js"],"names":["x","alert"],
 "sourcesContent":["text"],"mappings":"AAAA,GAAIA,GAAI,EACR,IAAIA,GAAK,EAAG,CACVC,MAAM"}"#;
@@ -35,8 +34,8 @@ const MAP: &str = r#"{"version":3,"sources":["coolstuff.js","unused.js"],"names"
 const INLINE: &str =
     "data:application/json;base64,eyJtYXBwaW5ncyI6IkFBQUEiLCJzb3VyY2VzIjpbImEuanMiXX0=";
 
-fn text_or_empty(alloc: Global, position: Option<String>) -> String {
-    position.unwrap_or(String::new(alloc))
+fn text_or_empty(alloc: Global, position: Result<Option<String>>) -> Result<String> {
+    Ok(position?.unwrap_or(String::new(alloc)))
 }
 
 fn map_of(alloc: Global, bytes: &[u8]) -> Result<Box<SourceMap>> {
@@ -44,28 +43,23 @@ fn map_of(alloc: Global, bytes: &[u8]) -> Result<Box<SourceMap>> {
 }
 
 #[test]
-fn positions_and_frames_are_looked_up(rt: HostRuntime) -> std::result::Result<(), Fail> {
+fn positions_and_frames_are_looked_up(rt: HostRuntime) -> Checked {
     let alloc = rt.alloc();
-    let position = lookup_text(alloc, MAP.as_bytes(), 0, 5)?;
-    assert_eq!(rt;
-        text_or_empty(alloc, position).as_str(),
-        "coolstuff.js:0:4 name=x"
-    );
-    let frame = frame_text(alloc, MAP.as_bytes(), 1, 6)?;
-    assert_eq!(rt;
-        text_or_empty(alloc, frame).as_str(),
-        "coolstuff.js:0:4 name=x"
-    );
-    Ok(())
+    let want = "coolstuff.js:0:4 name=x";
+    let position = lookup_text(alloc, MAP.as_bytes(), 0, 5);
+    check("a position", text_or_empty(alloc, position), want)?;
+    let frame = frame_text(alloc, MAP.as_bytes(), 1, 6);
+    check("a frame", text_or_empty(alloc, frame), want)
 }
 
 #[test]
-fn a_bytecode_offset_has_its_function(rt: HostRuntime) -> std::result::Result<(), Fail> {
-    let text =
-        r#"{"sources":["a.js"],"mappings":"AAAA,KACK","x_facebook_sources":[[{"names":["<global>","foo"],"mappings":"AAA,KCC"}]]}"#;
-    let name = function_at(rt.alloc(), text.as_bytes(), 7)?;
-    assert_eq!(rt; text_or_empty(rt.alloc(), name).as_str(), "foo");
-    Ok(())
+fn a_bytecode_offset_has_its_function(rt: HostRuntime) -> Checked {
+    let text = concat!(
+        r#"{"sources":["a.js"],"mappings":"AAAA,KACK","#,
+        r#""x_facebook_sources":[[{"names":["<global>","foo"],"mappings":"AAA,KCC"}]]}"#,
+    );
+    let name = function_at(rt.alloc(), text.as_bytes(), 7);
+    check("a function", text_or_empty(rt.alloc(), name), "foo")
 }
 
 fn token_text(alloc: Global, map: &SourceMap) -> Result<String> {
@@ -85,12 +79,14 @@ fn quick_lookup_text(alloc: Global, map: &SourceMap, line: u32, col: u32) -> Res
     }
 }
 
+fn look_up_quickly(alloc: Global, text: &str) -> Result<String> {
+    quick_lookup_text(alloc, &*map_of(alloc, text.as_bytes())?, 0, 5)
+}
+
 #[test]
-fn lookups_are_quick(rt: HostRuntime) -> std::result::Result<(), Fail> {
-    let alloc = rt.alloc();
-    let output = quick_lookup_text(alloc, &*map_of(alloc, MAP.as_bytes())?, 0, 5)?;
-    assert_eq!(rt; output.as_str(), "coolstuff.js:0:4 name=x true");
-    Ok(())
+fn lookups_are_quick(rt: HostRuntime) -> Checked {
+    let want = "coolstuff.js:0:4 name=x true";
+    check("a lookup", look_up_quickly(rt.alloc(), MAP), want)
 }
 
 // The text of the token for 0:5, how many sources the map has, and whether the first has contents.
@@ -101,13 +97,19 @@ fn summary(alloc: Global, map: &SourceMap) -> Result<String> {
     Ok(format!(in alloc; "{position} {count} {has_text}")?)
 }
 
+fn summary_of(alloc: Global, map: Result<Box<SourceMap>>) -> Result<String> {
+    summary(alloc, &*map?)
+}
+
+fn published_map<F: Files>(rt: &F, alloc: Global, bytes: &[u8]) -> Result<Box<SourceMap>> {
+    map_of(alloc, publish(rt, alloc, bytes)?.as_slice())
+}
+
 #[test]
-fn a_map_is_published(rt: HostRuntime) -> std::result::Result<(), Fail> {
+fn a_map_is_published(rt: HostRuntime) -> Checked {
     let alloc = rt.alloc();
-    let text = publish(&rt, alloc, MAP.as_bytes())?;
-    let output = summary(alloc, &*map_of(alloc, text.as_slice())?)?;
-    assert_eq!(rt; output.as_str(), "coolstuff.js:0:4 1 false");
-    Ok(())
+    let map = published_map(&rt, alloc, MAP.as_bytes());
+    check("a map", summary_of(alloc, map), "coolstuff.js:0:4 1 false")
 }
 
 fn shrunk_map<F: Files>(rt: &F, alloc: Global, bytes: &[u8]) -> Result<Box<SourceMap>> {
@@ -116,24 +118,27 @@ fn shrunk_map<F: Files>(rt: &F, alloc: Global, bytes: &[u8]) -> Result<Box<Sourc
 }
 
 #[test]
-fn a_map_is_shrunk(rt: HostRuntime) -> std::result::Result<(), Fail> {
+fn a_map_is_shrunk(rt: HostRuntime) -> Checked {
     let alloc = rt.alloc();
-    let output = summary(alloc, &*shrunk_map(&rt, alloc, MAP.as_bytes())?)?;
-    assert_eq!(rt; output.as_str(), "coolstuff.js:0:4 name=x 1 true");
-    Ok(())
+    let map = shrunk_map(&rt, alloc, MAP.as_bytes());
+    let want = "coolstuff.js:0:4 name=x 1 true";
+    check("a map", summary_of(alloc, map), want)
+}
+
+fn look_up_shrunk<F: Files>(rt: &F, alloc: Global, bytes: &[u8]) -> Result<String> {
+    let map = SourceMap::from_slice(alloc, bytes)?;
+    let position = lookup_once_shrunk(rt, alloc, map, 0, 5)?;
+    Ok(format!(in alloc; "{position:?}")?)
 }
 
 #[test]
-fn a_shrunk_map_keeps_its_meaning(rt: HostRuntime) -> std::result::Result<(), Fail> {
-    let alloc = rt.alloc();
-    let map = SourceMap::from_slice(alloc, MAP.as_bytes())?;
-    let position = lookup_once_shrunk(&rt, alloc, map, 0, 5)?;
-    let output = format!(in alloc; "{position:?}")?;
-    assert_eq!(rt;
-        output.as_str(),
-        r#"Some(OriginalPosition { source: Some("coolstuff.js"), line: 0, column: 4, name: Some("x"), is_range: false })"#
+fn a_shrunk_map_keeps_its_meaning(rt: HostRuntime) -> Checked {
+    let want = concat!(
+        r#"Some(OriginalPosition { source: Some("coolstuff.js"), line: 0, column: 4,"#,
+        r#" name: Some("x"), is_range: false })"#,
     );
-    Ok(())
+    let got = look_up_shrunk(&rt, rt.alloc(), MAP.as_bytes());
+    check("a position", got, want)
 }
 
 // Both tokens have the second source. The first token has the second name. The second token is in
@@ -165,12 +170,14 @@ fn hermes_text(alloc: Global, map: &SourceMapHermes) -> Result<String> {
     Ok(output)
 }
 
+fn shrunk_hermes_text<F: Files>(rt: &F, alloc: Global, text: &str) -> Result<String> {
+    hermes_text(alloc, &*shrunk_hermes_map(rt, alloc, text)?)
+}
+
 #[test]
-fn a_hermes_map_is_shrunk(rt: HostRuntime) -> std::result::Result<(), Fail> {
-    let alloc = rt.alloc();
-    let copy = shrunk_hermes_map(&rt, alloc, HERMES)?;
-    assert_eq!(rt; hermes_text(alloc, &*copy)?.as_str(), " a.js x foo");
-    Ok(())
+fn a_hermes_map_is_shrunk(rt: HostRuntime) -> Checked {
+    let got = shrunk_hermes_text(&rt, rt.alloc(), HERMES);
+    check("a Hermes map", got, " a.js x foo")
 }
 
 // Maps 3:0 in the output of a later build step to 0:18 in the generated text of `MAP`.
@@ -191,13 +198,19 @@ static ADJUSTED_LOOKUPS: [(&str, &str, (u32, u32), &str); 5] = [
         MAP,
         LATER,
         (3, 0),
-        r#"Some(OriginalPosition { source: Some("coolstuff.js"), line: 2, column: 2, name: Some("alert"), is_range: false })"#,
+        concat!(
+            r#"Some(OriginalPosition { source: Some("coolstuff.js"), line: 2, column: 2,"#,
+            r#" name: Some("alert"), is_range: false })"#,
+        ),
     ),
     (
         MAP,
         LATER,
         (3, 1),
-        r#"Some(OriginalPosition { source: Some("coolstuff.js"), line: 2, column: 2, name: Some("alert"), is_range: false })"#,
+        concat!(
+            r#"Some(OriginalPosition { source: Some("coolstuff.js"), line: 2, column: 2,"#,
+            r#" name: Some("alert"), is_range: false })"#,
+        ),
     ),
     (MAP, LATER, (2, 9), "None"),
     (
@@ -217,17 +230,14 @@ fn lookup_after(alloc: Global, text: &str, later: &str, position: (u32, u32)) ->
 }
 
 #[test]
-fn positions_are_looked_up_after_adjusting(rt: HostRuntime) -> std::result::Result<(), Fail> {
+fn positions_are_looked_up_after_adjusting(rt: HostRuntime) -> Checked {
     for (text, later, position, want) in ADJUSTED_LOOKUPS.iter() {
-        let output = lookup_after(rt.alloc(), text, later, *position)?;
-        assert_eq!(rt; output.as_str(), *want);
+        check(want, lookup_after(rt.alloc(), text, later, *position), want)?;
     }
     Ok(())
 }
 
-#[test]
-fn tokens_are_written_and_looked_up(rt: HostRuntime) -> std::result::Result<(), Fail> {
-    let alloc = rt.alloc();
+fn look_up_written(alloc: Global) -> Result<Option<(u32, u32)>> {
     let token = RawToken {
         dst_line: 2,
         dst_col: 3,
@@ -238,8 +248,12 @@ fn tokens_are_written_and_looked_up(rt: HostRuntime) -> std::result::Result<(), 
         is_range: false,
     };
     let tokens = vec![in alloc; token]?;
-    assert!(rt; lookup_once_written(alloc, "a.js", tokens, 2, 9)? == Some((4, 5)));
-    Ok(())
+    lookup_once_written(alloc, "a.js", tokens, 2, 9)
+}
+
+#[test]
+fn tokens_are_written_and_looked_up(rt: HostRuntime) -> Checked {
+    check_that("a token", look_up_written(rt.alloc())? == Some((4, 5)))
 }
 
 fn holds_map(alloc: Global, reference: &str) -> Result<bool> {
@@ -248,11 +262,10 @@ fn holds_map(alloc: Global, reference: &str) -> Result<bool> {
 }
 
 #[test]
-fn a_data_url_holds_its_map(rt: HostRuntime) -> std::result::Result<(), Fail> {
+fn a_data_url_holds_its_map(rt: HostRuntime) -> Checked {
     let alloc = rt.alloc();
-    assert!(rt; holds_map(alloc, INLINE)?);
-    assert!(rt; !holds_map(alloc, "out.js.map")?);
-    Ok(())
+    check_that("a data URL", holds_map(alloc, INLINE)?)?;
+    check_that("a path", !holds_map(alloc, "out.js.map")?)
 }
 
 // A generated text, and what `find_map_text` returns for this text. The path of the text is
@@ -288,9 +301,9 @@ fn find_map_text(alloc: Global, text: &str) -> Result<String> {
 }
 
 #[test]
-fn a_text_names_its_map(rt: HostRuntime) -> std::result::Result<(), Fail> {
+fn a_text_names_its_map(rt: HostRuntime) -> Checked {
     for (text, want) in FOUND.iter() {
-        assert_eq!(rt; find_map_text(rt.alloc(), text)?.as_str(), *want);
+        check(text, find_map_text(rt.alloc(), text), want)?;
     }
     Ok(())
 }
@@ -314,36 +327,49 @@ fn merged_text(alloc: Global, first: &[u8], second: &[u8]) -> Result<String> {
 }
 
 #[test]
-fn sources_are_merged(rt: HostRuntime) -> std::result::Result<(), Fail> {
+fn sources_are_merged(rt: HostRuntime) -> Checked {
     let second = br#"{"mappings":"","sources":["a.js","unused.js"]}"#;
-    let output = merged_text(rt.alloc(), MAP.as_bytes(), second)?;
-    assert_eq!(rt; output.as_str(), " coolstuff.js unused.js a.js");
-    Ok(())
+    let got = merged_text(rt.alloc(), MAP.as_bytes(), second);
+    check("sources", got, " coolstuff.js unused.js a.js")
 }
 
-#[test]
-fn a_source_is_displayed_as_another_text(rt: HostRuntime) -> std::result::Result<(), Fail> {
-    let mut builder = SourceMapBuilder::new(rt.alloc(), None)?;
+fn displayed_source(alloc: Global) -> Result<String> {
+    let mut builder = SourceMapBuilder::new(alloc, None)?;
     let id = add_source_displayed_as(&mut builder, "/home/me/a.js", "a.js")?;
-    assert_eq!(rt; builder.get_source(id), Some("a.js"));
-    Ok(())
+    Ok(String::from_str(alloc, builder.get_source(id).unwrap_or("none"))?)
 }
 
 #[test]
-fn errors_have_advice(rt: HostRuntime) -> std::result::Result<(), Fail> {
-    assert!(rt; advise(&Error::BadJson(JsonFault::Parse)) == Advice::LookAtInput);
-    assert!(rt; advise(&Error::BadSourceReference(3)) == Advice::MendWriter);
-    assert!(rt; advise(&Error::OutOfMemory) == Advice::FreeMemory);
-    Ok(())
+fn a_source_is_displayed_as_another_text(rt: HostRuntime) -> Checked {
+    check("a source", displayed_source(rt.alloc()), "a.js")
 }
 
 #[test]
-fn errors_have_different_statuses(rt: HostRuntime) -> std::result::Result<(), Fail> {
-    assert_eq!(rt; exit_status(&Error::BadJson(JsonFault::Parse)), 12);
-    assert_eq!(rt; exit_status(&Error::BadSourceReference(3)), 18);
-    assert_eq!(rt; exit_status(&Error::BadNameReference(3)), 19);
-    assert_eq!(rt; exit_status(&Error::OutOfMemory), 30);
-    Ok(())
+fn errors_have_advice() -> Checked {
+    let advice = (
+        advise(&Error::BadJson(JsonFault::Parse)),
+        advise(&Error::BadSourceReference(3)),
+        advise(&Error::OutOfMemory),
+    );
+    let is_look = advice.0 == Advice::LookAtInput;
+    let is_mend = advice.1 == Advice::MendWriter;
+    let is_free = advice.2 == Advice::FreeMemory;
+    check_that("advice", is_look && is_mend && is_free)
+}
+
+fn statuses(alloc: Global) -> Result<String> {
+    let statuses = (
+        exit_status(&Error::BadJson(JsonFault::Parse)),
+        exit_status(&Error::BadSourceReference(3)),
+        exit_status(&Error::BadNameReference(3)),
+        exit_status(&Error::OutOfMemory),
+    );
+    Ok(format!(in alloc; "{statuses:?}")?)
+}
+
+#[test]
+fn errors_have_different_statuses(rt: HostRuntime) -> Checked {
+    check("statuses", statuses(rt.alloc()), "(12, 18, 19, 30)")
 }
 
 // Two sections. The second starts in the middle of a line.
@@ -413,18 +439,14 @@ fn is_refused(alloc: Global, text: &str) -> Result<bool> {
 }
 
 #[test]
-fn indexes_are_compared_with_their_flat_maps(rt: HostRuntime) -> std::result::Result<(), Fail> {
+fn indexes_are_compared_with_their_flat_maps(rt: HostRuntime) -> Checked {
     let alloc = rt.alloc();
     for (text, line, col, want) in KEPT.iter() {
-        assert!(rt;
-            is_kept(alloc, text, *line, *col)? == *want,
-            "{text} {line} {col}"
-        );
+        check_that(text, is_kept(alloc, text, *line, *col)? == *want)?;
     }
     // `linked` has no token for 0:0 but cannot be flattened, so `is_kept_flat` returns an error.
     let linked = r#"{"sections":[{"offset":{"line":1,"column":0},"url":"u"}]}"#;
-    assert!(rt; is_refused(alloc, linked)?);
-    Ok(())
+    check_that(linked, is_refused(alloc, linked)?)
 }
 
 // Calls `link` for the second section, and for a third section that does not exist. Returns whether
@@ -443,11 +465,13 @@ fn is_linked(index: &mut SourceMapIndex) -> Result<bool> {
     Ok(urls == (Some(true), Some(true)))
 }
 
+fn is_linked_in(alloc: Global, text: &str) -> Result<bool> {
+    is_linked(&mut *index_of(alloc, text)?)
+}
+
 #[test]
-fn a_section_is_linked(rt: HostRuntime) -> std::result::Result<(), Fail> {
-    let mut index = index_of(rt.alloc(), APART)?;
-    assert!(rt; is_linked(&mut *index)?);
-    Ok(())
+fn a_section_is_linked(rt: HostRuntime) -> Checked {
+    check_that(APART, is_linked_in(rt.alloc(), APART)?)
 }
 
 // Decodes the map in `text`, encodes it with `save`, and looks up a position in the encoded map.
@@ -456,62 +480,76 @@ fn lookup_once_saved(alloc: Global, text: &str, line: u32, col: u32) -> Result<O
     lookup_text(alloc, bytes.as_slice(), line, col)
 }
 
+// A position, and the text of the token of `LATE` there, once written and read.
+static SAVED: [(u32, u32, &str); 3] = [(1, 3, "a.js:0:0"), (3, 7, ""), (4, 0, "b.js:0:0")];
+
 #[test]
-fn a_saved_index_keeps_its_meaning(rt: HostRuntime) -> std::result::Result<(), Fail> {
+fn a_saved_index_keeps_its_meaning(rt: HostRuntime) -> Checked {
     let alloc = rt.alloc();
-    for (line, col, want) in [(1, 3, "a.js:0:0"), (3, 7, ""), (4, 0, "b.js:0:0")].iter() {
-        let position = lookup_once_saved(alloc, LATE, *line, *col)?;
-        assert_eq!(rt;
-            text_or_empty(alloc, position).as_str(),
-            *want,
-            "{line} {col}"
-        );
+    for (line, col, want) in SAVED.iter() {
+        let position = lookup_once_saved(alloc, LATE, *line, *col);
+        check(want, text_or_empty(alloc, position), want)?;
     }
     Ok(())
 }
 
-const BUNDLE: &str =
-    r#"{"version":3,"sources":["a.js"],"sourcesContent":["\nfunction foo() {}"],"names":["foo"],"mappings":"AACA,SAASA"}"#;
+const BUNDLE: &str = concat!(
+    r#"{"version":3,"sources":["a.js"],"sourcesContent":["\nfunction foo() {}"],"#,
+    r#""names":["foo"],"mappings":"AACA,SAASA"}"#,
+);
 
-#[test]
-fn a_function_has_its_name(rt: HostRuntime) -> std::result::Result<(), Fail> {
-    let alloc = rt.alloc();
-    let name = original_name(alloc, BUNDLE.as_bytes(), "function b(){}", 0, 9, "b")?;
-    assert_eq!(rt; text_or_empty(alloc, name).as_str(), "foo");
-    let map = map_of(alloc, BUNDLE.as_bytes())?;
-    assert_eq!(rt; source_line(&*map, 0, 9).unwrap_or(""), "function foo() {}");
-    Ok(())
+fn line_of_function(alloc: Global, text: &str) -> Result<String> {
+    let map = map_of(alloc, text.as_bytes())?;
+    Ok(String::from_str(alloc, source_line(&*map, 0, 9).unwrap_or(""))?)
 }
 
 #[test]
-fn lines_are_counted_by_their_ends(rt: HostRuntime) -> std::result::Result<(), Fail> {
-    for (text, want) in [("", 1), ("a", 1), ("a\r\nb\n", 3), ("\n\r", 3)] {
-        let view = SourceView::new(rt.alloc(), text)?;
-        assert_eq!(rt; line_total(&view), want);
+fn a_function_has_its_name(rt: HostRuntime) -> Checked {
+    let alloc = rt.alloc();
+    let name = original_name(alloc, BUNDLE.as_bytes(), "function b(){}", 0, 9, "b");
+    check("a name", text_or_empty(alloc, name), "foo")?;
+    check(
+        "a line",
+        line_of_function(alloc, BUNDLE),
+        "function foo() {}",
+    )
+}
+
+static LINE_TOTALS: [(&str, &str); 4] = [("", "1"), ("a", "1"), ("a\r\nb\n", "3"), ("\n\r", "3")];
+
+fn line_total_text(alloc: Global, text: &str) -> Result<String> {
+    let view = SourceView::new(alloc, text)?;
+    Ok(format!(in alloc; "{}", line_total(&view))?)
+}
+
+#[test]
+fn lines_are_counted_by_their_ends(rt: HostRuntime) -> Checked {
+    for (text, want) in LINE_TOTALS.iter() {
+        check(text, line_total_text(rt.alloc(), text), want)?;
     }
     Ok(())
 }
 
-fn export_text(alloc: Global, text: &str) -> Result<Vec<u8>> {
+fn export_text(alloc: Global, text: &str) -> Result<String> {
     let mut file = Vec::new(alloc);
     export(alloc, &*map_of(alloc, text.as_bytes())?, &mut file)?;
-    Ok(file)
+    Ok(String::from_utf8_lossy(alloc, file.as_slice())?)
 }
 
 #[test]
-fn an_exported_map_is_its_text(rt: HostRuntime) -> std::result::Result<(), Fail> {
+fn an_exported_map_is_its_text(rt: HostRuntime) -> Checked {
     let text = r#"{"file":"f","mappings":";A","names":[],"sources":[],"version":3}"#;
-    let file = export_text(rt.alloc(), text)?;
-    assert_eq!(rt; file.as_slice(), text.as_bytes());
-    Ok(())
+    check(text, export_text(rt.alloc(), text), text)
 }
 
 // Startup code `ab`, and one module `xyz`.
 const INDEXED_BUNDLE: &[u8] = b"\xe5\xd1\x0b\xfb\x01\0\0\0\x02\0\0\0\x02\0\0\0\x04\0\0\0abxyz\0";
 
 // The module begins on line 5.
-const BUNDLE_MAP: &str =
-    r#"{"sections":[{"offset":{"line":0,"column":0},"map":{"sources":["a.js"],"mappings":";;;;;AAAA,EAAE;AAAA"}}],"x_facebook_offsets":[5]}"#;
+const BUNDLE_MAP: &str = concat!(
+    r#"{"sections":[{"offset":{"line":0,"column":0},"map":{"sources":["a.js"],"#,
+    r#""mappings":";;;;;AAAA,EAAE;AAAA"}}],"x_facebook_offsets":[5]}"#,
+);
 
 fn trace_position(alloc: Global, line: u32, col: u32) -> Result<String> {
     let map = box_result(
@@ -523,8 +561,7 @@ fn trace_position(alloc: Global, line: u32, col: u32) -> Result<String> {
 }
 
 #[test]
-fn a_position_in_a_module_is_traced(rt: HostRuntime) -> std::result::Result<(), Fail> {
-    assert_eq!(rt; trace_position(rt.alloc(), 0, 1)?.as_str(), "a.js:0:0");
-    assert_eq!(rt; trace_position(rt.alloc(), 0, 3)?.as_str(), "a.js:0:2");
-    Ok(())
+fn a_position_in_a_module_is_traced(rt: HostRuntime) -> Checked {
+    check("column 1", trace_position(rt.alloc(), 0, 1), "a.js:0:0")?;
+    check("column 3", trace_position(rt.alloc(), 0, 3), "a.js:0:2")
 }
