@@ -51,19 +51,19 @@ number_none numbers order id stand apart = by_cases (number_of order id) refl
         let same : get_or numbers id 0 ≡ m = stand m id back in
         absurd (apart (subst (λ n. slice_get order n ≡ Some id) (sym same) back))
 
--- let `Stand numbers order` hold, let `numbers` have `n` at index `id`, and let `ids` equal `order`. If `ids` does not
--- have `id` at index `n`, then `id` has no number in `order`
--- a test of whether `order` has `id` at the index that `numbers` has for `id`
+-- a test decides whether `ids`, which equals `order`, has `id` at index `n`. If it has, `n` is the number of `id`
 pub number_read : (numbers order ids : List ℕ) (id n : ℕ) {known : Bool} → Stand numbers order → ids ≡ order
     → Decides known (slice_get ids n ≡ Some id) → known ≡ true → number_of order id ≡ Some n
-number_read numbers order ids id n stand same decides yes =
-    number_at numbers order id n stand (ap (λ list. slice_get list n) (sym same) ∙ decides.0 yes)
+number_read numbers order ids id n stand same decides here =
+    number_at numbers order id n stand (ap (λ list. slice_get list n) (sym same) ∙ decides.0 here)
 
+-- let `Stand numbers order` hold, let `numbers` have `n` at index `id`, and let `ids` equal `order`. If `ids` does not
+-- have `id` at index `n`, then `id` has no number in `order`
 pub number_none_read : (numbers order ids : List ℕ) (id n default : ℕ) {known : Bool} → Stand numbers order
     → id < length numbers → n ≡ get_or numbers id default → ids ≡ order
     → Decides known (slice_get ids n ≡ Some id) → known ≡ false → number_of order id ≡ None
-number_none_read numbers order ids id n default {known} stand inside read same decides no =
-    number_none numbers order id stand (λ at. not_from_Decides known decides no
+number_none_read numbers order ids id n default {known} stand inside read same decides away =
+    number_none numbers order id stand (λ at. not_from_Decides known decides away
     (ap (λ list. slice_get list n) same
     ∙ ap (slice_get order) (read ∙ get_or_default numbers id default 0 inside) ∙ at))
 
