@@ -1,15 +1,17 @@
 -- Words ask for at most one command.
-use Rattle.std.proofs.Common.{◌≡◌, ℕ, ◌+◌, List, [], ◌∷◌, Bool, true, false, if◌then◌else◌, bytes_eq, codes, get_or, length, string_bytes, refl, sym, ◌∙◌, ap, arith}
+use Rattle.std.proofs.Common.{◌≡◌, ◌≢◌, Global, String, ℕ, ◌+◌, List, [], ◌∷◌, if◌then◌else◌, bytes_eq, codes, get_or, length, string_bytes, refl, subst, sym, ◌∙◌, ap, arith}
 use Rattle.std.specs.Str.Parse.{digits_value}
+use Rattle.sourcemap_trace.specs.Positions.{first_of}
+use Rattle.sourcemap_trace.specs.declared.positions.Counting.{Counting}
 use Rattle.sourcemap_trace.specs.declared.positions.Counting.TheVariants.{From0, From1}
-use Rattle.sourcemap_cli.specs.Command.{IsNumber, AskFor, IsSameCommand}
+use Rattle.sourcemap_cli.specs.Command.{AskFor, IsNumber, IsSameCommand, counted_words, from_1}
 use Rattle.sourcemap_cli.specs.declared.command.Command.{Command}
 use Rattle.sourcemap_cli.specs.declared.command.Command.TheVariants.{Lookup, Tokens, Rewrite, Flatten, Compose, Shift, Trace}
 
 -- equal words give the same number
 number_once : (first : ℕ) (a b : List ℕ) (m n : ℕ) → a ≡ b → IsNumber first a m → IsNumber first b n → m ≡ n
 number_once first a b m n same p q =
-    let values : first + m ≡ first + n = sym p.2.1 ∙ ap (digits_value 10) same ∙ q.2.1 in
+    let values : first + m ≡ first + n = sym p.1 ∙ ap (digits_value 10) same ∙ q.1 in
     omega (arith, values)
 
 -- the number of a verb. It distinguishes verbs by computation
@@ -35,8 +37,8 @@ kind_of (Trace From0 _) = (7, 2)
 kind_of (Trace From1 _) = (7, 3)
 
 words_of_kind : (words : List (List ℕ)) (c : Command) → AskFor words c → kind_of_words words ≡ kind_of c
-words_of_kind words (Lookup From0 line col) (l, c, is, numbers) = ap kind_of_words is
-words_of_kind words (Lookup From1 line col) (l, c, is, numbers) = ap kind_of_words is
+words_of_kind words (Lookup From0 line col) (l, c, is, at_line, at_col) = ap kind_of_words is
+words_of_kind words (Lookup From1 line col) (l, c, is, at_line, at_col) = ap kind_of_words is
 words_of_kind words Tokens is = ap kind_of_words is
 words_of_kind words Rewrite is = ap kind_of_words is
 words_of_kind words Flatten is = ap kind_of_words is
@@ -45,32 +47,76 @@ words_of_kind words (Shift rows) (r, is, number) = ap kind_of_words is
 words_of_kind words (Trace From0 path) (is, other) = ap kind_of_words is
 words_of_kind words (Trace From1 path) (is, other) = ap kind_of_words is
 
+-- the word at an index of equal words
+same_word : (i : ℕ) (a b : List (List ℕ)) → a ≡ b → get_or a i [] ≡ get_or b i []
+same_word i a b is = ap (λ words. get_or words i []) is
+
+module _ (line col : List ℕ) where
+  pub no_lookup : (counting : Counting) → ((l c : ℕ) → IsNumber (first_of counting) line l → ¬ IsNumber (first_of counting) col c)
+      → (command : Command) → ¬ AskFor (counted_words (codes "lookup") counting (line ∷ col ∷ [])) command
+  no_lookup From0 none (Lookup From0 row column) (l, c, is, at_line, at_col) =
+      none row column
+      (subst (λ w. IsNumber 0 w row) (sym (same_word 1 (codes "lookup" ∷ line ∷ col ∷ []) (codes "lookup" ∷ l ∷ c ∷ []) is)) at_line)
+      (subst (λ w. IsNumber 0 w column) (sym (same_word 2 (codes "lookup" ∷ line ∷ col ∷ []) (codes "lookup" ∷ l ∷ c ∷ []) is)) at_col)
+  no_lookup From1 none (Lookup From1 row column) (l, c, is, at_line, at_col) =
+      none row column
+      (subst (λ w. IsNumber 1 w row)
+      (sym (same_word 2 (codes "lookup" ∷ from_1 ∷ line ∷ col ∷ []) (codes "lookup" ∷ from_1 ∷ l ∷ c ∷ []) is)) at_line)
+      (subst (λ w. IsNumber 1 w column)
+      (sym (same_word 3 (codes "lookup" ∷ from_1 ∷ line ∷ col ∷ []) (codes "lookup" ∷ from_1 ∷ l ∷ c ∷ []) is)) at_col)
+  no_lookup From0 none command asked =
+      absurd (let no : (1, 3) ≡ kind_of command = words_of_kind (codes "lookup" ∷ line ∷ col ∷ []) command asked in cc)
+  no_lookup From1 none command asked =
+      absurd (let no : (1, 4) ≡ kind_of command = words_of_kind (codes "lookup" ∷ from_1 ∷ line ∷ col ∷ []) command asked in cc)
+
+pub no_shift : (rows : List ℕ) → ((n : ℕ) → ¬ IsNumber 0 rows n) → (command : Command)
+    → ¬ AskFor (codes "shift" ∷ rows ∷ []) command
+no_shift rows none (Shift n) (r, is, number) =
+    none n (subst (λ w. IsNumber 0 w n) (sym (same_word 1 (codes "shift" ∷ rows ∷ []) (codes "shift" ∷ r ∷ []) is)) number)
+no_shift rows none command asked =
+    absurd (let no : (6, 2) ≡ kind_of command = words_of_kind (codes "shift" ∷ rows ∷ []) command asked in cc)
+
+-- `--from-1` is no file of `trace`
+pub no_trace : (file : List ℕ) (counting : Counting) → file ≡ from_1 → (command : Command)
+    → ¬ AskFor (counted_words (codes "trace") counting (file ∷ [])) command
+no_trace file From0 flag (Trace From0 path) (is, other) =
+    other (sym (same_word 1 (codes "trace" ∷ file ∷ []) (codes "trace" ∷ string_bytes path ∷ []) is) ∙ flag)
+no_trace file From1 flag (Trace From1 path) (is, other) =
+    other (sym (same_word 2 (codes "trace" ∷ from_1 ∷ file ∷ []) (codes "trace" ∷ from_1 ∷ string_bytes path ∷ []) is) ∙ flag)
+no_trace file From0 flag command asked =
+    absurd (let no : (7, 2) ≡ kind_of command = words_of_kind (codes "trace" ∷ file ∷ []) command asked in cc)
+no_trace file From1 flag command asked =
+    absurd (let no : (7, 3) ≡ kind_of command = words_of_kind (codes "trace" ∷ from_1 ∷ file ∷ []) command asked in cc)
+
+pub trace_asked : (file : List ℕ) (counting : Counting) (path : String Global) → string_bytes path ≡ file → file ≢ from_1
+    → AskFor (counted_words (codes "trace") counting (file ∷ [])) (Trace counting path)
+trace_asked file counting path is other =
+    (ap (λ word. counted_words (codes "trace") counting (word ∷ [])) (sym is), λ flag. other (sym is ∙ flag))
+
 pub command_once : (words : List (List ℕ)) (a b : Command) → AskFor words a → AskFor words b → IsSameCommand a b
 command_once words (Lookup From0 line col) (Lookup From0 line' col') (l, c, is, at_line, at_col) (l', c', is', at_line', at_col') =
-    let lines : l ≡ l' = cc in
-    let cols : c ≡ c' = cc in
-    let e : line ≡ line' = number_once 0 l l' line line' lines at_line at_line' in
-    let f : col ≡ col' = number_once 0 c c' col col' cols at_col at_col' in
+    let words : codes "lookup" ∷ l ∷ c ∷ [] ≡ codes "lookup" ∷ l' ∷ c' ∷ [] = sym is ∙ is' in
+    let e : line ≡ line' = number_once 0 l l' line line' (same_word 1 _ _ words) at_line at_line' in
+    let f : col ≡ col' = number_once 0 c c' col col' (same_word 2 _ _ words) at_col at_col' in
     cc
 command_once words (Lookup From1 line col) (Lookup From1 line' col') (l, c, is, at_line, at_col) (l', c', is', at_line', at_col') =
-    let lines : l ≡ l' = cc in
-    let cols : c ≡ c' = cc in
-    let e : line ≡ line' = number_once 1 l l' line line' lines at_line at_line' in
-    let f : col ≡ col' = number_once 1 c c' col col' cols at_col at_col' in
+    let words : codes "lookup" ∷ from_1 ∷ l ∷ c ∷ [] ≡ codes "lookup" ∷ from_1 ∷ l' ∷ c' ∷ [] = sym is ∙ is' in
+    let e : line ≡ line' = number_once 1 l l' line line' (same_word 2 _ _ words) at_line at_line' in
+    let f : col ≡ col' = number_once 1 c c' col col' (same_word 3 _ _ words) at_col at_col' in
     cc
 command_once words (Shift rows) (Shift rows') (r, is, at_rows) (r', is', at_rows') =
-    let same : r ≡ r' = cc in
-    let e : rows ≡ rows' = number_once 0 r r' rows rows' same at_rows at_rows' in
+    let words : codes "shift" ∷ r ∷ [] ≡ codes "shift" ∷ r' ∷ [] = sym is ∙ is' in
+    let e : rows ≡ rows' = number_once 0 r r' rows rows' (same_word 1 _ _ words) at_rows at_rows' in
     cc
 command_once words (Compose path) (Compose other) p q =
-    let same : string_bytes path ≡ string_bytes other = let words = sym p ∙ q in cc in
-    same
-command_once words (Trace From0 path) (Trace From0 other) (p, _) (q, _) =
-    let same : string_bytes path ≡ string_bytes other = let words = sym p ∙ q in cc in
-    (refl, same)
-command_once words (Trace From1 path) (Trace From1 other) (p, _) (q, _) =
-    let same : string_bytes path ≡ string_bytes other = let words = sym p ∙ q in cc in
-    (refl, same)
+    same_word 1 (codes "compose" ∷ string_bytes path ∷ []) (codes "compose" ∷ string_bytes other ∷ []) (sym p ∙ q)
+command_once words (Trace From0 path) (Trace From0 other) (p, r) (q, s) =
+    (refl, same_word 1 (codes "trace" ∷ string_bytes path ∷ []) (codes "trace" ∷ string_bytes other ∷ []) (sym p ∙ q))
+command_once words (Trace From1 path) (Trace From1 other) (p, r) (q, s) = (
+  refl,
+  same_word 2 (codes "trace" ∷ from_1 ∷ string_bytes path ∷ []) (codes "trace" ∷ from_1 ∷ string_bytes other ∷ [])
+      (sym p ∙ q),
+)
 command_once words Tokens Tokens p q = refl
 command_once words Rewrite Rewrite p q = refl
 command_once words Flatten Flatten p q = refl

@@ -1,6 +1,8 @@
 -- The words of each command.
 use Rattle.std.specs.Prelude.{◌≡◌, ◌≢◌, ℕ, ◌+◌, ◌≤◌, List, [], ◌∷◌, codes, string_bytes, Option, IsSome, IsNone}
 use Rattle.std.specs.Str.Parse.{IsNumeral, digits_value}
+use Rattle.sourcemap_trace.specs.Positions.{first_of}
+use Rattle.sourcemap_trace.specs.declared.positions.Counting.{Counting}
 use Rattle.sourcemap_trace.specs.declared.positions.Counting.TheVariants.{From0, From1}
 use Rattle.sourcemap_cli.specs.declared.command.Command.{Command}
 use Rattle.sourcemap_cli.specs.declared.command.Command.TheVariants.{Lookup, Tokens, Rewrite, Flatten, Compose, Shift, Trace}
@@ -13,21 +15,23 @@ IsNumber first word n = IsNumeral 10 word × (digits_value 10 word ≡ first + n
 abbrev pub from_1 : List ℕ
 from_1 = codes "--from-1"
 
+-- the words of a command that names positions: its name, `--from-1` if lines and columns count from 1, and the others
+abbrev pub counted_words : List ℕ → Counting → List (List ℕ) → List (List ℕ)
+counted_words name From0 others = name ∷ others
+counted_words name From1 others = name ∷ from_1 ∷ others
+
 -- these arguments of the program ask for this command. FILE of `trace` is not `--from-1`
 abbrev pub AskFor : List (List ℕ) → Command → Type 0
-AskFor words (Lookup From0 line col) = (l c : List ℕ)
-    × (words ≡ codes "lookup" ∷ l ∷ c ∷ []) × IsNumber 0 l line × IsNumber 0 c col
-AskFor words (Lookup From1 line col) = (l c : List ℕ)
-    × (words ≡ codes "lookup" ∷ from_1 ∷ l ∷ c ∷ []) × IsNumber 1 l line × IsNumber 1 c col
+AskFor words (Lookup counting line col) = (l c : List ℕ)
+    × (words ≡ counted_words (codes "lookup") counting (l ∷ c ∷ []))
+    × IsNumber (first_of counting) l line × IsNumber (first_of counting) c col
 AskFor words Tokens = words ≡ codes "tokens" ∷ []
 AskFor words Rewrite = words ≡ codes "rewrite" ∷ []
 AskFor words Flatten = words ≡ codes "flatten" ∷ []
 AskFor words (Compose path) = words ≡ codes "compose" ∷ string_bytes path ∷ []
 AskFor words (Shift rows) = (r : List ℕ) × (words ≡ codes "shift" ∷ r ∷ []) × IsNumber 0 r rows
-AskFor words (Trace From0 path) =
-    (words ≡ codes "trace" ∷ string_bytes path ∷ []) × (string_bytes path ≢ from_1)
-AskFor words (Trace From1 path) =
-    (words ≡ codes "trace" ∷ from_1 ∷ string_bytes path ∷ []) × (string_bytes path ≢ from_1)
+AskFor words (Trace counting path) = (words ≡ counted_words (codes "trace") counting (string_bytes path ∷ []))
+    × (string_bytes path ≢ from_1)
 
 -- two commands are equal; the buffers of their paths may differ in capacity
 abbrev pub IsSameCommand : Command → Command → Type 0

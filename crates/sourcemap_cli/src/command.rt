@@ -1,10 +1,8 @@
 //! The commands of the program and their parser.
-ghost use Rattle.std.specs.Prelude.{◌≡◌, ◌≢◌, List, [], ◌∷◌, ℕ, String, map, string_bytes, MatchOption, MatchResult};
-ghost use Rattle.std.specs.declared.alloc.Global.{Global};
+ghost use Rattle.std.specs.Prelude.{◌≡◌, List, [], ◌∷◌, ℕ, codes, map, string_bytes, MatchOption, MatchResult};
 ghost use Rattle.sourcemap.specs.declared.errors.Error.TheVariants.{OutOfMemory};
 ghost use Rattle.sourcemap_trace.specs.Positions.{first_of};
-ghost use Rattle.sourcemap_cli.specs.Command.{IsNumber, IsSameCommand, AskFor, from_1};
-ghost use Rattle.sourcemap_cli.specs.declared.command.Command.TheVariants.{Lookup, Trace};
+ghost use Rattle.sourcemap_cli.specs.Command.{AskFor, IsNumber, IsSameCommand, counted_words};
 
 use sourcemap::Result;
 use sourcemap_trace::Counting;
@@ -49,28 +47,36 @@ fn parse_number(word: &str, counting: Counting) -> Option<u32>
 
 fn lookup_command(counting: Counting, line: &str, col: &str) -> Option<Command>
     ensures { MatchOption result
-        ((l c : ℕ) → IsNumber (first_of counting) line.now l
-        → ¬ IsNumber (first_of counting) col.now c)
-        (λ command. (l c : ℕ) × (command ≡ Lookup counting l c)
-        × IsNumber (first_of counting) line.now l × IsNumber (first_of counting) col.now c) }
+        ((command : _) → ¬ AskFor
+        (counted_words (codes "lookup") counting (line.now ∷ col.now ∷ [])) command)
+        (AskFor (counted_words (codes "lookup") counting (line.now ∷ col.now ∷ []))) }
 {
     let line = parse_number(line, counting)?;
     let col = parse_number(col, counting)?;
     Some(Command::Lookup(counting, line, col))
 }
 
+fn shift_command(rows: &str) -> Option<Command>
+    ensures { MatchOption result
+        ((command : _) → ¬ AskFor (codes "shift" ∷ rows.now ∷ []) command)
+        (AskFor (codes "shift" ∷ rows.now ∷ [])) }
+{
+    let rows = parse_number(rows, Counting::From0)?;
+    Some(Command::Shift(rows))
+}
+
 fn trace_command(alloc: Global, counting: Counting, file: &str) -> Result<Option<Command>>
     ensures { MatchResult result
         (λ found. MatchOption found
-        (file.now ≡ from_1)
-        (λ command. (path : String Global) × (command ≡ Trace counting path)
-        × (string_bytes path ≡ file.now) × (file.now ≢ from_1)))
+        ((command : _) → ¬ AskFor (counted_words (codes "trace") counting (file.now ∷ [])) command)
+        (AskFor (counted_words (codes "trace") counting (file.now ∷ []))))
         (λ e. e ≡ OutOfMemory) }
 {
     if file == FROM_1 {
         return Ok(None);
     }
-    Ok(Some(Command::Trace(counting, String::from_str(alloc, file)?)))
+    let path = String::from_str(alloc, file)?;
+    Ok(Some(Command::Trace(counting, path)))
 }
 
 fn parse_verb(verb: &str) -> Option<Command>
@@ -95,7 +101,7 @@ fn parse_verb_and_argument(alloc: Global, verb: &str, argument: &str) -> Result<
 {
     match verb {
         "compose" => Ok(Some(Command::Compose(String::from_str(alloc, argument)?))),
-        "shift" => Ok(parse_number(argument, Counting::From0).map(Command::Shift)),
+        "shift" => Ok(shift_command(argument)),
         "trace" => trace_command(alloc, Counting::From0, argument),
         _ => Ok(None),
     }

@@ -215,11 +215,35 @@ fn positions_are_answered(rt: HostRuntime) -> Result<(), Fail> {
 fn long_lines_and_many_are_answered(rt: HostRuntime) -> Result<(), Fail> {
     let zeros = "0".repeat(rt.alloc(), 10_000_000)?;
     let line = format!(in rt.alloc(); "{zeros}:5")?;
-    assert!(rt; traces_to(&rt, Counting::From0, MAP, line.as_bytes(), "coolstuff.js:0:4 name=x\n")?);
-    assert!(rt; traces_to(&rt, Counting::From0, MAP, zeros.as_bytes(), "bad position\n")?);
+    assert!(rt;
+        traces_to(
+            &rt,
+            Counting::From0,
+            MAP,
+            line.as_bytes(),
+            "coolstuff.js:0:4 name=x\n"
+        )?
+    );
+    assert!(rt;
+        traces_to(
+            &rt,
+            Counting::From0,
+            MAP,
+            zeros.as_bytes(),
+            "bad position\n"
+        )?
+    );
     let newlines = "\n".repeat(rt.alloc(), 1_000_000)?;
     let answers = "bad position\n".repeat(rt.alloc(), 1_000_000)?;
-    assert!(rt; traces_to(&rt, Counting::From0, MAP, newlines.as_bytes(), answers.as_str())?);
+    assert!(rt;
+        traces_to(
+            &rt,
+            Counting::From0,
+            MAP,
+            newlines.as_bytes(),
+            answers.as_str()
+        )?
+    );
     Ok(())
 }
 

@@ -68,7 +68,10 @@ fn number_before(bytes: &[u8], mark: u8, first: u64) -> Option<(u32, &[u8])>
     if value < first {
         return None;
     }
-    Some(((value - first) as u32, &bytes[(index + 1).min(bytes.len())..]))
+    Some((
+        (value - first) as u32,
+        &bytes[(index + 1).min(bytes.len())..],
+    ))
 }
 
 // The position that the first line names, and the lines after this line. `None` if the first line

@@ -9,6 +9,8 @@ use Rattle.sourcemap_cli.proofs.output.lookup_line.Goals as goal
 pub returns : goal.returns
 returns c =
     let found = option_map token_value c.lookup_token.result in
-    let says = found_text_of token_value (first_of c.args.counting) c.lookup_token.result in
-    (found, c.in_ok-push_str.ensures.ok ∙ ap (λ t. t ++ newline) (c.in_ok-push_found.ensures.text ∙ sym says),
-    c.lookup_token.ensures.value)
+    let says = found_text_of token_value (first_of c.args.counting) c.lookup_token.result in (
+      found,
+      c.in_ok-push_str.ensures.ok ∙ ap (λ t. t ++ newline) (c.in_ok-push_found.ensures.text ∙ sym says),
+      c.lookup_token.ensures.value,
+    )

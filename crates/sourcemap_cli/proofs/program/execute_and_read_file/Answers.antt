@@ -9,10 +9,12 @@ use Rattle.sourcemap_cli.proofs.program.execute_and_read_file.Goals as goal
 pub returns : goal.returns
 returns g c =
     let map = map_tree c.in_ok-map.map in
-    let file = file_read c.read_command_file-file.result in
-    (file, c.read_command_file-file.ensures,
-    returns_on_map file c.args.command.now c.args.bytes.items map c.execute.result c.in_ok-map.ensures.answer
-    (c.execute.ensures (well_formed_in_order map c.in_ok-map.ensures.well_formed)))
+    let file = file_read c.read_command_file-file.result in (
+      file,
+      c.read_command_file-file.ensures,
+      returns_on_map file c.args.command.now c.args.bytes.items map c.execute.result c.in_ok-map.ensures.answer
+          (c.execute.ensures (well_formed_in_order map c.in_ok-map.ensures.well_formed)),
+    )
 
 pub returns-in_err-map : goal.returns-in_err-map
 returns-in_err-map g c =
