@@ -52,12 +52,15 @@ same_word : (i : ℕ) (a b : List (List ℕ)) → a ≡ b → get_or a i [] ≡ 
 same_word i a b is = ap (λ words. get_or words i []) is
 
 module _ (line col : List ℕ) where
-  pub no_lookup : (counting : Counting) → ((l c : ℕ) → IsNumber (first_of counting) line l → ¬ IsNumber (first_of counting) col c)
+  pub no_lookup : (counting : Counting)
+      → ((l c : ℕ) → IsNumber (first_of counting) line l → ¬ IsNumber (first_of counting) col c)
       → (command : Command) → ¬ AskFor (counted_words (codes "lookup") counting (line ∷ col ∷ [])) command
   no_lookup From0 none (Lookup From0 row column) (l, c, is, at_line, at_col) =
       none row column
-      (subst (λ w. IsNumber 0 w row) (sym (same_word 1 (codes "lookup" ∷ line ∷ col ∷ []) (codes "lookup" ∷ l ∷ c ∷ []) is)) at_line)
-      (subst (λ w. IsNumber 0 w column) (sym (same_word 2 (codes "lookup" ∷ line ∷ col ∷ []) (codes "lookup" ∷ l ∷ c ∷ []) is)) at_col)
+      (subst (λ w. IsNumber 0 w row)
+      (sym (same_word 1 (codes "lookup" ∷ line ∷ col ∷ []) (codes "lookup" ∷ l ∷ c ∷ []) is)) at_line)
+      (subst (λ w. IsNumber 0 w column)
+      (sym (same_word 2 (codes "lookup" ∷ line ∷ col ∷ []) (codes "lookup" ∷ l ∷ c ∷ []) is)) at_col)
   no_lookup From1 none (Lookup From1 row column) (l, c, is, at_line, at_col) =
       none row column
       (subst (λ w. IsNumber 1 w row)
@@ -67,12 +70,14 @@ module _ (line col : List ℕ) where
   no_lookup From0 none command asked =
       absurd (let no : (1, 3) ≡ kind_of command = words_of_kind (codes "lookup" ∷ line ∷ col ∷ []) command asked in cc)
   no_lookup From1 none command asked =
-      absurd (let no : (1, 4) ≡ kind_of command = words_of_kind (codes "lookup" ∷ from_1 ∷ line ∷ col ∷ []) command asked in cc)
+      absurd (let no : (1, 4) ≡ kind_of command =
+      words_of_kind (codes "lookup" ∷ from_1 ∷ line ∷ col ∷ []) command asked in cc)
 
 pub no_shift : (rows : List ℕ) → ((n : ℕ) → ¬ IsNumber 0 rows n) → (command : Command)
     → ¬ AskFor (codes "shift" ∷ rows ∷ []) command
 no_shift rows none (Shift n) (r, is, number) =
-    none n (subst (λ w. IsNumber 0 w n) (sym (same_word 1 (codes "shift" ∷ rows ∷ []) (codes "shift" ∷ r ∷ []) is)) number)
+    none n
+    (subst (λ w. IsNumber 0 w n) (sym (same_word 1 (codes "shift" ∷ rows ∷ []) (codes "shift" ∷ r ∷ []) is)) number)
 no_shift rows none command asked =
     absurd (let no : (6, 2) ≡ kind_of command = words_of_kind (codes "shift" ∷ rows ∷ []) command asked in cc)
 
@@ -82,26 +87,28 @@ pub no_trace : (file : List ℕ) (counting : Counting) → file ≡ from_1 → (
 no_trace file From0 flag (Trace From0 path) (is, other) =
     other (sym (same_word 1 (codes "trace" ∷ file ∷ []) (codes "trace" ∷ string_bytes path ∷ []) is) ∙ flag)
 no_trace file From1 flag (Trace From1 path) (is, other) =
-    other (sym (same_word 2 (codes "trace" ∷ from_1 ∷ file ∷ []) (codes "trace" ∷ from_1 ∷ string_bytes path ∷ []) is) ∙ flag)
+    other (sym (same_word 2 (codes "trace" ∷ from_1 ∷ file ∷ []) (codes "trace" ∷ from_1 ∷ string_bytes path ∷ []) is)
+    ∙ flag)
 no_trace file From0 flag command asked =
     absurd (let no : (7, 2) ≡ kind_of command = words_of_kind (codes "trace" ∷ file ∷ []) command asked in cc)
 no_trace file From1 flag command asked =
     absurd (let no : (7, 3) ≡ kind_of command = words_of_kind (codes "trace" ∷ from_1 ∷ file ∷ []) command asked in cc)
 
-pub trace_asked : (file : List ℕ) (counting : Counting) (path : String Global) → string_bytes path ≡ file → file ≢ from_1
+pub trace_asked : (file : List ℕ) (counting : Counting) (path : String Global) → string_bytes path ≡ file
+    → file ≢ from_1
     → AskFor (counted_words (codes "trace") counting (file ∷ [])) (Trace counting path)
 trace_asked file counting path is other =
     (ap (λ word. counted_words (codes "trace") counting (word ∷ [])) (sym is), λ flag. other (sym is ∙ flag))
 
 pub command_once : (words : List (List ℕ)) (a b : Command) → AskFor words a → AskFor words b → IsSameCommand a b
-command_once words (Lookup From0 line col) (Lookup From0 line' col') (l, c, is, at_line, at_col) (l', c', is', at_line', at_col') =
+command_once words (Lookup From0 row col) (Lookup From0 row' col') (l, c, is, at_row, at_col) (l', c', is', at_row', at_col') =
     let words : codes "lookup" ∷ l ∷ c ∷ [] ≡ codes "lookup" ∷ l' ∷ c' ∷ [] = sym is ∙ is' in
-    let e : line ≡ line' = number_once 0 l l' line line' (same_word 1 _ _ words) at_line at_line' in
+    let e : row ≡ row' = number_once 0 l l' row row' (same_word 1 _ _ words) at_row at_row' in
     let f : col ≡ col' = number_once 0 c c' col col' (same_word 2 _ _ words) at_col at_col' in
     cc
-command_once words (Lookup From1 line col) (Lookup From1 line' col') (l, c, is, at_line, at_col) (l', c', is', at_line', at_col') =
+command_once words (Lookup From1 row col) (Lookup From1 row' col') (l, c, is, at_row, at_col) (l', c', is', at_row', at_col') =
     let words : codes "lookup" ∷ from_1 ∷ l ∷ c ∷ [] ≡ codes "lookup" ∷ from_1 ∷ l' ∷ c' ∷ [] = sym is ∙ is' in
-    let e : line ≡ line' = number_once 1 l l' line line' (same_word 2 _ _ words) at_line at_line' in
+    let e : row ≡ row' = number_once 1 l l' row row' (same_word 2 _ _ words) at_row at_row' in
     let f : col ≡ col' = number_once 1 c c' col col' (same_word 3 _ _ words) at_col at_col' in
     cc
 command_once words (Shift rows) (Shift rows') (r, is, at_rows) (r', is', at_rows') =
@@ -120,4 +127,5 @@ command_once words (Trace From1 path) (Trace From1 other) (p, r) (q, s) = (
 command_once words Tokens Tokens p q = refl
 command_once words Rewrite Rewrite p q = refl
 command_once words Flatten Flatten p q = refl
-command_once words a b p q = absurd (let no : kind_of a ≡ kind_of b = sym (words_of_kind words a p) ∙ words_of_kind words b q in cc)
+command_once words a b p q =
+    absurd (let no : kind_of a ≡ kind_of b = sym (words_of_kind words a p) ∙ words_of_kind words b q in cc)

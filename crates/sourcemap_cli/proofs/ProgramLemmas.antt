@@ -13,11 +13,11 @@ use Rattle.sourcemap.specs.Flat.{FlatAnswer}
 use Rattle.sourcemap.specs.Shift.{HaveRowsLeft, shifted}
 use Rattle.sourcemap.specs.Token.{TokenValue, says}
 use Rattle.sourcemap.specs.TreeDecoder.{Then, TreeDecodes}
-use Rattle.sourcemap.specs.Trees.{LeafMap, regular, hermes, MapTree, leaf, index, IndexParts, IndexValue, index_tree, MapSection, section_list, sections_from, meaning, IsInOrder}
+use Rattle.sourcemap.specs.Trees.{LeafMap, regular, hermes, MapTree, leaf, index, IndexParts, IndexValue, index_tree, MapSection, section_list, sections_from, lookup, IsInOrder}
 use Rattle.sourcemap.specs.Types.{MapValue}
 use Rattle.sourcemap.specs.declared.errors.Error.{Error}
 use Rattle.sourcemap.specs.declared.errors.Error.TheVariants.{BadJson, CannotFlatten, IncompatibleSourceMap, Io, OutOfMemory}
-use Rattle.sourcemap_index.specs.declared.family.DecodedMap.{DecodedMap}
+use Rattle.sourcemap.specs.declared.types.DecodedMap.{DecodedMap}
 use Rattle.sourcemap_trace.specs.Positions.{first_of}
 use Rattle.sourcemap_trace.specs.Trace.{meaning_text}
 use Rattle.sourcemap_trace.specs.declared.positions.Counting.{Counting}
@@ -46,10 +46,22 @@ with_memory _ P is h = h
 -- From the output of a command to the reply.
 
 -- what is printed for a lookup depends on the meaning of the token that was found
-pub found_text_of : {X : Type 0} (view : X → TokenValue) (first : ℕ) (found : Option X)
+found_text_of : {X : Type 0} (view : X → TokenValue) (first : ℕ) (found : Option X)
     → found_text first (option_map view found) ≡ meaning_text first (option_map (λ t. says (view t)) found)
 found_text_of view first None = refl
 found_text_of view first (Some t) = refl
+
+pub returns_looked_up : {X : Type 0} (view : X → TokenValue) (counting : Counting) (line col : ℕ) (t : MapTree)
+    (found : Option X) (r : Result (String Global) Error)
+    → MatchResult r
+    (λ text. string_bytes text ≡ meaning_text (first_of counting) (option_map (λ x. says (view x)) found) ++ newline)
+    (λ e. e ≡ OutOfMemory)
+    → (IsInOrder t → option_map view found ≡ lookup t (line, col))
+    → IsAnswer string_bytes (Returns (Lookup counting line col) t None) r
+returns_looked_up view counting line col t found (Ok text) is closest =
+    (option_map view found, is ∙ ap (λ text. text ++ newline) (sym (found_text_of view (first_of counting) found)), closest)
+returns_looked_up view counting line col t found (Err e) is closest =
+    no_memory e (Returns (Lookup counting line col) t None (Err e)) is
 
 -- if `r` is a JSON line of `t` or the error `OutOfMemory`, then `r` is an answer that `PrintsMap t` allows
 prints_map : (t : MapTree) (r : Result (String Global) Error)
@@ -58,7 +70,8 @@ prints_map : (t : MapTree) (r : Result (String Global) Error)
 prints_map t (Ok text) h = h
 prints_map t (Err e) h = no_memory e (PrintsMap t (Err e)) h
 
-pub returns_rewritten : (l new : LeafMap) (t : MapTree) (r : Result (String Global) Error) → new ≡ rewritten_leaf l → t ≡ leaf new
+pub returns_rewritten : (l new : LeafMap) (t : MapTree) (r : Result (String Global) Error) → new ≡ rewritten_leaf l
+    → t ≡ leaf new
     → MatchResult r (λ text. IsJsonLine t (string_bytes text)) (λ e. e ≡ OutOfMemory)
     → IsAnswer string_bytes (Returns Rewrite (leaf l) None) r
 returns_rewritten l new t r is of h =
@@ -102,7 +115,8 @@ returns_adjusted path t other m u r made of h = then_prints (λ a. a ≡ adjuste
 pub returns_no_adjusted : (path : String Global) (t : MapTree) (other : Option MapTree) (e : Error)
     → UnlessMemory e (adjusted_by t other ≡ Err e) → UnlessMemory e (Returns (Compose path) t other (Err e))
 returns_no_adjusted path t other e h =
-    then_refused (λ a. a ≡ adjusted_by t other) (λ m a. PrintsMap (leaf (regular m)) a) e (UnlessMemory-weaker e (λ is. sym is) h)
+    then_refused (λ a. a ≡ adjusted_by t other) (λ m a. PrintsMap (leaf (regular m)) a) e
+    (UnlessMemory-weaker e (λ is. sym is) h)
 
 none_adjusted : (t : MapTree) → adjusted_by t None ≡ Err IncompatibleSourceMap
 none_adjusted (leaf (regular m)) = refl
@@ -118,11 +132,13 @@ says_of_two x (Compose path) t u r takes h = h path
 says_of_two x command t u r takes h = absurd cc
 
 -- the tree of `i` has the sections of `i`, so an answer for shifting these sections is an answer for shifting the tree
-returns_shift : (rows : ℕ) (i : IndexValue) (answer : Result (List ℕ) Error) → ShiftAnswer rows i.parts i.sections answer
+returns_shift : (rows : ℕ) (i : IndexValue) (answer : Result (List ℕ) Error)
+    → ShiftAnswer rows i.parts i.sections answer
     → Returns (Shift rows) (index_tree i) None answer
 returns_shift rows i answer h = subst (λ ss. ShiftAnswer rows i.parts ss answer) (sym (section_list-from i.sections)) h
 
-pub returns_shifted : (rows : ℕ) (i : IndexValue) (t : MapTree) (r : Result (String Global) Error) → HaveRowsLeft rows i.sections
+pub returns_shifted : (rows : ℕ) (i : IndexValue) (t : MapTree) (r : Result (String Global) Error)
+    → HaveRowsLeft rows i.sections
     → t ≡ index i.parts (sections_from (shifted rows i.sections))
     → MatchResult r (λ text. IsJsonLine t (string_bytes text)) (λ e. e ≡ OutOfMemory)
     → IsAnswer string_bytes (Returns (Shift rows) (index_tree i) None) r
@@ -135,12 +151,14 @@ pub returns_no_shift : (rows : ℕ) (i : IndexValue) → ¬ HaveRowsLeft rows i.
 returns_no_shift rows i past = returns_shift rows i (Err IncompatibleSourceMap) (inr (past, refl))
 
 -- flattening a map that is not an index map is an error
-pub no_index_flat : (t : MapTree) (e : Error) → (e ≡ IncompatibleSourceMap) × IsNotIndex t → UnlessMemory e (Returns Flatten t None (Err e))
+pub no_index_flat : (t : MapTree) (e : Error) → (e ≡ IncompatibleSourceMap) × IsNotIndex t
+    → UnlessMemory e (Returns Flatten t None (Err e))
 no_index_flat (leaf l) e (is, other) = rw is refl
 no_index_flat (index parts ss) e (is, other) = absurd other
 
 -- shifting a map that is not an index map is an error
-pub no_index_shift : (rows : ℕ) (t : MapTree) (e : Error) → (e ≡ IncompatibleSourceMap) × IsNotIndex t → UnlessMemory e (Returns (Shift rows) t None (Err e))
+pub no_index_shift : (rows : ℕ) (t : MapTree) (e : Error) → (e ≡ IncompatibleSourceMap) × IsNotIndex t
+    → UnlessMemory e (Returns (Shift rows) t None (Err e))
 no_index_shift rows (leaf l) e (is, other) = rw is refl
 no_index_shift rows (index parts ss) e (is, other) = absurd other
 
@@ -160,7 +178,8 @@ any_file : (P : Result (List ℕ) Error → Type 0) → ((file : Result (List �
 any_file P f = (Ok [], tt, f (Ok []))
 
 pub may_be_read : (known : Option (List ℕ)) (r : Result (Vec ℕ Global) Error)
-    → MatchResult r (λ bytes. IfSome known (λ xs. bytes.items ≡ xs)) (λ e. UnlessReadFails e ⊥) → MayBeRead (file_read r)
+    → MatchResult r (λ bytes. IfSome known (λ xs. bytes.items ≡ xs)) (λ e. UnlessReadFails e ⊥)
+    → MayBeRead (file_read r)
 may_be_read known (Ok bytes) h = tt
 may_be_read known (Err e) h = h
 
@@ -284,7 +303,8 @@ then_alike First Next one next (Err e) b (inr h) (inl (y, made, q)) = absurd (on
 then_alike First Next one next (Ok text) b (inr h) q = absurd h
 
 json_once : (t : MapTree) (a b : List ℕ) → IsJsonLine t a → IsJsonLine t b → a ≡ b
-json_once t a b (j, of_a, is) (k, of_b, is') = is ∙ ap (λ json. json ++ newline) (written_text_once t j k of_a of_b) ∙ sym is'
+json_once t a b (j, of_a, is) (k, of_b, is') =
+    is ∙ ap (λ json. json ++ newline) (written_text_once t j k of_a of_b) ∙ sym is'
 
 maps_alike : (t : MapTree) (a b : Result (List ℕ) Error) → PrintsMap t a → PrintsMap t b → PrintAlike a b
 maps_alike t (Ok a) (Ok b) p q = json_once t a b p q
@@ -307,27 +327,32 @@ flat_once : (t : MapTree) (a b : Result MapValue Error) → FlatAnswer t a → F
 flat_once t (Ok m) (Ok n) h k = let both = sym h ∙ k in cc
 flat_once t (Err (CannotFlatten e)) (Err (CannotFlatten f)) h k =
     let same : string_bytes e ≡ string_bytes f = let both = sym h ∙ k in cc in
-    texts_alike (CannotFlatten e) (CannotFlatten f) (ap (λ reason. Some (codes "cannot flatten the indexed sourcemap: " ++ reason)) same)
+    texts_alike (CannotFlatten e) (CannotFlatten f)
+    (ap (λ reason. Some (codes "cannot flatten the indexed sourcemap: " ++ reason)) same)
 flat_once t (Ok m) (Err (CannotFlatten f)) h k = absurd (let both = sym h ∙ k in cc)
 flat_once t (Err (CannotFlatten e)) (Ok n) h k = absurd (let both = sym h ∙ k in cc)
 flat_once t (Ok m) (Err f) h k = absurd k
 flat_once t (Err (CannotFlatten e)) (Err f) h k = absurd k
 flat_once t (Err e) b h k = absurd h
 
-shift_alike : (rows : ℕ) (parts : IndexParts) (ss : List MapSection) (a b : Result (List ℕ) Error) → ShiftAnswer rows parts ss a
+shift_alike : (rows : ℕ) (parts : IndexParts) (ss : List MapSection) (a b : Result (List ℕ) Error)
+    → ShiftAnswer rows parts ss a
     → ShiftAnswer rows parts ss b → PrintAlike a b
-shift_alike rows parts ss a b (inl (left, p)) (inl (left', q)) = maps_alike (index parts (sections_from (shifted rows ss))) a b p q
+shift_alike rows parts ss a b (inl (left, p)) (inl (left', q)) =
+    maps_alike (index parts (sections_from (shifted rows ss))) a b p q
 shift_alike rows parts ss a b (inr (past, is)) (inr (past', is')) = equal_alike a b (is ∙ sym is')
 shift_alike rows parts ss a b (inl (left, p)) (inr (past, is)) = absurd (past left)
 shift_alike rows parts ss a b (inr (past, is)) (inl (left, q)) = absurd (past left)
 
 -- let `Next` print a regular map as a JSON line. If any two results of `First` print alike, any two results of `Then
 -- First Next` print alike
-prints_alike : (First : Result MapValue Error → Type 0) → ((a b : Result MapValue Error) → First a → First b → PrintAlike a b)
+prints_alike : (First : Result MapValue Error → Type 0)
+    → ((a b : Result MapValue Error) → First a → First b → PrintAlike a b)
     → (a b : Result (List ℕ) Error) → Then First (λ m a. PrintsMap (leaf (regular m)) a) a
     → Then First (λ m a. PrintsMap (leaf (regular m)) a) b → PrintAlike a b
 prints_alike First one a b p q =
-    then_alike First (λ m a. PrintsMap (leaf (regular m)) a) one (λ m a b made p q. maps_alike (leaf (regular m)) a b p q) a b p q
+    then_alike First (λ m a. PrintsMap (leaf (regular m)) a) one
+    (λ m a b made p q. maps_alike (leaf (regular m)) a b p q) a b p q
 
 -- let the sections of the map `t` be sorted. Any two results that `Returns` allows for the same `command`, `t` and
 -- `other` print alike
@@ -348,7 +373,8 @@ returns_alike (Shift rows) (leaf l) other a b ordered p q = equal_alike a b (p �
 returns_alike (Shift rows) (index parts ss) other a b ordered p q = shift_alike rows parts (section_list ss) a b p q
 returns_alike (Trace counting path) t other a b ordered p q = absurd p
 
-reply_alike : (a b : Result (List ℕ) Error) → PrintAlike a b → (reply : Reply) → IsReply (answered a) reply → IsReply (answered b) reply
+reply_alike : (a b : Result (List ℕ) Error) → PrintAlike a b → (reply : Reply) → IsReply (answered a) reply
+    → IsReply (answered b) reply
 reply_alike (Ok a) (Ok b) same reply is = (is.0 ∙ same, is.1)
 reply_alike (Err e) (Err f) same reply (refused, status) = (same (string_bytes reply.text) refused, status)
 reply_alike (Ok a) (Err f) same reply is = absurd same
@@ -369,11 +395,13 @@ decoded_alike (Err e) (Ok u) same = absurd same
 bytes_alike : (bytes : List ℕ) (a b : Result MapTree Error) → BytesDecode bytes a → BytesDecode bytes b → PrintAlike a b
 bytes_alike bytes a b h k = decoded_alike a b (bytes_decode_once bytes a b h k)
 
-file_alike : (file : Result (List ℕ) Error) (a b : Result MapTree Error) → FileDecodes file a → FileDecodes file b → PrintAlike a b
+file_alike : (file : Result (List ℕ) Error) (a b : Result MapTree Error) → FileDecodes file a → FileDecodes file b
+    → PrintAlike a b
 file_alike (Ok bytes) a b h k = bytes_alike bytes a b h k
 file_alike (Err e) a b h k = equal_alike a b (h ∙ sym k)
 
-returns_with_alike : (file : Result (List ℕ) Error) (command : Command) (t : MapTree) (a b : Result (List ℕ) Error) → IsInOrder t
+returns_with_alike : (file : Result (List ℕ) Error) (command : Command) (t : MapTree) (a b : Result (List ℕ) Error)
+    → IsInOrder t
     → ReturnsWithFile file command t a → ReturnsWithFile file command t b → PrintAlike a b
 returns_with_alike file (Compose path) t a b ordered p q =
     then_alike (FileDecodes file) (λ other a. Returns (Compose path) t (Some other) a) (file_alike file)
@@ -385,7 +413,8 @@ returns_with_alike file command t a b ordered p q = returns_alike command t None
 bytes_in_order : (bytes : List ℕ) (t : MapTree) → BytesDecode bytes (Ok t) → IsInOrder t
 bytes_in_order bytes t (inl (d, holds, stands)) = of_record (record_of d) stands
   where
-    of_record : (found : Option Tree) → MatchOption found (Ok t ≡ Err (BadJson Shape)) (λ r. TreeDecodes r (Ok t)) → IsInOrder t
+    of_record : (found : Option Tree) → MatchOption found (Ok t ≡ Err (BadJson Shape)) (λ r. TreeDecodes r (Ok t))
+        → IsInOrder t
     of_record None wrong = absurd cc
     of_record (Some r) is = well_formed_in_order t (decoded_well r t is)
 bytes_in_order bytes t (inr none) = absurd none
@@ -414,7 +443,8 @@ replies_alike words bytes file misused misused p q reply is = is
 pub only_reply : (words : List (List ℕ)) (bytes : List ℕ) (file : Result (List ℕ) Error) (r : Result Reply Error)
     → MatchResult r (IsReplyTo words bytes file) (λ e. e ≡ OutOfMemory)
     → IfOk r (λ reply. (due : Ending) → Ends words bytes file due → IsReply due reply)
-only_reply words bytes file (Ok reply) (ending, ends, is) = λ due right. replies_alike words bytes file ending due ends right reply is
+only_reply words bytes file (Ok reply) (ending, ends, is) =
+    λ due right. replies_alike words bytes file ending due ends right reply is
 only_reply words bytes file (Err e) h = tt
 
 -- From a reader's bytes to the output.
@@ -428,7 +458,8 @@ out_of_memory words e is = no_memory e _ is
 
 -- if `words` ask for a command, and the error `e` says that a read failed or that memory ran out, a run may have the
 -- error `e` instead of a reply (`IsCutShort`)
-pub reading_failed : (words : List (List ℕ)) (command : Command) (e : Error) → AskFor words command → UnlessReadFails e ⊥ → IsCutShort words e
+pub reading_failed : (words : List (List ℕ)) (command : Command) (e : Error) → AskFor words command
+    → UnlessReadFails e ⊥ → IsCutShort words e
 reading_failed words command e asked h = UnlessMemory-from e (command, asked, h)
 
 -- the reply to words that are no command is the same for all bytes
@@ -449,9 +480,13 @@ pub reply_of_reader : (words : List (List ℕ)) (input : Option (List ℕ)) (byt
     → WithFile (λ file. MatchResult r (IsReplyTo words bytes file) (λ e. e ≡ OutOfMemory))
     → Reading input (λ bytes. WithFile (λ file. MatchResult r (IsReplyTo words bytes file) (IsCutShort words)))
 reply_of_reader words input bytes r (inl none) h =
-    let has = some_bytes input in
-    (has.0, has.1, reply_for_bytes words bytes has.0 r (λ file reply is. any_bytes words bytes has.0 file reply none is) h)
-reply_of_reader words input bytes r (inr of_input) h = (bytes, of_input, reply_for_bytes words bytes bytes r (λ file reply is. is) h)
+    let has = some_bytes input in (
+      has.0,
+      has.1,
+      reply_for_bytes words bytes has.0 r (λ file reply is. any_bytes words bytes has.0 file reply none is) h,
+    )
+reply_of_reader words input bytes r (inr of_input) h =
+    (bytes, of_input, reply_for_bytes words bytes bytes r (λ file reply is. is) h)
 
 pub cut_short : (words : List (List ℕ)) (input : Option (List ℕ)) (e : Error) (r : Result Reply Error)
     → r ≡ Err e → IsCutShort words e
@@ -464,7 +499,8 @@ may_end words bytes file (answered (Ok text)) h = h
 may_end words bytes file (answered (Err e)) h = inl h
 may_end words bytes file misused h = h
 
-reported_is_cut_short : (words : List (List ℕ)) (e reported : Error) → (reported ≡ e) ⊎ (reported ≡ OutOfMemory) → IsCutShort words e → IsCutShort words reported
+reported_is_cut_short : (words : List (List ℕ)) (e reported : Error) → (reported ≡ e) ⊎ (reported ≡ OutOfMemory)
+    → IsCutShort words e → IsCutShort words reported
 reported_is_cut_short words e reported (inl same) h = subst (λ x. IsCutShort words x) (sym same) h
 reported_is_cut_short words e reported (inr out) h = out_of_memory words reported out
 

@@ -31,8 +31,8 @@ newline = 10 ∷ []
 
 abbrev pub usage_text : List ℕ
 usage_text =
-    codes "usage: lookup [--from-1] LINE COL | tokens | rewrite | flatten | compose FILE | shift ROWS | trace [--from-1] FILE"
-    ++ newline
+    codes "usage: lookup [--from-1] LINE COL | tokens | rewrite | flatten | compose FILE | shift ROWS"
+    ++ codes " | trace [--from-1] FILE" ++ newline
 
 -- the text of a token, with its original line and column counted from `first`; `none` if there is no token
 abbrev pub found_text : (first : ℕ) → Option TokenValue → List ℕ
@@ -105,8 +105,10 @@ Returns Tokens (index _ _) _ answer = answer ≡ Err IncompatibleSourceMap
 Returns Rewrite (leaf l) _ answer = PrintsMap (leaf (rewritten_leaf l)) answer
 Returns Rewrite (index _ _) _ answer = answer ≡ Err IncompatibleSourceMap
 Returns Flatten (leaf _) _ answer = answer ≡ Err IncompatibleSourceMap
-Returns Flatten (index parts ss) _ answer = Then (FlatAnswer (index parts ss)) (λ m a. PrintsMap (leaf (regular m)) a) answer
-Returns (Compose _) t adjustment answer = Then (λ a. a ≡ adjusted_by t adjustment) (λ m a. PrintsMap (leaf (regular m)) a) answer
+Returns Flatten (index parts ss) _ answer =
+    Then (FlatAnswer (index parts ss)) (λ m a. PrintsMap (leaf (regular m)) a) answer
+Returns (Compose _) t adjustment answer =
+    Then (λ a. a ≡ adjusted_by t adjustment) (λ m a. PrintsMap (leaf (regular m)) a) answer
 Returns (Shift _) (leaf _) _ answer = answer ≡ Err IncompatibleSourceMap
 Returns (Shift rows) (index parts ss) _ answer = ShiftAnswer rows parts (section_list ss) answer
 Returns (Trace _ _) _ _ _ = ⊥
@@ -119,7 +121,8 @@ FileDecodes (Err e) decoded = decoded ≡ Err e
 -- the output of a command for a map, or the first error; the file holds the adjustment of `compose` or the positions
 -- of `trace`
 abbrev pub ReturnsWithFile : Result (List ℕ) Error → Command → MapTree → Result (List ℕ) Error → Type 0
-ReturnsWithFile file (Compose path) t answer = Then (FileDecodes file) (λ other a. Returns (Compose path) t (Some other) a) answer
+ReturnsWithFile file (Compose path) t answer =
+    Then (FileDecodes file) (λ other a. Returns (Compose path) t (Some other) a) answer
 ReturnsWithFile file (Trace counting _) t answer = answer ≡ traced (first_of counting) t file
 ReturnsWithFile file command t answer = Returns command t None answer
 

@@ -3,11 +3,13 @@ ghost use Rattle.std.specs.Prelude.{◌≡◌, ◌++◌, MatchResult, None, Some
 ghost use Rattle.sourcemap.specs.Answer.{IsAnswer};
 ghost use Rattle.sourcemap.specs.AnyMap.{map_tree};
 ghost use Rattle.sourcemap.specs.Hermes.{hermes_value};
-ghost use Rattle.sourcemap.specs.Token.{token_value};
+ghost use Rattle.sourcemap.specs.Token.{meaning_of_token, token_value};
 ghost use Rattle.sourcemap.specs.Trees.{hermes, leaf, regular};
 ghost use Rattle.sourcemap.specs.declared.errors.Error.TheVariants.{OutOfMemory};
 ghost use Rattle.sourcemap_cli.specs.Command.{IsOfMaps, TakesAdjustment};
-ghost use Rattle.sourcemap_cli.specs.Program.{IsJsonLine, Returns, range_mark, token_line};
+ghost use Rattle.sourcemap_trace.specs.Positions.{first_of};
+ghost use Rattle.sourcemap_trace.specs.Trace.{meaning_text};
+ghost use Rattle.sourcemap_cli.specs.Program.{IsJsonLine, Returns, newline, range_mark, token_line};
 ghost use Rattle.sourcemap_cli.specs.declared.command.Command.TheVariants.{Compose, Flatten, Lookup, Rewrite, Shift, Tokens};
 
 use crate::command::Command;
@@ -17,6 +19,19 @@ use sourcemap_json_write::writing::value_to_string;
 use sourcemap_trace::{Counting, push_found};
 use std::alloc::Global;
 use std::rt::Files;
+
+// The text of the token, or `none`, and a newline.
+fn found_line(alloc: Global, found: Option<Token<'_>>, counting: Counting) -> Result<String>
+    ensures { MatchResult result
+        (λ text. string_bytes text
+        ≡ meaning_text (first_of counting) (option_map meaning_of_token found) ++ newline)
+        (λ e. e ≡ OutOfMemory) }
+{
+    let mut text = String::new(alloc);
+    push_found(&mut text, found, counting)?;
+    text.push_str("\n")?;
+    Ok(text)
+}
 
 fn lookup_line(
     alloc: Global,
@@ -28,10 +43,7 @@ fn lookup_line(
     ensures { IsAnswer string_bytes
         (Returns (Lookup counting line col) (map_tree map.now) None) result }
 {
-    let mut text = String::new(alloc);
-    push_found(&mut text, map.lookup_token(line, col), counting)?;
-    text.push_str("\n")?;
-    Ok(text)
+    found_line(alloc, map.lookup_token(line, col), counting)
 }
 
 fn range_mark(token: &Token<'_>) -> &'static str

@@ -15,13 +15,16 @@ use Rattle.sourcemap_trace.proofs.PositionsLemmas.{next_line}
 -- let `rest` be not empty, let `new` be `old` followed by the answer to the first line of `rest`, and let `later` be
 -- the other lines. Then `new` followed by the answers to `later` equals `old` followed by the answers to `rest`
 pub first_line_answered : (first : ℕ) (says : ℕ × ℕ → Option Meaning) (rest later old new : List ℕ) (position : Option (ℕ × ℕ))
-    → 0 < length rest → position ≡ position_of first (before_first is_newline rest) → later ≡ after_first is_newline rest
+    → 0 < length rest → position ≡ position_of first (before_first is_newline rest)
+    → later ≡ after_first is_newline rest
     → new ≡ old ++ (answer_at first says position ++ codes "\n")
     → new ++ trace_from first says later ≡ old ++ trace_from first says rest
 first_line_answered first says rest later old new position some named others pushed =
-    let answers : trace_from first says rest ≡ (answer_at first says position ++ codes "\n") ++ trace_from first says later =
+    let answers : trace_from first says rest
+    ≡ (answer_at first says position ++ codes "\n") ++ trace_from first says later =
     rw (next_line rest some, named, others) refl in
-    rw (pushed, answers, append_assoc old (answer_at first says position ++ codes "\n") (trace_from first says later)) refl
+    rw (pushed, answers, append_assoc old (answer_at first says position ++ codes "\n") (trace_from first says later))
+    refl
 
 -- maps with the same meaning give the same answers
 pub traces_alike : (s t : MapTree) (positions : List ℕ) → MeansTheSame s t
@@ -51,6 +54,7 @@ flat_at t m (Some p) like other = by_meaning (meaning t p) (like p) other
     by_meaning None like other = absurd (other refl)
     by_meaning (Some it) like other = ap (meaning_text 0) like
 
-pub flat_alike : (t : MapTree) (m : MapValue) (line : List ℕ) → AnswersLike t m → answer_to (meaning t) line ≢ codes "none"
+pub flat_alike : (t : MapTree) (m : MapValue) (line : List ℕ) → AnswersLike t m
+    → answer_to (meaning t) line ≢ codes "none"
     → answer_to (meaning (leaf (regular m))) line ≡ answer_to (meaning t) line
 flat_alike t m line like other = flat_at t m (position_of 0 line) like other

@@ -33,7 +33,8 @@ answer_from first meaning line = answer_at first meaning (position_of first line
 
 -- the answers to all lines, each with a newline
 abbrev pub trace_from : (first : ℕ) → (ℕ × ℕ → Option Meaning) → List ℕ → List ℕ
-trace_from first meaning positions = flat_map (λ line. answer_from first meaning line ++ codes "\n") (lines_of positions)
+trace_from first meaning positions =
+    flat_map (λ line. answer_from first meaning line ++ codes "\n") (lines_of positions)
 
 -- the answer to a line, and the answers to all lines, counted from 0
 abbrev pub answer_to : (ℕ × ℕ → Option Meaning) → List ℕ → List ℕ

@@ -6,7 +6,8 @@ use Rattle.sourcemap_cli.proofs.program.reply_to_input.Goals as goal
 
 pub returns-in_ok-bytes-in-Some-clause-answer : goal.returns-in_ok-bytes-in-Some-clause-answer
 returns-in_ok-bytes-in-Some-clause-answer g c =
-    reply_of_reader (map string_bytes c.args.words.now) (g.R.Read.remaining c.args.input.now) c.in_ok-bytes-in-Some.bytes.items
+    reply_of_reader (map string_bytes c.args.words.now) (g.R.Read.remaining c.args.input.now)
+    c.in_ok-bytes-in-Some.bytes.items
     c.into_reply.result (inr c.in_ok-bytes-in-Some.ensures)
     (reply_of_read_command (map string_bytes c.args.words.now) c.in_ok-bytes-in-Some.bytes.items c.in-Some.command
     c.execute_and_read_file-answer.result c.into_reply.result (rw c.in-Some.is at c.in_ok-command.ensures)
