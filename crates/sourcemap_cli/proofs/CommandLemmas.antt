@@ -25,16 +25,19 @@ verb_number verb =
 abbrev kind_of_words : List (List ℕ) → ℕ × ℕ
 kind_of_words words = (verb_number (get_or words 0 []), length words)
 
+-- one word more if lines and columns count from 1
+abbrev with_flag : Counting → ℕ → ℕ
+with_flag From0 words = words
+with_flag From1 words = words + 1
+
 abbrev kind_of : Command → ℕ × ℕ
-kind_of (Lookup From0 _ _) = (1, 3)
-kind_of (Lookup From1 _ _) = (1, 4)
+kind_of (Lookup counting _ _) = (1, with_flag counting 3)
 kind_of Tokens = (2, 1)
 kind_of Rewrite = (3, 1)
 kind_of Flatten = (4, 1)
 kind_of (Compose _) = (5, 2)
 kind_of (Shift _) = (6, 2)
-kind_of (Trace From0 _) = (7, 2)
-kind_of (Trace From1 _) = (7, 3)
+kind_of (Trace counting _) = (7, with_flag counting 2)
 
 words_of_kind : (words : List (List ℕ)) (c : Command) → AskFor words c → kind_of_words words ≡ kind_of c
 words_of_kind words (Lookup From0 line col) (l, c, is, at_line, at_col) = ap kind_of_words is
@@ -46,6 +49,12 @@ words_of_kind words (Compose path) is = ap kind_of_words is
 words_of_kind words (Shift rows) (r, is, number) = ap kind_of_words is
 words_of_kind words (Trace From0 path) (is, other) = ap kind_of_words is
 words_of_kind words (Trace From1 path) (is, other) = ap kind_of_words is
+
+-- as `words_of_kind`, for each of the two numbers
+kind_is : (words : List (List ℕ)) (c : Command) → AskFor words c
+    → (verb_number (get_or words 0 []) ≡ (kind_of c).0) × (length words ≡ (kind_of c).1)
+kind_is words c asked =
+    (ap (λ kind. kind.0) (words_of_kind words c asked), ap (λ kind. kind.1) (words_of_kind words c asked))
 
 -- the word at an index of equal words
 same_word : (i : ℕ) (a b : List (List ℕ)) → a ≡ b → get_or a i [] ≡ get_or b i []
@@ -68,10 +77,11 @@ module _ (line col : List ℕ) where
       (subst (λ w. IsNumber 1 w column)
       (sym (same_word 3 (codes "lookup" ∷ from_1 ∷ line ∷ col ∷ []) (codes "lookup" ∷ from_1 ∷ l ∷ c ∷ []) is)) at_col)
   no_lookup From0 none command asked =
-      absurd (let no : (1, 3) ≡ kind_of command = words_of_kind (codes "lookup" ∷ line ∷ col ∷ []) command asked in cc)
+      absurd (let no : (1 ≡ (kind_of command).0) × (3 ≡ (kind_of command).1) =
+      kind_is (codes "lookup" ∷ line ∷ col ∷ []) command asked in cc)
   no_lookup From1 none command asked =
-      absurd (let no : (1, 4) ≡ kind_of command =
-      words_of_kind (codes "lookup" ∷ from_1 ∷ line ∷ col ∷ []) command asked in cc)
+      absurd (let no : (1 ≡ (kind_of command).0) × (4 ≡ (kind_of command).1) =
+      kind_is (codes "lookup" ∷ from_1 ∷ line ∷ col ∷ []) command asked in cc)
 
 pub no_shift : (rows : List ℕ) → ((n : ℕ) → ¬ IsNumber 0 rows n) → (command : Command)
     → ¬ AskFor (codes "shift" ∷ rows ∷ []) command
@@ -79,7 +89,8 @@ no_shift rows none (Shift n) (r, is, number) =
     none n
     (subst (λ w. IsNumber 0 w n) (sym (same_word 1 (codes "shift" ∷ rows ∷ []) (codes "shift" ∷ r ∷ []) is)) number)
 no_shift rows none command asked =
-    absurd (let no : (6, 2) ≡ kind_of command = words_of_kind (codes "shift" ∷ rows ∷ []) command asked in cc)
+    absurd (let no : (6 ≡ (kind_of command).0) × (2 ≡ (kind_of command).1) =
+    kind_is (codes "shift" ∷ rows ∷ []) command asked in cc)
 
 -- `--from-1` is no file of `trace`
 pub no_trace : (file : List ℕ) (counting : Counting) → file ≡ from_1 → (command : Command)
@@ -90,9 +101,11 @@ no_trace file From1 flag (Trace From1 path) (is, other) =
     other (sym (same_word 2 (codes "trace" ∷ from_1 ∷ file ∷ []) (codes "trace" ∷ from_1 ∷ string_bytes path ∷ []) is)
     ∙ flag)
 no_trace file From0 flag command asked =
-    absurd (let no : (7, 2) ≡ kind_of command = words_of_kind (codes "trace" ∷ file ∷ []) command asked in cc)
+    absurd (let no : (7 ≡ (kind_of command).0) × (2 ≡ (kind_of command).1) =
+    kind_is (codes "trace" ∷ file ∷ []) command asked in cc)
 no_trace file From1 flag command asked =
-    absurd (let no : (7, 3) ≡ kind_of command = words_of_kind (codes "trace" ∷ from_1 ∷ file ∷ []) command asked in cc)
+    absurd (let no : (7 ≡ (kind_of command).0) × (3 ≡ (kind_of command).1) =
+    kind_is (codes "trace" ∷ from_1 ∷ file ∷ []) command asked in cc)
 
 pub trace_asked : (file : List ℕ) (counting : Counting) (path : String Global) → string_bytes path ≡ file
     → file ≢ from_1
@@ -101,15 +114,15 @@ trace_asked file counting path is other =
     (ap (λ word. counted_words (codes "trace") counting (word ∷ [])) (sym is), λ flag. other (sym is ∙ flag))
 
 pub command_once : (words : List (List ℕ)) (a b : Command) → AskFor words a → AskFor words b → IsSameCommand a b
-command_once words (Lookup From0 row col) (Lookup From0 row' col') (l, c, is, at_row, at_col) (l', c', is', at_row', at_col') =
+command_once words (Lookup From0 row col) (Lookup From0 row' col') (l, c, is, of_l, of_c) (l', c', is', of_l', of_c') =
     let words : codes "lookup" ∷ l ∷ c ∷ [] ≡ codes "lookup" ∷ l' ∷ c' ∷ [] = sym is ∙ is' in
-    let e : row ≡ row' = number_once 0 l l' row row' (same_word 1 _ _ words) at_row at_row' in
-    let f : col ≡ col' = number_once 0 c c' col col' (same_word 2 _ _ words) at_col at_col' in
+    let e : row ≡ row' = number_once 0 l l' row row' (same_word 1 _ _ words) of_l of_l' in
+    let f : col ≡ col' = number_once 0 c c' col col' (same_word 2 _ _ words) of_c of_c' in
     cc
-command_once words (Lookup From1 row col) (Lookup From1 row' col') (l, c, is, at_row, at_col) (l', c', is', at_row', at_col') =
+command_once words (Lookup From1 row col) (Lookup From1 row' col') (l, c, is, of_l, of_c) (l', c', is', of_l', of_c') =
     let words : codes "lookup" ∷ from_1 ∷ l ∷ c ∷ [] ≡ codes "lookup" ∷ from_1 ∷ l' ∷ c' ∷ [] = sym is ∙ is' in
-    let e : row ≡ row' = number_once 1 l l' row row' (same_word 2 _ _ words) at_row at_row' in
-    let f : col ≡ col' = number_once 1 c c' col col' (same_word 3 _ _ words) at_col at_col' in
+    let e : row ≡ row' = number_once 1 l l' row row' (same_word 2 _ _ words) of_l of_l' in
+    let f : col ≡ col' = number_once 1 c c' col col' (same_word 3 _ _ words) of_c of_c' in
     cc
 command_once words (Shift rows) (Shift rows') (r, is, at_rows) (r', is', at_rows') =
     let words : codes "shift" ∷ r ∷ [] ≡ codes "shift" ∷ r' ∷ [] = sym is ∙ is' in
@@ -128,4 +141,7 @@ command_once words Tokens Tokens p q = refl
 command_once words Rewrite Rewrite p q = refl
 command_once words Flatten Flatten p q = refl
 command_once words a b p q =
-    absurd (let no : kind_of a ≡ kind_of b = sym (words_of_kind words a p) ∙ words_of_kind words b q in cc)
+    let of_a = kind_is words a p in
+    let of_b = kind_is words b q in
+    absurd (let verbs : (kind_of a).0 ≡ (kind_of b).0 = sym of_a.0 ∙ of_b.0 in
+    let counts : (kind_of a).1 ≡ (kind_of b).1 = sym of_a.1 ∙ of_b.1 in cc)
