@@ -42,6 +42,7 @@ INDEX = ('{"file":"f","sections":[{"offset":{"line":0,"column":0},"map":{"source
 LINKED = '{"sections":[{"offset":{"line":1,"column":4},"url":"u"}]}'
 LATER = '{"sources":["t.js"],"mappings":"EAAA,EAAI"}'
 POSITIONS = '0:5\n0:18\nx\n1:0\n\n0:4294967296\n7:7'
+POSITIONS_FROM_1 = '1:6\n1:19\nx\n2:1\n\n0:1\n8:8'
 
 # the texts of the errors EIO and ENOSPC
 READ_ERROR = b'Input/output error (os error 5)\n'
@@ -57,6 +58,7 @@ CASES = [
     Case('shift 2', INDEX), Case('shift 4294967295', INDEX),
     Case('compose FILE', MAP, LATER), Case('compose FILE', FULL, MAP), Case('compose FILE', MAP, INDEX),
     Case('trace FILE', MAP, POSITIONS), Case('trace FILE', INDEX, POSITIONS),
+    Case('lookup --from-1 1 6', MAP), Case('trace --from-1 FILE', INDEX, POSITIONS_FROM_1),
     Case('lookup 0 0', ")]}'\r\n" + MAP), Case('lookup 0 0', ")]}'\r" + MAP), Case('lookup 0 0', '[]'),
     Case('lookup 0 0', '{"mappings":"A!"}'), Case('lookup 0', MAP), Case('compose gone.map', MAP),
 ]

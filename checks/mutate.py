@@ -14,9 +14,9 @@ the status is 0 or 1. One reason is an output with too many lines for `rules.py`
 `out of memory` and end with status 1, because a run has 256 MB of memory.
 
 With --reference, each case of a command also runs on PROGRAM, a built program over the crate (`reference/`). The script
-compares no case of `trace`, which the reference does not have, and no run whose status is not 0 or 1. Each difference
-must have a reason among those of `docs/DIFFERENCES.md`. Without a reason it is printed as UNEXPLAINED, and the case
-fails.
+compares no case of `trace` and of `--from-1`, which the reference does not have, and no run whose status is not 0 or 1.
+Each difference must have a reason among those of `docs/DIFFERENCES.md`. Without a reason it is printed as UNEXPLAINED,
+and the case fails.
 
 At most 50 failures are printed, each with the number of its case. `--only CASE`, with the same seed, runs this case
 alone, and prints its inputs, the expected result and the actual result in full. The script counts how cases ended,
@@ -41,7 +41,7 @@ HERE = pathlib.Path(__file__).resolve().parent
 CHUNK = 500
 # the fraction of cases that make calls; the others run commands
 CALLS_SHARE = 0.25
-EDGES = [0, 1, 2, 5, 31, 32, 2**31 - 1, 2**31, LAST - 1, LAST, LAST + 1, 2**63, 2**64, -1]
+EDGES = [0, 1, 2, 5, 31, 32, 2**31 - 1, 2**31, LAST - 1, LAST, LAST + 1, LAST + 2, 2**63, 2**64, -1]
 TEXTS = ['a.js', 'b.js', '/a/b/x.js', '/a/b/y.js', '', 'http://x.com/c.js', 'https:d', '../e.js', '~/f.js', 'é👌', '\\"\n\t\x01',
          'webpack:///g', 'C:\\h.js', 'a.js']
 NAMES = ['x', 'alert', '', 'é', 'x', '结', 'a b', 7, -3, 1.5, True, None, 2**64 - 1, 2**64, [], {'a': 1}]
@@ -250,8 +250,9 @@ def positions(chance):
 
 def words_of(chance, path):
     kind = chance.random()
+    from_1 = [rules.FROM_1] * (chance.random() < 0.3)
     if kind < 0.2:
-        return ['lookup', number(chance), number(chance)]
+        return ['lookup', *from_1, number(chance), number(chance)]
     if kind < 0.35:
         return ['tokens']
     if kind < 0.5:
@@ -263,10 +264,12 @@ def words_of(chance, path):
     if kind < 0.88:
         return ['compose', path]
     if kind < 0.98:
-        return ['trace', path]
-    words = [chance.choice(['lookup', 'tokens', 'trace', 'Shift', '', 'é']) for _ in range(chance.choice([1, 2, 3]))]
-    # `trace` with one more word is a valid command that would open a missing file. With twice the words it is invalid.
-    return words + words if words[0] == 'trace' and len(words) == 2 else words
+        return ['trace', *from_1, path]
+    words = [chance.choice(['lookup', 'tokens', 'trace', 'Shift', '', 'é', rules.FROM_1])
+             for _ in range(chance.choice([1, 2, 3]))]
+    # `trace` with one or two more words may be a valid command that would open a missing file. With twice the words it
+    # is invalid.
+    return words + words if words[0] == 'trace' and len(words) > 1 else words
 
 
 MAPS = calls.Maps(whole, regular, lambda chance: map_bytes(chance, 'lookup'), with_changed_mappings, changed_bytes)
@@ -377,7 +380,7 @@ class Job:
         return failures, kinds
 
     def compare_with_reference(self, case, ended):
-        if case.words[0] == 'trace':
+        if case.words[0] == 'trace' or rules.FROM_1 in case.words:
             return 'no such word'
         self.asked = self.run(self.reference, case)
         return agreement(case, ended, self.asked)

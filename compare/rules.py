@@ -5,7 +5,9 @@ from composing import DIGITS, Token, compose_tokens, digits_of, without_repeats
 from hermes_maps import closest
 from index_maps import LAST, in_order, offset_of, absolute_position
 
-USAGE = ('usage: lookup LINE COL | tokens | rewrite | flatten | compose FILE | shift ROWS | trace FILE\n')
+USAGE = ('usage: lookup [--from-1] LINE COL | tokens | rewrite | flatten | compose FILE | shift ROWS'
+         ' | trace [--from-1] FILE\n')
+FROM_1 = '--from-1'
 NUMBER = re.compile(rb'[0-9]+\Z')
 HYPHENATED = re.compile(r'[0-9a-fA-F]{8}(-[0-9a-fA-F]{4}){3}-[0-9a-fA-F]{12}\Z')
 PLAIN = re.compile(r'[0-9a-fA-F]{32}\Z')
@@ -263,17 +265,17 @@ class Map:
     def name_of(self, token):
         return self.names[token.name] if token.name < len(self.names) else None
 
-    def token_text(self, token, distance=0):
+    def token_text(self, token, distance=0, first=0):
         source = self.resolved_source(token.source) if token.source < len(self.texts) else '<unknown>'
         name = self.name_of(token)
-        return (f'{source}:{token.source_line}:{min(token.source_column + distance, LAST)}'
+        return (f'{source}:{token.source_line + first}:{min(token.source_column + distance, LAST) + first}'
                 + ('' if name is None else f' name={name}'))
 
-    def lookup(self, line, column):
+    def lookup(self, line, column, first=0):
         token = closest(self.tokens, lambda it: it[:2], (line, column))
         if token is None:
             return 'none'
-        return self.token_text(token, column - token.column if token.is_range and token.line == line else 0)
+        return self.token_text(token, column - token.column if token.is_range and token.line == line else 0, first)
 
     def value(self):
         """The record that the map is written as."""
@@ -340,12 +342,12 @@ class Index:
         sections = [{**it, 'map': None if it['map'] is None else map_of(it['map'])} for it in found['sections']]
         self.sections = in_order(sections)
 
-    def lookup(self, line, column):
+    def lookup(self, line, column, first=0):
         at = closest(self.sections, offset_of, (line, column))
         if at is None or at['map'] is None:
             return 'none'
         offset = offset_of(at)
-        return at['map'].lookup(line - offset[0], column - offset[1] if line == offset[0] else column)
+        return at['map'].lookup(line - offset[0], column - offset[1] if line == offset[0] else column, first)
 
     def flat(self):
         made = object.__new__(Map)
@@ -423,40 +425,49 @@ def adjust_map(found, other):
     return found
 
 
-def position_text(found, line):
-    numbers = line.split(b':')
-    if len(numbers) != 2 or not all(NUMBER.match(number) and len(number.lstrip(b'0')) <= 10
-                                    and int(number) <= LAST for number in numbers):
-        return 'bad position'
-    return found.lookup(*map(int, numbers))
+def number_of(digits, first=0):
+    """The number that a text gives, counted from 0. The text counts from `first`. None if it gives no number."""
+    if not NUMBER.match(digits) or len(digits.lstrip(b'0')) > 10 or not first <= int(digits) <= LAST + first:
+        return None
+    return int(digits) - first
 
 
-def trace_text(found, positions):
+def position_text(found, line, first):
+    numbers = [number_of(digits, first) for digits in line.split(b':')]
+    return 'bad position' if len(numbers) != 2 or None in numbers else found.lookup(*numbers, first)
+
+
+def trace_text(found, positions, first):
     lines = positions.split(b'\n')
-    return ''.join(position_text(found, line) + '\n' for line in (lines if lines[-1] else lines[:-1]))
+    return ''.join(position_text(found, line, first) + '\n' for line in (lines if lines[-1] else lines[:-1]))
 
 
-def number_of(word):
-    word = word.encode('utf-8', 'surrogateescape')
-    return int(word) if NUMBER.match(word) and len(word.lstrip(b'0')) <= 10 and int(word) <= LAST else None
+def without_from_1(words):
+    """The words without `--from-1`, and whether positions count from 0 or from 1."""
+    if words[:1] in (['lookup'], ['trace']) and words[1:2] == [FROM_1]:
+        return words[:1] + words[2:], 1
+    return words, 0
 
 
 def output_of(words, data, file):
     """The output of a command, or None if its words are not valid. Raises `Refusal` if the command fails."""
-    numbers = [number_of(word) for word in words[1:]]
+    words, first = without_from_1(words)
+    numbers = [number_of(word.encode('utf-8', 'surrogateescape'), first) for word in words[1:]]
     verb = words[0] if words else None
     known = {'lookup': 2, 'tokens': 0, 'rewrite': 0, 'flatten': 0, 'compose': 1, 'shift': 1, 'trace': 1}
     if known.get(verb) != len(numbers) or verb in ('lookup', 'shift') and None in numbers:
         return None
+    if verb == 'trace' and words[1] == FROM_1:
+        return None
     found = decode_map(data)
     if verb == 'lookup':
-        return found.lookup(*numbers) + '\n'
+        return found.lookup(*numbers, first) + '\n'
     if verb == 'tokens':
         return tokens_text(found)
     if verb == 'compose':
         return line_of(adjust_map(found, decode_map(file)))
     if verb == 'trace':
-        return trace_text(found, file)
+        return trace_text(found, file, first)
     if (verb == 'rewrite') != isinstance(found, Map):
         raise incompatible()
     if verb == 'shift':

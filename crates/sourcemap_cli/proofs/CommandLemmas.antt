@@ -1,78 +1,147 @@
 -- Words ask for at most one command.
-use Rattle.std.proofs.Common.{◌≡◌, ℕ, List, [], Bool, true, false, bytes_eq, codes, get_or, string_bytes, refl, sym, ◌∙◌, ap}
+use Rattle.std.proofs.Common.{◌≡◌, ◌≢◌, Global, String, ℕ, ◌+◌, List, [], ◌∷◌, if◌then◌else◌, bytes_eq, codes, get_or, length, string_bytes, refl, subst, sym, ◌∙◌, ap, arith}
 use Rattle.std.specs.Str.Parse.{digits_value}
-use Rattle.sourcemap_cli.specs.Command.{IsNumber, AskFor, IsSameCommand}
+use Rattle.sourcemap_trace.specs.Positions.{first_of}
+use Rattle.sourcemap_trace.specs.declared.positions.Counting.{Counting}
+use Rattle.sourcemap_trace.specs.declared.positions.Counting.TheVariants.{From0, From1}
+use Rattle.sourcemap_cli.specs.Command.{AskFor, IsNumber, IsSameCommand, counted_words, from_1}
 use Rattle.sourcemap_cli.specs.declared.command.Command.{Command}
 use Rattle.sourcemap_cli.specs.declared.command.Command.TheVariants.{Lookup, Tokens, Rewrite, Flatten, Compose, Shift, Trace}
 
-number_once : (a b : List ℕ) (m n : ℕ) → a ≡ b → IsNumber a m → IsNumber b n → m ≡ n
-number_once a b m n same p q = p.2 ∙ ap (digits_value 10) same ∙ sym q.2
+-- equal words give the same number
+number_once : (first : ℕ) (a b : List ℕ) (m n : ℕ) → a ≡ b → IsNumber first a m → IsNumber first b n → m ≡ n
+number_once first a b m n same p q =
+    let values : first + m ≡ first + n = sym p.1 ∙ ap (digits_value 10) same ∙ q.1 in
+    omega (arith, values)
 
--- whether `word` is the first of `words`. Distinguishes two commands with equally many words and equally long names
-abbrev begins_with : List ℕ → List (List ℕ) → Bool
-begins_with word words = bytes_eq (get_or words 0 []) word
+-- the number of a verb. It distinguishes verbs by computation
+abbrev verb_number : List ℕ → ℕ
+verb_number verb =
+    if bytes_eq verb (codes "lookup") then 1 else if bytes_eq verb (codes "tokens") then 2
+    else if bytes_eq verb (codes "rewrite") then 3 else if bytes_eq verb (codes "flatten") then 4
+    else if bytes_eq verb (codes "compose") then 5 else if bytes_eq verb (codes "shift") then 6 else 7
+
+-- the number of the first word, and the number of words
+abbrev kind_of_words : List (List ℕ) → ℕ × ℕ
+kind_of_words words = (verb_number (get_or words 0 []), length words)
+
+-- one word more if lines and columns count from 1
+abbrev with_flag : Counting → ℕ → ℕ
+with_flag From0 words = words
+with_flag From1 words = words + 1
+
+abbrev kind_of : Command → ℕ × ℕ
+kind_of (Lookup counting _ _) = (1, with_flag counting 3)
+kind_of Tokens = (2, 1)
+kind_of Rewrite = (3, 1)
+kind_of Flatten = (4, 1)
+kind_of (Compose _) = (5, 2)
+kind_of (Shift _) = (6, 2)
+kind_of (Trace counting _) = (7, with_flag counting 2)
+
+words_of_kind : (words : List (List ℕ)) (c : Command) → AskFor words c → kind_of_words words ≡ kind_of c
+words_of_kind words (Lookup From0 line col) (l, c, is, at_line, at_col) = ap kind_of_words is
+words_of_kind words (Lookup From1 line col) (l, c, is, at_line, at_col) = ap kind_of_words is
+words_of_kind words Tokens is = ap kind_of_words is
+words_of_kind words Rewrite is = ap kind_of_words is
+words_of_kind words Flatten is = ap kind_of_words is
+words_of_kind words (Compose path) is = ap kind_of_words is
+words_of_kind words (Shift rows) (r, is, number) = ap kind_of_words is
+words_of_kind words (Trace From0 path) (is, other) = ap kind_of_words is
+words_of_kind words (Trace From1 path) (is, other) = ap kind_of_words is
+
+-- as `words_of_kind`, for each of the two numbers
+kind_is : (words : List (List ℕ)) (c : Command) → AskFor words c
+    → (verb_number (get_or words 0 []) ≡ (kind_of c).0) × (length words ≡ (kind_of c).1)
+kind_is words c asked =
+    (ap (λ kind. kind.0) (words_of_kind words c asked), ap (λ kind. kind.1) (words_of_kind words c asked))
+
+-- the word at an index of equal words
+same_word : (i : ℕ) (a b : List (List ℕ)) → a ≡ b → get_or a i [] ≡ get_or b i []
+same_word i a b is = ap (λ words. get_or words i []) is
+
+module _ (line col : List ℕ) where
+  pub no_lookup : (counting : Counting)
+      → ((l c : ℕ) → IsNumber (first_of counting) line l → ¬ IsNumber (first_of counting) col c)
+      → (command : Command) → ¬ AskFor (counted_words (codes "lookup") counting (line ∷ col ∷ [])) command
+  no_lookup From0 none (Lookup From0 row column) (l, c, is, at_line, at_col) =
+      none row column
+      (subst (λ w. IsNumber 0 w row)
+      (sym (same_word 1 (codes "lookup" ∷ line ∷ col ∷ []) (codes "lookup" ∷ l ∷ c ∷ []) is)) at_line)
+      (subst (λ w. IsNumber 0 w column)
+      (sym (same_word 2 (codes "lookup" ∷ line ∷ col ∷ []) (codes "lookup" ∷ l ∷ c ∷ []) is)) at_col)
+  no_lookup From1 none (Lookup From1 row column) (l, c, is, at_line, at_col) =
+      none row column
+      (subst (λ w. IsNumber 1 w row)
+      (sym (same_word 2 (codes "lookup" ∷ from_1 ∷ line ∷ col ∷ []) (codes "lookup" ∷ from_1 ∷ l ∷ c ∷ []) is)) at_line)
+      (subst (λ w. IsNumber 1 w column)
+      (sym (same_word 3 (codes "lookup" ∷ from_1 ∷ line ∷ col ∷ []) (codes "lookup" ∷ from_1 ∷ l ∷ c ∷ []) is)) at_col)
+  no_lookup From0 none command asked =
+      absurd (let no : (1 ≡ (kind_of command).0) × (3 ≡ (kind_of command).1) =
+      kind_is (codes "lookup" ∷ line ∷ col ∷ []) command asked in cc)
+  no_lookup From1 none command asked =
+      absurd (let no : (1 ≡ (kind_of command).0) × (4 ≡ (kind_of command).1) =
+      kind_is (codes "lookup" ∷ from_1 ∷ line ∷ col ∷ []) command asked in cc)
+
+pub no_shift : (rows : List ℕ) → ((n : ℕ) → ¬ IsNumber 0 rows n) → (command : Command)
+    → ¬ AskFor (codes "shift" ∷ rows ∷ []) command
+no_shift rows none (Shift n) (r, is, number) =
+    none n
+    (subst (λ w. IsNumber 0 w n) (sym (same_word 1 (codes "shift" ∷ rows ∷ []) (codes "shift" ∷ r ∷ []) is)) number)
+no_shift rows none command asked =
+    absurd (let no : (6 ≡ (kind_of command).0) × (2 ≡ (kind_of command).1) =
+    kind_is (codes "shift" ∷ rows ∷ []) command asked in cc)
+
+-- `--from-1` is no file of `trace`
+pub no_trace : (file : List ℕ) (counting : Counting) → file ≡ from_1 → (command : Command)
+    → ¬ AskFor (counted_words (codes "trace") counting (file ∷ [])) command
+no_trace file From0 flag (Trace From0 path) (is, other) =
+    other (sym (same_word 1 (codes "trace" ∷ file ∷ []) (codes "trace" ∷ string_bytes path ∷ []) is) ∙ flag)
+no_trace file From1 flag (Trace From1 path) (is, other) =
+    other (sym (same_word 2 (codes "trace" ∷ from_1 ∷ file ∷ []) (codes "trace" ∷ from_1 ∷ string_bytes path ∷ []) is)
+    ∙ flag)
+no_trace file From0 flag command asked =
+    absurd (let no : (7 ≡ (kind_of command).0) × (2 ≡ (kind_of command).1) =
+    kind_is (codes "trace" ∷ file ∷ []) command asked in cc)
+no_trace file From1 flag command asked =
+    absurd (let no : (7 ≡ (kind_of command).0) × (3 ≡ (kind_of command).1) =
+    kind_is (codes "trace" ∷ from_1 ∷ file ∷ []) command asked in cc)
+
+pub trace_asked : (file : List ℕ) (counting : Counting) (path : String Global) → string_bytes path ≡ file
+    → file ≢ from_1
+    → AskFor (counted_words (codes "trace") counting (file ∷ [])) (Trace counting path)
+trace_asked file counting path is other =
+    (ap (λ word. counted_words (codes "trace") counting (word ∷ [])) (sym is), λ flag. other (sym is ∙ flag))
 
 pub command_once : (words : List (List ℕ)) (a b : Command) → AskFor words a → AskFor words b → IsSameCommand a b
-command_once words (Lookup line col) (Lookup line' col') (l, c, is, at_line, at_col) (l', c', is', at_line', at_col') =
-    let lines : l ≡ l' = cc in
-    let cols : c ≡ c' = cc in
-    let e : line ≡ line' = number_once l l' line line' lines at_line at_line' in
-    let f : col ≡ col' = number_once c c' col col' cols at_col at_col' in
+command_once words (Lookup From0 row col) (Lookup From0 row' col') (l, c, is, of_l, of_c) (l', c', is', of_l', of_c') =
+    let words : codes "lookup" ∷ l ∷ c ∷ [] ≡ codes "lookup" ∷ l' ∷ c' ∷ [] = sym is ∙ is' in
+    let e : row ≡ row' = number_once 0 l l' row row' (same_word 1 _ _ words) of_l of_l' in
+    let f : col ≡ col' = number_once 0 c c' col col' (same_word 2 _ _ words) of_c of_c' in
+    cc
+command_once words (Lookup From1 row col) (Lookup From1 row' col') (l, c, is, of_l, of_c) (l', c', is', of_l', of_c') =
+    let words : codes "lookup" ∷ from_1 ∷ l ∷ c ∷ [] ≡ codes "lookup" ∷ from_1 ∷ l' ∷ c' ∷ [] = sym is ∙ is' in
+    let e : row ≡ row' = number_once 1 l l' row row' (same_word 2 _ _ words) of_l of_l' in
+    let f : col ≡ col' = number_once 1 c c' col col' (same_word 3 _ _ words) of_c of_c' in
     cc
 command_once words (Shift rows) (Shift rows') (r, is, at_rows) (r', is', at_rows') =
-    let same : r ≡ r' = cc in
-    let e : rows ≡ rows' = number_once r r' rows rows' same at_rows at_rows' in
+    let words : codes "shift" ∷ r ∷ [] ≡ codes "shift" ∷ r' ∷ [] = sym is ∙ is' in
+    let e : rows ≡ rows' = number_once 0 r r' rows rows' (same_word 1 _ _ words) at_rows at_rows' in
     cc
 command_once words (Compose path) (Compose other) p q =
-    let same : string_bytes path ≡ string_bytes other = let words = sym p ∙ q in cc in
-    same
-command_once words (Compose path) (Lookup line col) p q = absurd (let no = sym p ∙ q.2 in cc)
-command_once words (Compose path) Tokens p q = absurd (let no = sym p ∙ q in cc)
-command_once words (Compose path) Rewrite p q = absurd (let no = sym p ∙ q in cc)
-command_once words (Compose path) Flatten p q = absurd (let no = sym p ∙ q in cc)
-command_once words (Compose path) (Shift rows) p q = absurd (let no = sym p ∙ q.1 in cc)
-command_once words (Compose path) (Trace other) p q = absurd (let no = sym p ∙ q in cc)
-command_once words (Trace path) (Trace other) p q =
-    let same : string_bytes path ≡ string_bytes other = let words = sym p ∙ q in cc in
-    same
-command_once words (Trace path) (Lookup line col) p q = absurd (let no = sym p ∙ q.2 in cc)
-command_once words (Trace path) Tokens p q = absurd (let no = sym p ∙ q in cc)
-command_once words (Trace path) Rewrite p q = absurd (let no = sym p ∙ q in cc)
-command_once words (Trace path) Flatten p q = absurd (let no = sym p ∙ q in cc)
-command_once words (Trace path) (Compose other) p q = absurd (let no = sym p ∙ q in cc)
-command_once words (Trace path) (Shift rows) p q =
-    absurd (let no : true ≡ false = ap (begins_with (codes "trace")) (sym p ∙ q.1) in cc)
-command_once words (Lookup line col) (Trace path) p q = absurd (let no = sym p.2 ∙ q in cc)
-command_once words Tokens (Trace path) p q = absurd (let no = sym p ∙ q in cc)
-command_once words Rewrite (Trace path) p q = absurd (let no = sym p ∙ q in cc)
-command_once words Flatten (Trace path) p q = absurd (let no = sym p ∙ q in cc)
-command_once words (Shift rows) (Trace path) p q =
-    absurd (let no : true ≡ false = ap (begins_with (codes "shift")) (sym p.1 ∙ q) in cc)
-command_once words (Lookup line col) (Compose path) p q = absurd (let no = sym p.2 ∙ q in cc)
-command_once words Tokens (Compose path) p q = absurd (let no = sym p ∙ q in cc)
-command_once words Rewrite (Compose path) p q = absurd (let no = sym p ∙ q in cc)
-command_once words Flatten (Compose path) p q = absurd (let no = sym p ∙ q in cc)
-command_once words (Shift rows) (Compose path) p q = absurd (let no = sym p.1 ∙ q in cc)
-command_once words (Lookup line col) Tokens p q = absurd (let no = sym q ∙ p.2 in cc)
-command_once words (Lookup line col) Rewrite p q = absurd (let no = sym q ∙ p.2 in cc)
-command_once words (Lookup line col) Flatten p q = absurd (let no = sym q ∙ p.2 in cc)
-command_once words (Lookup line col) (Shift rows) p q = absurd (let no = sym q.1 ∙ p.2 in cc)
-command_once words Tokens (Lookup line col) p q = absurd (let no = sym p ∙ q.2 in cc)
+    same_word 1 (codes "compose" ∷ string_bytes path ∷ []) (codes "compose" ∷ string_bytes other ∷ []) (sym p ∙ q)
+command_once words (Trace From0 path) (Trace From0 other) (p, r) (q, s) =
+    (refl, same_word 1 (codes "trace" ∷ string_bytes path ∷ []) (codes "trace" ∷ string_bytes other ∷ []) (sym p ∙ q))
+command_once words (Trace From1 path) (Trace From1 other) (p, r) (q, s) = (
+  refl,
+  same_word 2 (codes "trace" ∷ from_1 ∷ string_bytes path ∷ []) (codes "trace" ∷ from_1 ∷ string_bytes other ∷ [])
+      (sym p ∙ q),
+)
 command_once words Tokens Tokens p q = refl
-command_once words Tokens Rewrite p q = absurd (let no = sym p ∙ q in cc)
-command_once words Tokens Flatten p q = absurd (let no = sym p ∙ q in cc)
-command_once words Tokens (Shift rows) p q = absurd (let no = sym p ∙ q.1 in cc)
-command_once words Rewrite (Lookup line col) p q = absurd (let no = sym p ∙ q.2 in cc)
-command_once words Rewrite Tokens p q = absurd (let no = sym p ∙ q in cc)
 command_once words Rewrite Rewrite p q = refl
-command_once words Rewrite Flatten p q = absurd (let no : true ≡ false = ap (begins_with (codes "rewrite")) (sym p ∙ q) in cc)
-command_once words Rewrite (Shift rows) p q = absurd (let no = sym p ∙ q.1 in cc)
-command_once words Flatten (Lookup line col) p q = absurd (let no = sym p ∙ q.2 in cc)
-command_once words Flatten Tokens p q = absurd (let no = sym p ∙ q in cc)
-command_once words Flatten Rewrite p q = absurd (let no : false ≡ true = ap (begins_with (codes "rewrite")) (sym p ∙ q) in cc)
 command_once words Flatten Flatten p q = refl
-command_once words Flatten (Shift rows) p q = absurd (let no = sym p ∙ q.1 in cc)
-command_once words (Shift rows) (Lookup line col) p q = absurd (let no = sym p.1 ∙ q.2 in cc)
-command_once words (Shift rows) Tokens p q = absurd (let no = sym p.1 ∙ q in cc)
-command_once words (Shift rows) Rewrite p q = absurd (let no = sym p.1 ∙ q in cc)
-command_once words (Shift rows) Flatten p q = absurd (let no = sym p.1 ∙ q in cc)
+command_once words a b p q =
+    let of_a = kind_is words a p in
+    let of_b = kind_is words b q in
+    absurd (let verbs : (kind_of a).0 ≡ (kind_of b).0 = sym of_a.0 ∙ of_b.0 in
+    let counts : (kind_of a).1 ≡ (kind_of b).1 = sym of_a.1 ∙ of_b.1 in cc)

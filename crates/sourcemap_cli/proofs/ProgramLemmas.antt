@@ -1,5 +1,5 @@
 -- If the results of calls are as specified, so is the reply. If the reply is as specified, so is the output of a run.
-use Rattle.std.proofs.Common.{◌≡◌, ◌≢◌, ◌⊎◌, inl, inr, refl, sym, ap, subst, ◌∙◌, ℕ, List, [], ◌++◌, codes, Option, Some, None, Result, Ok, Err, IfSome, IsOkAnd, MatchOption, MatchResult, IfOk, string_bytes, String, Global, Vec}
+use Rattle.std.proofs.Common.{◌≡◌, ◌≢◌, ◌⊎◌, inl, inr, refl, sym, ap, subst, ◌∙◌, ℕ, List, [], ◌++◌, codes, Option, Some, None, option_map, Result, Ok, Err, IfSome, IsOkAnd, MatchOption, MatchResult, IfOk, string_bytes, String, Global, Vec}
 use Rattle.std.specs.IoError.{error_kind}
 use Rattle.std.specs.declared.io.Error.{Error as IoError}
 use Rattle.std.specs.declared.io.ErrorKind.TheVariants.{OutOfMemory as NoMemory}
@@ -11,13 +11,16 @@ use Rattle.sourcemap.specs.Reading.{IsSameError}
 use Rattle.sourcemap.specs.Errors.{error_text, FromIo}
 use Rattle.sourcemap.specs.Flat.{FlatAnswer}
 use Rattle.sourcemap.specs.Shift.{HaveRowsLeft, shifted}
+use Rattle.sourcemap.specs.Token.{TokenValue, says}
 use Rattle.sourcemap.specs.TreeDecoder.{Then, TreeDecodes}
-use Rattle.sourcemap.specs.Trees.{LeafMap, regular, hermes, MapTree, leaf, index, IndexParts, IndexValue, index_tree, MapSection, section_list, sections_from, meaning, IsInOrder}
+use Rattle.sourcemap.specs.Trees.{LeafMap, regular, hermes, MapTree, leaf, index, IndexParts, IndexValue, index_tree, MapSection, section_list, sections_from, lookup, IsInOrder}
 use Rattle.sourcemap.specs.Types.{MapValue}
 use Rattle.sourcemap.specs.declared.errors.Error.{Error}
 use Rattle.sourcemap.specs.declared.errors.Error.TheVariants.{BadJson, CannotFlatten, IncompatibleSourceMap, Io, OutOfMemory}
-use Rattle.sourcemap_index.specs.declared.family.DecodedMap.{DecodedMap}
-use Rattle.sourcemap_trace.specs.Trace.{trace_of}
+use Rattle.sourcemap.specs.declared.types.DecodedMap.{DecodedMap}
+use Rattle.sourcemap_trace.specs.Positions.{first_of}
+use Rattle.sourcemap_trace.specs.Trace.{meaning_text}
+use Rattle.sourcemap_trace.specs.declared.positions.Counting.{Counting}
 use Rattle.sourcemap_cli.specs.Command.{AskFor, IsOfMaps, IsSameCommand, TakesAdjustment}
 use Rattle.sourcemap_cli.specs.Program.{AskForNone, ReturnsOnBytes, Ending, answered, misused, Ends, FileDecodes, MayBeRead, MayEnd, IsCutShort, IsReply, IsReplyOf, IsReplyTo, IsPrinted, IsRefusal, IsWriteError, IsLookupLine, IsJsonLine, IsNotIndex, PrintsMap, Runs, Returns, ReturnsWithFile, ShiftAnswer, WithFile, adjusted_by, file_read, found_text, newline, rewritten_leaf, traced}
 use Rattle.sourcemap_cli.specs.declared.command.Command.{Command}
@@ -42,6 +45,24 @@ with_memory _ P is h = h
 
 -- From the output of a command to the reply.
 
+-- what is printed for a lookup depends on the meaning of the token that was found
+found_text_of : {X : Type 0} (view : X → TokenValue) (first : ℕ) (found : Option X)
+    → found_text first (option_map view found) ≡ meaning_text first (option_map (λ t. says (view t)) found)
+found_text_of view first None = refl
+found_text_of view first (Some t) = refl
+
+pub returns_looked_up : {X : Type 0} (view : X → TokenValue) (counting : Counting) (line col : ℕ) (t : MapTree)
+    (found : Option X) (r : Result (String Global) Error)
+    → MatchResult r
+    (λ text. string_bytes text ≡ meaning_text (first_of counting) (option_map (λ x. says (view x)) found) ++ newline)
+    (λ e. e ≡ OutOfMemory)
+    → (IsInOrder t → option_map view found ≡ lookup t (line, col))
+    → IsAnswer string_bytes (Returns (Lookup counting line col) t None) r
+returns_looked_up view counting line col t found (Ok text) is closest =
+    (option_map view found, is ∙ ap (λ text. text ++ newline) (sym (found_text_of view (first_of counting) found)), closest)
+returns_looked_up view counting line col t found (Err e) is closest =
+    no_memory e (Returns (Lookup counting line col) t None (Err e)) is
+
 -- if `r` is a JSON line of `t` or the error `OutOfMemory`, then `r` is an answer that `PrintsMap t` allows
 prints_map : (t : MapTree) (r : Result (String Global) Error)
     → MatchResult r (λ text. IsJsonLine t (string_bytes text)) (λ e. e ≡ OutOfMemory)
@@ -49,7 +70,8 @@ prints_map : (t : MapTree) (r : Result (String Global) Error)
 prints_map t (Ok text) h = h
 prints_map t (Err e) h = no_memory e (PrintsMap t (Err e)) h
 
-pub returns_rewritten : (l new : LeafMap) (t : MapTree) (r : Result (String Global) Error) → new ≡ rewritten_leaf l → t ≡ leaf new
+pub returns_rewritten : (l new : LeafMap) (t : MapTree) (r : Result (String Global) Error) → new ≡ rewritten_leaf l
+    → t ≡ leaf new
     → MatchResult r (λ text. IsJsonLine t (string_bytes text)) (λ e. e ≡ OutOfMemory)
     → IsAnswer string_bytes (Returns Rewrite (leaf l) None) r
 returns_rewritten l new t r is of h =
@@ -93,7 +115,8 @@ returns_adjusted path t other m u r made of h = then_prints (λ a. a ≡ adjuste
 pub returns_no_adjusted : (path : String Global) (t : MapTree) (other : Option MapTree) (e : Error)
     → UnlessMemory e (adjusted_by t other ≡ Err e) → UnlessMemory e (Returns (Compose path) t other (Err e))
 returns_no_adjusted path t other e h =
-    then_refused (λ a. a ≡ adjusted_by t other) (λ m a. PrintsMap (leaf (regular m)) a) e (UnlessMemory-weaker e (λ is. sym is) h)
+    then_refused (λ a. a ≡ adjusted_by t other) (λ m a. PrintsMap (leaf (regular m)) a) e
+    (UnlessMemory-weaker e (λ is. sym is) h)
 
 none_adjusted : (t : MapTree) → adjusted_by t None ≡ Err IncompatibleSourceMap
 none_adjusted (leaf (regular m)) = refl
@@ -109,11 +132,13 @@ says_of_two x (Compose path) t u r takes h = h path
 says_of_two x command t u r takes h = absurd cc
 
 -- the tree of `i` has the sections of `i`, so an answer for shifting these sections is an answer for shifting the tree
-returns_shift : (rows : ℕ) (i : IndexValue) (answer : Result (List ℕ) Error) → ShiftAnswer rows i.parts i.sections answer
+returns_shift : (rows : ℕ) (i : IndexValue) (answer : Result (List ℕ) Error)
+    → ShiftAnswer rows i.parts i.sections answer
     → Returns (Shift rows) (index_tree i) None answer
 returns_shift rows i answer h = subst (λ ss. ShiftAnswer rows i.parts ss answer) (sym (section_list-from i.sections)) h
 
-pub returns_shifted : (rows : ℕ) (i : IndexValue) (t : MapTree) (r : Result (String Global) Error) → HaveRowsLeft rows i.sections
+pub returns_shifted : (rows : ℕ) (i : IndexValue) (t : MapTree) (r : Result (String Global) Error)
+    → HaveRowsLeft rows i.sections
     → t ≡ index i.parts (sections_from (shifted rows i.sections))
     → MatchResult r (λ text. IsJsonLine t (string_bytes text)) (λ e. e ≡ OutOfMemory)
     → IsAnswer string_bytes (Returns (Shift rows) (index_tree i) None) r
@@ -126,34 +151,35 @@ pub returns_no_shift : (rows : ℕ) (i : IndexValue) → ¬ HaveRowsLeft rows i.
 returns_no_shift rows i past = returns_shift rows i (Err IncompatibleSourceMap) (inr (past, refl))
 
 -- flattening a map that is not an index map is an error
-pub no_index_flat : (t : MapTree) (e : Error) → (e ≡ IncompatibleSourceMap) × IsNotIndex t → UnlessMemory e (Returns Flatten t None (Err e))
+pub no_index_flat : (t : MapTree) (e : Error) → (e ≡ IncompatibleSourceMap) × IsNotIndex t
+    → UnlessMemory e (Returns Flatten t None (Err e))
 no_index_flat (leaf l) e (is, other) = rw is refl
 no_index_flat (index parts ss) e (is, other) = absurd other
 
 -- shifting a map that is not an index map is an error
-pub no_index_shift : (rows : ℕ) (t : MapTree) (e : Error) → (e ≡ IncompatibleSourceMap) × IsNotIndex t → UnlessMemory e (Returns (Shift rows) t None (Err e))
+pub no_index_shift : (rows : ℕ) (t : MapTree) (e : Error) → (e ≡ IncompatibleSourceMap) × IsNotIndex t
+    → UnlessMemory e (Returns (Shift rows) t None (Err e))
 no_index_shift rows (leaf l) e (is, other) = rw is refl
 no_index_shift rows (index parts ss) e (is, other) = absurd other
 
 -- every command but `trace` needs only maps
-pub of_maps : (command : Command) → ((path : String Global) → command ≢ Trace path) → IsOfMaps command
-of_maps (Trace path) other = absurd (other path refl)
+pub of_maps : (command : Command) → ((counting : Counting) (path : String Global) → command ≢ Trace counting path)
+    → IsOfMaps command
+of_maps (Trace counting path) other = absurd (other counting path refl)
 of_maps command other = tt
 
 -- Reading a file.
 
-pub with_file : (held : Option (Result (List ℕ) Error)) (P Q : Result (List ℕ) Error → Type 0)
-    → ((file : Result (List ℕ) Error) → P file → Q file) → WithFile held P → WithFile held Q
-with_file (Some file) P Q f h = f file h
-with_file None P Q f (file, may, h) = (file, may, f file h)
+pub with_file : (P Q : Result (List ℕ) Error → Type 0)
+    → ((file : Result (List ℕ) Error) → P file → Q file) → WithFile P → WithFile Q
+with_file P Q f (file, may, h) = (file, may, f file h)
 
-pub any_file : (held : Option (Result (List ℕ) Error)) (P : Result (List ℕ) Error → Type 0)
-    → ((file : Result (List ℕ) Error) → P file) → WithFile held P
-any_file (Some file) P f = f file
-any_file None P f = (Ok [], tt, f (Ok []))
+any_file : (P : Result (List ℕ) Error → Type 0) → ((file : Result (List ℕ) Error) → P file) → WithFile P
+any_file P f = (Ok [], tt, f (Ok []))
 
 pub may_be_read : (known : Option (List ℕ)) (r : Result (Vec ℕ Global) Error)
-    → MatchResult r (λ bytes. IfSome known (λ xs. bytes.items ≡ xs)) (λ e. UnlessReadFails e ⊥) → MayBeRead (file_read r)
+    → MatchResult r (λ bytes. IfSome known (λ xs. bytes.items ≡ xs)) (λ e. UnlessReadFails e ⊥)
+    → MayBeRead (file_read r)
 may_be_read known (Ok bytes) h = tt
 may_be_read known (Err e) h = h
 
@@ -163,129 +189,90 @@ may_not_open cause OutOfMemory h = tt
 may_not_open cause (Io kept) (same, other) = inr (refl, subst (λ x. error_kind x ≢ NoMemory) (sym same) other)
 may_not_open cause e h = absurd h
 
--- if `bytes` were read from the file, `FileDecodes` allows the result `r` of decoding `bytes`. If reading failed,
--- `FileDecodes` allows the read error (`file_of_error`)
-pub file_of_map : (held : Option (Result (List ℕ) Error)) (bytes : List ℕ) (r : Result DecodedMap Error)
-    → WithFile held (λ file. Ok bytes ≡ file) → IsAnswer map_tree (BytesDecode bytes) r
-    → WithFile held (λ file. IsAnswer map_tree (FileDecodes file) r)
-file_of_map held bytes r read h =
-    with_file held (λ file. Ok bytes ≡ file) (λ file. IsAnswer map_tree (FileDecodes file) r)
-    (λ file is. subst (λ x. IsAnswer map_tree (FileDecodes x) r) is h) read
-
-pub file_of_error : (held : Option (Result (List ℕ) Error)) (e : Error)
-    → WithFile held (λ file. Err e ≡ file) → WithFile held (λ file. UnlessMemory e (FileDecodes file (Err e)))
-file_of_error held e read =
-    with_file held (λ file. Err e ≡ file) (λ file. UnlessMemory e (FileDecodes file (Err e)))
-    (λ file is. subst (λ x. UnlessMemory e (FileDecodes x (Err e))) is (UnlessMemory-from e refl)) read
+-- a result that `Gives` states is an answer that is due
+pub answers_due : (r : Result (String Global) Error) (due : Result (List ℕ) Error) → Gives string_bytes r due
+    → IsAnswer string_bytes (λ a. a ≡ due) r
+answers_due (Ok text) due h = sym h
+answers_due (Err e) due h = UnlessMemory-weaker e (λ is. sym is) h
 
 -- if the file decodes to `u`, `compose` adjusts `t` by `u`. If the file cannot be read or decoded, `compose` returns
 -- the error (`composes_with_none`)
 pub composes_with : (path : String Global) (file : Result (List ℕ) Error) (t u : MapTree) (r : Result (String Global) Error)
     → FileDecodes file (Ok u) → IsAnswer string_bytes (Returns (Compose path) t (Some u)) r
     → IsAnswer string_bytes (ReturnsWithFile file (Compose path) t) r
-composes_with path file t u r is h = then_made (FileDecodes file) (λ other a. Returns (Compose path) t (Some other) a) u r is h
+composes_with path file t u r is h =
+    then_made (FileDecodes file) (λ other a. Returns (Compose path) t (Some other) a) u r is h
 
 pub composes_with_none : (path : String Global) (file : Result (List ℕ) Error) (t : MapTree) (e : Error)
     → UnlessMemory e (FileDecodes file (Err e)) → UnlessMemory e (ReturnsWithFile file (Compose path) t (Err e))
-composes_with_none path file t e is = then_refused (FileDecodes file) (λ other a. Returns (Compose path) t (Some other) a) e is
-
--- as `composes_with` and `composes_with_none`, for a file that is preloaded (`held`) or read
-pub composes_with_file : (held : Option (Result (List ℕ) Error)) (path : String Global) (t u : MapTree) (r : Result (String Global) Error)
-    → WithFile held (λ file. FileDecodes file (Ok u)) → IsAnswer string_bytes (Returns (Compose path) t (Some u)) r
-    → WithFile held (λ file. IsAnswer string_bytes (ReturnsWithFile file (Compose path) t) r)
-composes_with_file held path t u r is h =
-    with_file held (λ file. FileDecodes file (Ok u)) (λ file. IsAnswer string_bytes (ReturnsWithFile file (Compose path) t) r)
-    (λ file is. composes_with path file t u r is h) is
-
-pub composes_with_no_file : (held : Option (Result (List ℕ) Error)) (path : String Global) (t : MapTree) (e : Error)
-    → WithFile held (λ file. UnlessMemory e (FileDecodes file (Err e)))
-    → WithFile held (λ file. UnlessMemory e (ReturnsWithFile file (Compose path) t (Err e)))
-composes_with_no_file held path t e is =
-    with_file held (λ file. UnlessMemory e (FileDecodes file (Err e))) (λ file. UnlessMemory e (ReturnsWithFile file (Compose path) t (Err e)))
-    (λ file is. composes_with_none path file t e is) is
+composes_with_none path file t e is =
+    then_refused (FileDecodes file) (λ other a. Returns (Compose path) t (Some other) a) e is
 
 -- only `compose` and `trace` use the file. Any other command has the same output with and without a file
-pub returns_without_file : (held : Option (Result (List ℕ) Error)) (command : Command) (t : MapTree) (r : Result (String Global) Error)
-    → ((path : String Global) → command ≢ Compose path) → ((path : String Global) → command ≢ Trace path)
-    → IsAnswer string_bytes (Returns command t None) r
-    → WithFile held (λ file. IsAnswer string_bytes (ReturnsWithFile file command t) r)
-returns_without_file held (Compose path) t r other none h = absurd (other path refl)
-returns_without_file held (Trace path) t r other none h = absurd (none path refl)
-returns_without_file held command t r other none h = any_file held (λ file. IsAnswer string_bytes (ReturnsWithFile file command t) r) (λ file. h)
-
--- for a map with sorted sections, `traced` specifies the output of `trace`
-pub returns_trace : (held : Option (Result (List ℕ) Error)) (path : String Global) (t : MapTree) (r : Result (String Global) Error)
-    → IsInOrder t → WithFile held (λ file. IsInOrder t → IsAnswer string_bytes (λ a. a ≡ traced t file) r)
-    → WithFile held (λ file. IsAnswer string_bytes (ReturnsWithFile file (Trace path) t) r)
-returns_trace held path t r ordered h =
-    with_file held (λ file. IsInOrder t → IsAnswer string_bytes (λ a. a ≡ traced t file) r)
-    (λ file. IsAnswer string_bytes (ReturnsWithFile file (Trace path) t) r) (λ file says. says ordered) h
-
--- let the sections of the map be sorted. If `positions` were read from the file, `traced` specifies the result `r` of
--- `trace_text`. If reading failed, `traced` specifies the read error (`traced_unread`)
-pub traced_read : (held : Option (Result (List ℕ) Error)) (positions : List ℕ) (t : MapTree) (r : Result (String Global) Error)
-    → WithFile held (λ file. Ok positions ≡ file)
-    → (IsInOrder t → Gives string_bytes r (Ok (trace_of (meaning t) positions)))
-    → WithFile held (λ file. IsInOrder t → IsAnswer string_bytes (λ a. a ≡ traced t file) r)
-traced_read held positions t r read h =
-    with_file held (λ file. Ok positions ≡ file) (λ file. IsInOrder t → IsAnswer string_bytes (λ a. a ≡ traced t file) r)
-    (λ file is. subst (λ x. IsInOrder t → IsAnswer string_bytes (λ a. a ≡ traced t x) r) is
-    (λ ordered. answers_due r (Ok (trace_of (meaning t) positions)) (h ordered))) read
-  where
-    answers_due : (r : Result (String Global) Error) (due : Result (List ℕ) Error) → Gives string_bytes r due
-        → IsAnswer string_bytes (λ a. a ≡ due) r
-    answers_due (Ok text) due h = sym h
-    answers_due (Err e) due h = UnlessMemory-weaker e (λ is. sym is) h
-
-pub traced_unread : (held : Option (Result (List ℕ) Error)) (t : MapTree) (e : Error)
-    → WithFile held (λ file. Err e ≡ file) → WithFile held (λ file. IsInOrder t → UnlessMemory e (Err e ≡ traced t file))
-traced_unread held t e read =
-    with_file held (λ file. Err e ≡ file) (λ file. IsInOrder t → UnlessMemory e (Err e ≡ traced t file))
-    (λ file is. subst (λ x. IsInOrder t → UnlessMemory e (Err e ≡ traced t x)) is (λ ordered. UnlessMemory-from e refl)) read
+pub returns_without_file : (file : Result (List ℕ) Error) (command : Command) (t : MapTree) (r : Result (String Global) Error)
+    → ((path : String Global) → command ≢ Compose path)
+    → ((counting : Counting) (path : String Global) → command ≢ Trace counting path)
+    → IsAnswer string_bytes (Returns command t None) r → IsAnswer string_bytes (ReturnsWithFile file command t) r
+returns_without_file file (Compose path) t r other none h = absurd (other path refl)
+returns_without_file file (Trace counting path) t r other none h = absurd (none counting path refl)
+returns_without_file file command t r other none h = h
 
 -- if `bytes` decode to `m`, the output of a command for `bytes` is the output for `m`
-pub returns_on_map : (held : Option (Result (List ℕ) Error)) (command : Command) (bytes : List ℕ) (m : MapTree) (r : Result (String Global) Error)
-    → BytesDecode bytes (Ok m) → WithFile held (λ file. IsAnswer string_bytes (ReturnsWithFile file command m) r)
-    → WithFile held (λ file. IsAnswer string_bytes (ReturnsOnBytes command bytes file) r)
-returns_on_map held command bytes m r stand h =
-    with_file held (λ file. IsAnswer string_bytes (ReturnsWithFile file command m) r) (λ file. IsAnswer string_bytes (ReturnsOnBytes command bytes file) r)
-    (λ file says. then_made (BytesDecode bytes) (λ t a. ReturnsWithFile file command t a) m r stand says) h
+pub returns_on_map : (file : Result (List ℕ) Error) (command : Command) (bytes : List ℕ) (m : MapTree)
+    (r : Result (String Global) Error) → BytesDecode bytes (Ok m)
+    → IsAnswer string_bytes (ReturnsWithFile file command m) r
+    → IsAnswer string_bytes (ReturnsOnBytes command bytes file) r
+returns_on_map file command bytes m r stand says =
+    then_made (BytesDecode bytes) (λ t a. ReturnsWithFile file command t a) m r stand says
 
 -- if decoding `bytes` returns the error `e`, a command returns `e`, whatever the file is
-pub returns_on_no_map : (held : Option (Result (List ℕ) Error)) (command : Command) (bytes : List ℕ) (e : Error)
-    → UnlessMemory e (BytesDecode bytes (Err e)) → WithFile held (λ file. UnlessMemory e (ReturnsOnBytes command bytes file (Err e)))
-returns_on_no_map held command bytes e h =
-    any_file held (λ file. UnlessMemory e (ReturnsOnBytes command bytes file (Err e)))
-    (λ file. then_refused (BytesDecode bytes) (λ t a. ReturnsWithFile file command t a) e h)
+pub returns_on_no_map : (file : Result (List ℕ) Error) (command : Command) (bytes : List ℕ) (e : Error)
+    → UnlessMemory e (BytesDecode bytes (Err e)) → UnlessMemory e (ReturnsOnBytes command bytes file (Err e))
+returns_on_no_map file command bytes e h =
+    then_refused (BytesDecode bytes) (λ t a. ReturnsWithFile file command t a) e h
 
-reply_on_file : (words : List (List ℕ)) (bytes : List ℕ) (file : Result (List ℕ) Error) (command : Command)
+pub returns_on_no_map_unread : (command : Command) (bytes : List ℕ) (e : Error)
+    → UnlessMemory e (BytesDecode bytes (Err e))
+    → WithFile (λ file. UnlessMemory e (ReturnsOnBytes command bytes file (Err e)))
+returns_on_no_map_unread command bytes e h =
+    any_file (λ file. UnlessMemory e (ReturnsOnBytes command bytes file (Err e)))
+    (λ file. returns_on_no_map file command bytes e h)
+
+-- the reply for the answer to a command
+pub reply_of_command : (words : List (List ℕ)) (bytes : List ℕ) (file : Result (List ℕ) Error) (command : Command)
     (answer : Result (String Global) Error) (r : Result Reply Error)
     → AskFor words command → IsAnswer string_bytes (ReturnsOnBytes command bytes file) answer
     → MatchResult r (IsReplyOf answer) (λ e. e ≡ OutOfMemory)
     → MatchResult r (IsReplyTo words bytes file) (λ e. e ≡ OutOfMemory)
-reply_on_file words bytes file command answer (Err e) asked given is = is
-reply_on_file words bytes file command (Ok text) (Ok reply) asked given is =
+reply_of_command words bytes file command answer (Err e) asked given is = is
+reply_of_command words bytes file command (Ok text) (Ok reply) asked given is =
     (answered (Ok (string_bytes text)), (command, asked, given), is)
-reply_on_file words bytes file command (Err e) (Ok reply) asked given is =
+reply_of_command words bytes file command (Err e) (Ok reply) asked given is =
     (answered (Err e), (command, asked, with_memory e (ReturnsOnBytes command bytes file (Err e)) is.0 given), is.1)
 
-pub reply_of_command : (held : Option (Result (List ℕ) Error)) (words : List (List ℕ)) (bytes : List ℕ) (command : Command)
+pub reply_of_read_command : (words : List (List ℕ)) (bytes : List ℕ) (command : Command)
     (answer : Result (String Global) Error) (r : Result Reply Error)
-    → AskFor words command → WithFile held (λ file. IsAnswer string_bytes (ReturnsOnBytes command bytes file) answer)
+    → AskFor words command → WithFile (λ file. IsAnswer string_bytes (ReturnsOnBytes command bytes file) answer)
     → MatchResult r (IsReplyOf answer) (λ e. e ≡ OutOfMemory)
-    → WithFile held (λ file. MatchResult r (IsReplyTo words bytes file) (λ e. e ≡ OutOfMemory))
-reply_of_command held words bytes command answer r asked given is =
-    with_file held (λ file. IsAnswer string_bytes (ReturnsOnBytes command bytes file) answer)
+    → WithFile (λ file. MatchResult r (IsReplyTo words bytes file) (λ e. e ≡ OutOfMemory))
+reply_of_read_command words bytes command answer r asked given is =
+    with_file (λ file. IsAnswer string_bytes (ReturnsOnBytes command bytes file) answer)
     (λ file. MatchResult r (IsReplyTo words bytes file) (λ e. e ≡ OutOfMemory))
-    (λ file says. reply_on_file words bytes file command answer r asked says is) given
+    (λ file says. reply_of_command words bytes file command answer r asked says is) given
 
 -- the reply to words that are no command is the usage
-pub reply_to_others : (held : Option (Result (List ℕ) Error)) (words : List (List ℕ)) (bytes : List ℕ) (r : Result Reply Error)
+pub reply_to_others : (file : Result (List ℕ) Error) (words : List (List ℕ)) (bytes : List ℕ) (r : Result Reply Error)
     → AskForNone words → MatchResult r (IsReply misused) (λ e. e ≡ OutOfMemory)
-    → WithFile held (λ file. MatchResult r (IsReplyTo words bytes file) (λ e. e ≡ OutOfMemory))
-reply_to_others held words bytes (Ok reply) none is =
-    any_file held (λ file. IsReplyTo words bytes file reply) (λ file. (misused, none, is))
-reply_to_others held words bytes (Err e) none is = any_file held (λ file. e ≡ OutOfMemory) (λ file. is)
+    → MatchResult r (IsReplyTo words bytes file) (λ e. e ≡ OutOfMemory)
+reply_to_others file words bytes (Ok reply) none is = (misused, none, is)
+reply_to_others file words bytes (Err e) none is = is
+
+pub usage_for_others : (words : List (List ℕ)) (bytes : List ℕ) (r : Result Reply Error)
+    → AskForNone words → MatchResult r (IsReply misused) (λ e. e ≡ OutOfMemory)
+    → WithFile (λ file. MatchResult r (IsReplyTo words bytes file) (λ e. e ≡ OutOfMemory))
+usage_for_others words bytes r none is =
+    any_file (λ file. MatchResult r (IsReplyTo words bytes file) (λ e. e ≡ OutOfMemory))
+    (λ file. reply_to_others file words bytes r none is)
 
 -- Words, bytes and a file determine the reply, but for the texts of std's errors.
 
@@ -296,9 +283,9 @@ PrintAlike (Ok s) (Ok t) = s ≡ t
 PrintAlike (Err e) (Err f) = (text : List ℕ) → IsRefusal e text → IsRefusal f text
 PrintAlike _ _ = ⊥
 
-alike : {X : Type 0} (a b : Result X Error) → a ≡ b → PrintAlike a b
-alike (Ok s) b is = subst (PrintAlike (Ok s)) is refl
-alike (Err e) b is = subst (PrintAlike (Err e)) is (λ text h. h)
+equal_alike : {X : Type 0} (a b : Result X Error) → a ≡ b → PrintAlike a b
+equal_alike (Ok s) b is = subst (PrintAlike (Ok s)) is refl
+equal_alike (Err e) b is = subst (PrintAlike (Err e)) is (λ text h. h)
 
 -- two results of `Then First Next` print alike if the results of `First` print alike, and the results of `Next` for the
 -- same value print alike
@@ -316,18 +303,20 @@ then_alike First Next one next (Err e) b (inr h) (inl (y, made, q)) = absurd (on
 then_alike First Next one next (Ok text) b (inr h) q = absurd h
 
 json_once : (t : MapTree) (a b : List ℕ) → IsJsonLine t a → IsJsonLine t b → a ≡ b
-json_once t a b (j, of_a, is) (k, of_b, is') = is ∙ ap (λ json. json ++ newline) (written_text_once t j k of_a of_b) ∙ sym is'
+json_once t a b (j, of_a, is) (k, of_b, is') =
+    is ∙ ap (λ json. json ++ newline) (written_text_once t j k of_a of_b) ∙ sym is'
 
 maps_alike : (t : MapTree) (a b : Result (List ℕ) Error) → PrintsMap t a → PrintsMap t b → PrintAlike a b
 maps_alike t (Ok a) (Ok b) p q = json_once t a b p q
 maps_alike t (Err e) b p q = absurd p
 maps_alike t (Ok a) (Err f) p q = absurd q
 
-found_alike : (t : MapTree) (p : ℕ × ℕ) (a b : Result (List ℕ) Error) → IsInOrder t → IsOkAnd a (IsLookupLine t p) → IsOkAnd b (IsLookupLine t p) → PrintAlike a b
-found_alike t p (Ok a) (Ok b) ordered (x, is, of) (y, is', of') =
-    is ∙ ap (λ found. found_text found ++ newline) (of ordered ∙ sym (of' ordered)) ∙ sym is'
-found_alike t p (Err e) b ordered h k = absurd h
-found_alike t p (Ok a) (Err f) ordered h k = absurd k
+found_alike : (first : ℕ) (t : MapTree) (p : ℕ × ℕ) (a b : Result (List ℕ) Error) → IsInOrder t
+    → IsOkAnd a (IsLookupLine first t p) → IsOkAnd b (IsLookupLine first t p) → PrintAlike a b
+found_alike first t p (Ok a) (Ok b) ordered (x, is, of) (y, is', of') =
+    is ∙ ap (λ found. found_text first found ++ newline) (of ordered ∙ sym (of' ordered)) ∙ sym is'
+found_alike first t p (Err e) b ordered h k = absurd h
+found_alike first t p (Ok a) (Err f) ordered h k = absurd k
 
 -- two errors with the same `error_text` print alike
 texts_alike : (e f : Error) → error_text e ≡ error_text f → (text : List ℕ) → IsRefusal e text → IsRefusal f text
@@ -338,47 +327,54 @@ flat_once : (t : MapTree) (a b : Result MapValue Error) → FlatAnswer t a → F
 flat_once t (Ok m) (Ok n) h k = let both = sym h ∙ k in cc
 flat_once t (Err (CannotFlatten e)) (Err (CannotFlatten f)) h k =
     let same : string_bytes e ≡ string_bytes f = let both = sym h ∙ k in cc in
-    texts_alike (CannotFlatten e) (CannotFlatten f) (ap (λ reason. Some (codes "cannot flatten the indexed sourcemap: " ++ reason)) same)
+    texts_alike (CannotFlatten e) (CannotFlatten f)
+    (ap (λ reason. Some (codes "cannot flatten the indexed sourcemap: " ++ reason)) same)
 flat_once t (Ok m) (Err (CannotFlatten f)) h k = absurd (let both = sym h ∙ k in cc)
 flat_once t (Err (CannotFlatten e)) (Ok n) h k = absurd (let both = sym h ∙ k in cc)
 flat_once t (Ok m) (Err f) h k = absurd k
 flat_once t (Err (CannotFlatten e)) (Err f) h k = absurd k
 flat_once t (Err e) b h k = absurd h
 
-shift_alike : (rows : ℕ) (parts : IndexParts) (ss : List MapSection) (a b : Result (List ℕ) Error) → ShiftAnswer rows parts ss a
+shift_alike : (rows : ℕ) (parts : IndexParts) (ss : List MapSection) (a b : Result (List ℕ) Error)
+    → ShiftAnswer rows parts ss a
     → ShiftAnswer rows parts ss b → PrintAlike a b
-shift_alike rows parts ss a b (inl (left, p)) (inl (left', q)) = maps_alike (index parts (sections_from (shifted rows ss))) a b p q
-shift_alike rows parts ss a b (inr (past, is)) (inr (past', is')) = alike a b (is ∙ sym is')
+shift_alike rows parts ss a b (inl (left, p)) (inl (left', q)) =
+    maps_alike (index parts (sections_from (shifted rows ss))) a b p q
+shift_alike rows parts ss a b (inr (past, is)) (inr (past', is')) = equal_alike a b (is ∙ sym is')
 shift_alike rows parts ss a b (inl (left, p)) (inr (past, is)) = absurd (past left)
 shift_alike rows parts ss a b (inr (past, is)) (inl (left, q)) = absurd (past left)
 
 -- let `Next` print a regular map as a JSON line. If any two results of `First` print alike, any two results of `Then
 -- First Next` print alike
-prints_alike : (First : Result MapValue Error → Type 0) → ((a b : Result MapValue Error) → First a → First b → PrintAlike a b)
+prints_alike : (First : Result MapValue Error → Type 0)
+    → ((a b : Result MapValue Error) → First a → First b → PrintAlike a b)
     → (a b : Result (List ℕ) Error) → Then First (λ m a. PrintsMap (leaf (regular m)) a) a
     → Then First (λ m a. PrintsMap (leaf (regular m)) a) b → PrintAlike a b
 prints_alike First one a b p q =
-    then_alike First (λ m a. PrintsMap (leaf (regular m)) a) one (λ m a b made p q. maps_alike (leaf (regular m)) a b p q) a b p q
+    then_alike First (λ m a. PrintsMap (leaf (regular m)) a) one
+    (λ m a b made p q. maps_alike (leaf (regular m)) a b p q) a b p q
 
 -- let the sections of the map `t` be sorted. Any two results that `Returns` allows for the same `command`, `t` and
 -- `other` print alike
 returns_alike : (command : Command) (t : MapTree) (other : Option MapTree) (a b : Result (List ℕ) Error) → IsInOrder t
     → Returns command t other a → Returns command t other b → PrintAlike a b
-returns_alike (Lookup line col) t other a b ordered p q = found_alike t (line, col) a b ordered p q
-returns_alike Tokens (leaf l) other a b ordered p q = alike a b (p ∙ sym q)
-returns_alike Tokens (index parts ss) other a b ordered p q = alike a b (p ∙ sym q)
+returns_alike (Lookup counting line col) t other a b ordered p q =
+    found_alike (first_of counting) t (line, col) a b ordered p q
+returns_alike Tokens (leaf l) other a b ordered p q = equal_alike a b (p ∙ sym q)
+returns_alike Tokens (index parts ss) other a b ordered p q = equal_alike a b (p ∙ sym q)
 returns_alike Rewrite (leaf l) other a b ordered p q = maps_alike (leaf (rewritten_leaf l)) a b p q
-returns_alike Rewrite (index parts ss) other a b ordered p q = alike a b (p ∙ sym q)
-returns_alike Flatten (leaf l) other a b ordered p q = alike a b (p ∙ sym q)
+returns_alike Rewrite (index parts ss) other a b ordered p q = equal_alike a b (p ∙ sym q)
+returns_alike Flatten (leaf l) other a b ordered p q = equal_alike a b (p ∙ sym q)
 returns_alike Flatten (index parts ss) other a b ordered p q =
     prints_alike (FlatAnswer (index parts ss)) (flat_once (index parts ss)) a b p q
 returns_alike (Compose path) t other a b ordered p q =
-    prints_alike (λ a. a ≡ adjusted_by t other) (λ a b h k. alike a b (h ∙ sym k)) a b p q
-returns_alike (Shift rows) (leaf l) other a b ordered p q = alike a b (p ∙ sym q)
+    prints_alike (λ a. a ≡ adjusted_by t other) (λ a b h k. equal_alike a b (h ∙ sym k)) a b p q
+returns_alike (Shift rows) (leaf l) other a b ordered p q = equal_alike a b (p ∙ sym q)
 returns_alike (Shift rows) (index parts ss) other a b ordered p q = shift_alike rows parts (section_list ss) a b p q
-returns_alike (Trace path) t other a b ordered p q = absurd p
+returns_alike (Trace counting path) t other a b ordered p q = absurd p
 
-reply_alike : (a b : Result (List ℕ) Error) → PrintAlike a b → (reply : Reply) → IsReply (answered a) reply → IsReply (answered b) reply
+reply_alike : (a b : Result (List ℕ) Error) → PrintAlike a b → (reply : Reply) → IsReply (answered a) reply
+    → IsReply (answered b) reply
 reply_alike (Ok a) (Ok b) same reply is = (is.0 ∙ same, is.1)
 reply_alike (Err e) (Err f) same reply (refused, status) = (same (string_bytes reply.text) refused, status)
 reply_alike (Ok a) (Err f) same reply is = absurd same
@@ -399,23 +395,26 @@ decoded_alike (Err e) (Ok u) same = absurd same
 bytes_alike : (bytes : List ℕ) (a b : Result MapTree Error) → BytesDecode bytes a → BytesDecode bytes b → PrintAlike a b
 bytes_alike bytes a b h k = decoded_alike a b (bytes_decode_once bytes a b h k)
 
-file_alike : (file : Result (List ℕ) Error) (a b : Result MapTree Error) → FileDecodes file a → FileDecodes file b → PrintAlike a b
+file_alike : (file : Result (List ℕ) Error) (a b : Result MapTree Error) → FileDecodes file a → FileDecodes file b
+    → PrintAlike a b
 file_alike (Ok bytes) a b h k = bytes_alike bytes a b h k
-file_alike (Err e) a b h k = alike a b (h ∙ sym k)
+file_alike (Err e) a b h k = equal_alike a b (h ∙ sym k)
 
-returns_with_alike : (file : Result (List ℕ) Error) (command : Command) (t : MapTree) (a b : Result (List ℕ) Error) → IsInOrder t
+returns_with_alike : (file : Result (List ℕ) Error) (command : Command) (t : MapTree) (a b : Result (List ℕ) Error)
+    → IsInOrder t
     → ReturnsWithFile file command t a → ReturnsWithFile file command t b → PrintAlike a b
 returns_with_alike file (Compose path) t a b ordered p q =
     then_alike (FileDecodes file) (λ other a. Returns (Compose path) t (Some other) a) (file_alike file)
     (λ other a b held p q. returns_alike (Compose path) t (Some other) a b ordered p q) a b p q
-returns_with_alike file (Trace path) t a b ordered p q = alike a b (p ∙ sym q)
+returns_with_alike file (Trace counting path) t a b ordered p q = equal_alike a b (p ∙ sym q)
 returns_with_alike file command t a b ordered p q = returns_alike command t None a b ordered p q
 
 -- a decoded map has sorted sections
 bytes_in_order : (bytes : List ℕ) (t : MapTree) → BytesDecode bytes (Ok t) → IsInOrder t
 bytes_in_order bytes t (inl (d, holds, stands)) = of_record (record_of d) stands
   where
-    of_record : (found : Option Tree) → MatchOption found (Ok t ≡ Err (BadJson Shape)) (λ r. TreeDecodes r (Ok t)) → IsInOrder t
+    of_record : (found : Option Tree) → MatchOption found (Ok t ≡ Err (BadJson Shape)) (λ r. TreeDecodes r (Ok t))
+        → IsInOrder t
     of_record None wrong = absurd cc
     of_record (Some r) is = well_formed_in_order t (decoded_well r t is)
 bytes_in_order bytes t (inr none) = absurd none
@@ -424,7 +423,8 @@ bytes_in_order bytes t (inr none) = absurd none
 same_command : (c d : Command) (bytes : List ℕ) (file a : Result (List ℕ) Error) → IsSameCommand c d
     → ReturnsOnBytes c bytes file a → ReturnsOnBytes d bytes file a
 same_command (Compose path) (Compose other) bytes file a same h = h
-same_command (Trace path) (Trace other) bytes file a same h = h
+same_command (Trace counting path) (Trace counting' other) bytes file a (same, paths) h =
+    subst (λ x. ReturnsOnBytes (Trace x path) bytes file a) same h
 same_command c d bytes file a same h = subst (λ x. ReturnsOnBytes x bytes file a) same h
 
 pub replies_alike : (words : List (List ℕ)) (bytes : List ℕ) (file : Result (List ℕ) Error) (a b : Ending)
@@ -443,7 +443,8 @@ replies_alike words bytes file misused misused p q reply is = is
 pub only_reply : (words : List (List ℕ)) (bytes : List ℕ) (file : Result (List ℕ) Error) (r : Result Reply Error)
     → MatchResult r (IsReplyTo words bytes file) (λ e. e ≡ OutOfMemory)
     → IfOk r (λ reply. (due : Ending) → Ends words bytes file due → IsReply due reply)
-only_reply words bytes file (Ok reply) (ending, ends, is) = λ due right. replies_alike words bytes file ending due ends right reply is
+only_reply words bytes file (Ok reply) (ending, ends, is) =
+    λ due right. replies_alike words bytes file ending due ends right reply is
 only_reply words bytes file (Err e) h = tt
 
 -- From a reader's bytes to the output.
@@ -457,7 +458,8 @@ out_of_memory words e is = no_memory e _ is
 
 -- if `words` ask for a command, and the error `e` says that a read failed or that memory ran out, a run may have the
 -- error `e` instead of a reply (`IsCutShort`)
-pub reading_failed : (words : List (List ℕ)) (command : Command) (e : Error) → AskFor words command → UnlessReadFails e ⊥ → IsCutShort words e
+pub reading_failed : (words : List (List ℕ)) (command : Command) (e : Error) → AskFor words command
+    → UnlessReadFails e ⊥ → IsCutShort words e
 reading_failed words command e asked h = UnlessMemory-from e (command, asked, h)
 
 -- the reply to words that are no command is the same for all bytes
@@ -468,23 +470,27 @@ any_bytes words a b file reply none (misused, ends, is) = (misused, ends, is)
 
 reply_for_bytes : (words : List (List ℕ)) (a b : List ℕ) (r : Result Reply Error)
     → ((file : Result (List ℕ) Error) (reply : Reply) → IsReplyTo words a file reply → IsReplyTo words b file reply)
-    → WithFile None (λ file. MatchResult r (IsReplyTo words a file) (λ e. e ≡ OutOfMemory))
-    → WithFile None (λ file. MatchResult r (IsReplyTo words b file) (IsCutShort words))
+    → WithFile (λ file. MatchResult r (IsReplyTo words a file) (λ e. e ≡ OutOfMemory))
+    → WithFile (λ file. MatchResult r (IsReplyTo words b file) (IsCutShort words))
 reply_for_bytes words a b (Ok reply) f (file, may, h) = (file, may, f file reply h)
 reply_for_bytes words a b (Err e) f (file, may, h) = (file, may, out_of_memory words e h)
 
 pub reply_of_reader : (words : List (List ℕ)) (input : Option (List ℕ)) (bytes : List ℕ) (r : Result Reply Error)
     → AskForNone words ⊎ IfSome input (λ known. bytes ≡ known)
-    → WithFile None (λ file. MatchResult r (IsReplyTo words bytes file) (λ e. e ≡ OutOfMemory))
-    → Reading input (λ bytes. WithFile None (λ file. MatchResult r (IsReplyTo words bytes file) (IsCutShort words)))
+    → WithFile (λ file. MatchResult r (IsReplyTo words bytes file) (λ e. e ≡ OutOfMemory))
+    → Reading input (λ bytes. WithFile (λ file. MatchResult r (IsReplyTo words bytes file) (IsCutShort words)))
 reply_of_reader words input bytes r (inl none) h =
-    let has = some_bytes input in
-    (has.0, has.1, reply_for_bytes words bytes has.0 r (λ file reply is. any_bytes words bytes has.0 file reply none is) h)
-reply_of_reader words input bytes r (inr of_input) h = (bytes, of_input, reply_for_bytes words bytes bytes r (λ file reply is. is) h)
+    let has = some_bytes input in (
+      has.0,
+      has.1,
+      reply_for_bytes words bytes has.0 r (λ file reply is. any_bytes words bytes has.0 file reply none is) h,
+    )
+reply_of_reader words input bytes r (inr of_input) h =
+    (bytes, of_input, reply_for_bytes words bytes bytes r (λ file reply is. is) h)
 
 pub cut_short : (words : List (List ℕ)) (input : Option (List ℕ)) (e : Error) (r : Result Reply Error)
     → r ≡ Err e → IsCutShort words e
-    → Reading input (λ bytes. WithFile None (λ file. MatchResult r (IsReplyTo words bytes file) (IsCutShort words)))
+    → Reading input (λ bytes. WithFile (λ file. MatchResult r (IsReplyTo words bytes file) (IsCutShort words)))
 cut_short words input e r is h = let has = some_bytes input in (has.0, has.1, (Ok [], tt, rw is h))
 
 may_end : (words : List (List ℕ)) (bytes : List ℕ) (file : Result (List ℕ) Error) (ending : Ending)
@@ -493,7 +499,8 @@ may_end words bytes file (answered (Ok text)) h = h
 may_end words bytes file (answered (Err e)) h = inl h
 may_end words bytes file misused h = h
 
-reported_is_cut_short : (words : List (List ℕ)) (e reported : Error) → (reported ≡ e) ⊎ (reported ≡ OutOfMemory) → IsCutShort words e → IsCutShort words reported
+reported_is_cut_short : (words : List (List ℕ)) (e reported : Error) → (reported ≡ e) ⊎ (reported ≡ OutOfMemory)
+    → IsCutShort words e → IsCutShort words reported
 reported_is_cut_short words e reported (inl same) h = subst (λ x. IsCutShort words x) (sym same) h
 reported_is_cut_short words e reported (inr out) h = out_of_memory words reported out
 
@@ -501,7 +508,7 @@ reported_is_cut_short words e reported (inr out) h = out_of_memory words reporte
 -- `made` may be a reply or an error
 pub runs : (words : List (List ℕ)) (input : Option (List ℕ)) (made : Result Reply Error)
     (old new : Option (List ℕ)) (result : Result ℕ Error)
-    → Reading input (λ bytes. WithFile None (λ file. MatchResult made (IsReplyTo words bytes file) (IsCutShort words)))
+    → Reading input (λ bytes. WithFile (λ file. MatchResult made (IsReplyTo words bytes file) (IsCutShort words)))
     → MatchResult result (λ status. IsPrinted made status old new) IsWriteError
     → IfOk result (λ status. Runs words input status old new)
 runs words input (Ok reply) old new (Ok status) (bytes, of_input, (file, may, (ending, ends, is))) output =

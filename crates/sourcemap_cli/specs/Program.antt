@@ -1,5 +1,5 @@
 -- The output and the exit status of a run.
-use Rattle.std.specs.Prelude.{◌≡◌, ◌≢◌, ℕ, List, [], ◌∷◌, ◌++◌, codes, flat_map, if◌then◌else◌, Option, Some, None, IfSome, Result, Ok, Err, IsOkAnd, String, Vec, string_bytes, ◌⊎◌}
+use Rattle.std.specs.Prelude.{◌≡◌, ◌≢◌, ℕ, List, [], ◌∷◌, ◌++◌, codes, flat_map, if◌then◌else◌, Option, Some, None, option_map, IfSome, Result, Ok, Err, IsOkAnd, String, Vec, string_bytes, ◌⊎◌}
 use Rattle.std.specs.Fmt.{decimal}
 use Rattle.std.specs.Io.KnownBytes.{Appends}
 use Rattle.sourcemap.specs.Adjust.{adjusted}
@@ -19,7 +19,8 @@ use Rattle.sourcemap.specs.declared.errors.Error.{Error}
 use Rattle.sourcemap.specs.declared.errors.Error.TheVariants.{IncompatibleSourceMap, OutOfMemory}
 use Rattle.std.specs.declared.alloc.Global.{Global}
 use Rattle.std.specs.declared.io.Error.{Error as IoError}
-use Rattle.sourcemap_trace.specs.Trace.{trace_of}
+use Rattle.sourcemap_trace.specs.Positions.{first_of}
+use Rattle.sourcemap_trace.specs.Trace.{meaning_text, trace_from}
 use Rattle.sourcemap_cli.specs.Command.{AskFor}
 use Rattle.sourcemap_cli.specs.declared.command.Command.{Command}
 use Rattle.sourcemap_cli.specs.declared.command.Command.TheVariants.{Lookup, Tokens, Rewrite, Flatten, Compose, Shift, Trace}
@@ -29,12 +30,13 @@ abbrev pub newline : List ℕ
 newline = 10 ∷ []
 
 abbrev pub usage_text : List ℕ
-usage_text = codes "usage: lookup LINE COL | tokens | rewrite | flatten | compose FILE | shift ROWS | trace FILE" ++ newline
+usage_text =
+    codes "usage: lookup [--from-1] LINE COL | tokens | rewrite | flatten | compose FILE | shift ROWS"
+    ++ codes " | trace [--from-1] FILE" ++ newline
 
--- the text of a token; `none` if there is no token
-abbrev pub found_text : Option TokenValue → List ℕ
-found_text (Some token) = token_text (says token)
-found_text None = codes "none"
+-- the text of a token, with its original line and column counted from `first`; `none` if there is no token
+abbrev pub found_text : (first : ℕ) → Option TokenValue → List ℕ
+found_text first found = meaning_text first (option_map says found)
 
 -- the mark after the text of a token: ` range` for a range token, otherwise empty
 abbrev pub range_mark : TokenValue → List ℕ
@@ -47,9 +49,10 @@ token_line t =
     ++ token_text (says t) ++ range_mark t ++ newline
 
 -- the line that is printed for a lookup: the text of the closest token, or `none`. For an index map with unsorted
--- sections, the line may have the text of any token, or `none`
-abbrev pub IsLookupLine : MapTree → ℕ × ℕ → List ℕ → Type 0
-IsLookupLine t p text = (found : Option TokenValue) × (text ≡ found_text found ++ newline) × (IsInOrder t → found ≡ lookup t p)
+-- sections, the line may have the text of any token, or `none`. The position counts from 0, the text from `first`
+abbrev pub IsLookupLine : (first : ℕ) → MapTree → ℕ × ℕ → List ℕ → Type 0
+IsLookupLine first t p text =
+    (found : Option TokenValue) × (text ≡ found_text first found ++ newline) × (IsInOrder t → found ≡ lookup t p)
 
 -- the compact JSON text of a map, and a newline
 abbrev pub IsJsonLine : MapTree → List ℕ → Type 0
@@ -86,26 +89,29 @@ abbrev pub rewritten_leaf : LeafMap → LeafMap
 rewritten_leaf (regular m) = regular (rewritten no_removal m)
 rewritten_leaf (hermes h) = hermes (hermes_rewritten no_removal h)
 
--- the output of `trace_of` for the positions in a file. If the file could not be read, the result is the read error
-abbrev pub traced : MapTree → (file : Result (List ℕ) Error) → Result (List ℕ) Error
-traced t (Ok positions) = Ok (trace_of (meaning t) positions)
-traced t (Err e) = Err e
+-- the answers to the positions in a file, counted from `first`. If the file could not be read, the result is the read
+-- error
+abbrev pub traced : (first : ℕ) → MapTree → (file : Result (List ℕ) Error) → Result (List ℕ) Error
+traced first t (Ok positions) = Ok (trace_from first (meaning t) positions)
+traced first t (Err e) = Err e
 
 -- the output of a command for a map, or the error of the command; `compose` also takes an adjustment. A map of the
 -- wrong kind is reported before other errors. `Returns` is false for `trace`, which also needs positions (see
 -- `ReturnsWithFile`)
 abbrev pub Returns : Command → MapTree → Option MapTree → Result (List ℕ) Error → Type 0
-Returns (Lookup line col) t _ answer = IsOkAnd answer (IsLookupLine t (line, col))
+Returns (Lookup counting line col) t _ answer = IsOkAnd answer (IsLookupLine (first_of counting) t (line, col))
 Returns Tokens (leaf l) _ answer = answer ≡ Ok (flat_map token_line (tokens_from (held l) 0))
 Returns Tokens (index _ _) _ answer = answer ≡ Err IncompatibleSourceMap
 Returns Rewrite (leaf l) _ answer = PrintsMap (leaf (rewritten_leaf l)) answer
 Returns Rewrite (index _ _) _ answer = answer ≡ Err IncompatibleSourceMap
 Returns Flatten (leaf _) _ answer = answer ≡ Err IncompatibleSourceMap
-Returns Flatten (index parts ss) _ answer = Then (FlatAnswer (index parts ss)) (λ m a. PrintsMap (leaf (regular m)) a) answer
-Returns (Compose _) t adjustment answer = Then (λ a. a ≡ adjusted_by t adjustment) (λ m a. PrintsMap (leaf (regular m)) a) answer
+Returns Flatten (index parts ss) _ answer =
+    Then (FlatAnswer (index parts ss)) (λ m a. PrintsMap (leaf (regular m)) a) answer
+Returns (Compose _) t adjustment answer =
+    Then (λ a. a ≡ adjusted_by t adjustment) (λ m a. PrintsMap (leaf (regular m)) a) answer
 Returns (Shift _) (leaf _) _ answer = answer ≡ Err IncompatibleSourceMap
 Returns (Shift rows) (index parts ss) _ answer = ShiftAnswer rows parts (section_list ss) answer
-Returns (Trace _) _ _ _ = ⊥
+Returns (Trace _ _) _ _ _ = ⊥
 
 -- a file decodes to this map or to this error; the file is given as its bytes, or as the error of reading it
 abbrev pub FileDecodes : Result (List ℕ) Error → Result MapTree Error → Type 0
@@ -115,8 +121,9 @@ FileDecodes (Err e) decoded = decoded ≡ Err e
 -- the output of a command for a map, or the first error; the file holds the adjustment of `compose` or the positions
 -- of `trace`
 abbrev pub ReturnsWithFile : Result (List ℕ) Error → Command → MapTree → Result (List ℕ) Error → Type 0
-ReturnsWithFile file (Compose path) t answer = Then (FileDecodes file) (λ other a. Returns (Compose path) t (Some other) a) answer
-ReturnsWithFile file (Trace _) t answer = answer ≡ traced t file
+ReturnsWithFile file (Compose path) t answer =
+    Then (FileDecodes file) (λ other a. Returns (Compose path) t (Some other) a) answer
+ReturnsWithFile file (Trace counting _) t answer = answer ≡ traced (first_of counting) t file
 ReturnsWithFile file command t answer = Returns command t None answer
 
 -- the output of a command for the map in `bytes`, or the first error. Errors are checked in this order: decoding
@@ -185,11 +192,9 @@ abbrev pub MayBeRead : Result (List ℕ) Error → Type 0
 MayBeRead (Ok bytes) = Unit {0}
 MayBeRead (Err e) = UnlessReadFails e ⊥
 
--- the first argument is the result of reading a file, or `None` if this result is unknown. If the result is known, `P`
--- holds for the result. If the result is unknown, `P` holds for at least one result that `MayBeRead` allows
-abbrev pub WithFile : Option (Result (List ℕ) Error) → (Result (List ℕ) Error → Type 0) → Type 0
-WithFile (Some file) P = P file
-WithFile None P = (file : Result (List ℕ) Error) × MayBeRead file × P file
+-- `P` holds for at least one result that reading a file may have
+abbrev pub WithFile : (Result (List ℕ) Error → Type 0) → Type 0
+WithFile P = (file : Result (List ℕ) Error) × MayBeRead file × P file
 
 -- an error that a run may have instead of a reply. `OutOfMemory` is always allowed. If the words ask for a command, the
 -- input is read, so an `Io` error of any kind except `OutOfMemory` is allowed too
@@ -225,6 +230,6 @@ IsWriteError e = (cause : IoError) × FromIo cause e
 -- bytes of standard input. If `input` is `None`, standard input may hold any bytes. Reading the file that the words
 -- name may have any result that `MayBeRead` allows
 abbrev pub Runs : List (List ℕ) → Option (List ℕ) → ℕ → Option (List ℕ) → Option (List ℕ) → Type 0
-Runs words input status old new = Reading input (λ bytes. WithFile None (λ file.
+Runs words input status old new = Reading input (λ bytes. WithFile (λ file.
     (ending : Ending) × MayEnd words bytes file ending
     × (status ≡ status_of ending) × ((printed : List ℕ) × Prints ending printed × Appends old new printed)))

@@ -1,9 +1,9 @@
-//! Reads the file that a command names.
-ghost use Rattle.std.specs.Prelude.{◌≡◌, option_map};
+//! The file that a command names.
 ghost use Rattle.sourcemap.specs.Answer.{IsAnswer};
 ghost use Rattle.sourcemap.specs.AnyMap.{map_tree};
-ghost use Rattle.sourcemap_cli.specs.Program.{FileDecodes, MayBeRead, WithFile, file_read};
+ghost use Rattle.sourcemap_cli.specs.Program.{FileDecodes, MayBeRead, file_read};
 
+use crate::command::Command;
 use sourcemap::decoder::decode_vec;
 use sourcemap::{DecodedMap, Result};
 use sourcemap_records::bytes::read_all;
@@ -18,32 +18,25 @@ fn read_file<F: Files>(rt: &F, alloc: Global, path: &str) -> Result<Vec<u8>>
     read_all(alloc, file)
 }
 
-/// Returns the bytes of a file, or the error of reading it. If `preloaded` is given, returns it and
-/// reads nothing.
-pub fn file_bytes<F: Files>(
-    rt: &F,
-    alloc: Global,
-    path: &str,
-    preloaded: Option<Result<Vec<u8>>>,
-) -> Result<Vec<u8>>
-    ensures { WithFile (option_map file_read preloaded) (λ file. file_read result ≡ file) }
+/// Returns the bytes of the file that the command names, or the error of reading it; no bytes if
+/// the command names no file.
+pub fn read_command_file<F: Files>(rt: &F, alloc: Global, command: &Command) -> Result<Vec<u8>>
+    ensures { MayBeRead (file_read result) }
 {
-    match preloaded {
-        Some(read) => read,
-        None => read_file(rt, alloc, path),
+    match command {
+        Command::Compose(path) => read_file(rt, alloc, path.as_str()),
+        Command::Trace(_, path) => read_file(rt, alloc, path.as_str()),
+        _ => Ok(Vec::new(alloc)),
     }
 }
 
-/// Gets the bytes of a file from `file_bytes`, and decodes the map in them.
-pub fn file_map<F: Files>(
-    rt: &F,
-    alloc: Global,
-    path: &str,
-    preloaded: Option<Result<Vec<u8>>>,
-) -> Result<DecodedMap>
-    ensures { WithFile (option_map file_read preloaded)
-        (λ file. IsAnswer map_tree (FileDecodes file) result) }
+/// Decodes the map in a file, which is given as its bytes or as the error of reading it.
+pub fn decode_file(alloc: Global, file: Result<Vec<u8>>) -> Result<DecodedMap>
+    ensures { IsAnswer map_tree (FileDecodes (file_read file)) result }
 {
-    let bytes = file_bytes(rt, alloc, path, preloaded)?;
-    decode_vec(alloc, bytes)
+    // prover: error passed on by `match`
+    match file {
+        Ok(bytes) => decode_vec(alloc, bytes),
+        Err(error) => Err(error),
+    }
 }

@@ -1,4 +1,5 @@
-//! The commands of the program: their words, and what a run prints for a map.
+//! The commands of the program: their words, and what a run prints for a map. The crate knows
+//! nothing of how maps are stored, and nothing of the process but its words, files and streams.
 #![tactic(auto)]
 
 pub mod command;

@@ -3,27 +3,47 @@ ghost use Rattle.std.specs.Prelude.{◌≡◌, ◌++◌, MatchResult, None, Some
 ghost use Rattle.sourcemap.specs.Answer.{IsAnswer};
 ghost use Rattle.sourcemap.specs.AnyMap.{map_tree};
 ghost use Rattle.sourcemap.specs.Hermes.{hermes_value};
-ghost use Rattle.sourcemap.specs.Token.{token_value};
+ghost use Rattle.sourcemap.specs.Token.{meaning_of_token, token_value};
 ghost use Rattle.sourcemap.specs.Trees.{hermes, leaf, regular};
 ghost use Rattle.sourcemap.specs.declared.errors.Error.TheVariants.{OutOfMemory};
 ghost use Rattle.sourcemap_cli.specs.Command.{IsOfMaps, TakesAdjustment};
-ghost use Rattle.sourcemap_cli.specs.Program.{IsJsonLine, Returns, range_mark, token_line};
+ghost use Rattle.sourcemap_trace.specs.Positions.{first_of};
+ghost use Rattle.sourcemap_trace.specs.Trace.{meaning_text};
+ghost use Rattle.sourcemap_cli.specs.Program.{IsJsonLine, Returns, newline, range_mark, token_line};
 ghost use Rattle.sourcemap_cli.specs.declared.command.Command.TheVariants.{Compose, Flatten, Lookup, Rewrite, Shift, Tokens};
 
 use crate::command::Command;
 use crate::maps::{adjust, into_index};
 use sourcemap::{DecodedMap, Error, Result, RewriteOptions, SourceMap, SourceMapHermes, Token};
 use sourcemap_json_write::writing::value_to_string;
+use sourcemap_trace::{Counting, push_found};
 use std::alloc::Global;
 use std::rt::Files;
 
-fn lookup_line(alloc: Global, map: &DecodedMap, line: u32, col: u32) -> Result<String>
-    ensures { IsAnswer string_bytes (Returns (Lookup line col) (map_tree map.now) None) result }
+// The text of the token, or `none`, and a newline.
+fn found_line(alloc: Global, found: Option<Token<'_>>, counting: Counting) -> Result<String>
+    ensures { MatchResult result
+        (λ text. string_bytes text
+        ≡ meaning_text (first_of counting) (option_map meaning_of_token found) ++ newline)
+        (λ e. e ≡ OutOfMemory) }
 {
-    match map.lookup_token(line, col) {
-        Some(token) => Ok(format!(in alloc; "{token}\n")?),
-        None => Ok(String::from_str(alloc, "none\n")?),
-    }
+    let mut text = String::new(alloc);
+    push_found(&mut text, found, counting)?;
+    text.push_str("\n")?;
+    Ok(text)
+}
+
+fn lookup_line(
+    alloc: Global,
+    map: &DecodedMap,
+    counting: Counting,
+    line: u32,
+    col: u32,
+) -> Result<String>
+    ensures { IsAnswer string_bytes
+        (Returns (Lookup counting line col) (map_tree map.now) None) result }
+{
+    found_line(alloc, map.lookup_token(line, col), counting)
 }
 
 fn range_mark(token: &Token<'_>) -> &'static str
@@ -135,8 +155,9 @@ pub(crate) fn adjusted_json(
 /// Applies a command to a map and returns its output.
 ///
 /// - `Lookup`: the `Display` text of the closest token, for example `a.js:3:4 name=f`, or `none` if
-///   there is no such token. A newline follows. If the sections of an index map are unsorted at
-///   some level, the text is that of some token of the map, or `none`.
+///   there is no such token. A newline follows. If positions count from 1, the original line and
+///   column are printed plus 1. If the sections of an index map are unsorted at some level, the
+///   text is that of some token of the map, or `none`.
 /// - `Tokens`: a text for each token, for example `0:8 a.js:3:4 name=f range`, and a newline after
 ///   each text. The text has the generated position, the `Display` text of the token, and ` range`
 ///   for a range token. The text has more than one line if the source or the name of the token has
@@ -147,7 +168,7 @@ pub(crate) fn adjusted_json(
 ///   index map with each section moved down by the rows of the command.
 ///
 /// `Compose` takes an adjustment, and no other command does. `command` must not be `Trace`, which
-/// also needs positions; use `sourcemap_trace::trace_text` for it.
+/// also needs positions; use `sourcemap_trace::trace_text_from` for it.
 ///
 /// Errors:
 ///
@@ -171,7 +192,9 @@ pub fn apply<F: Files>(
         (Returns command.now (map_tree map) (option_map map_tree adjustment)) result }
 {
     match command {
-        Command::Lookup(line, column) => lookup_line(alloc, &map, *line, *column),
+        Command::Lookup(counting, line, column) => {
+            lookup_line(alloc, &map, *counting, *line, *column)
+        }
         Command::Tokens => tokens_text(alloc, &map),
         Command::Rewrite => rewritten_json(rt, alloc, map),
         Command::Flatten => flat_json(alloc, map),
@@ -180,6 +203,6 @@ pub fn apply<F: Files>(
             None => Err(Error::IncompatibleSourceMap),
         },
         Command::Shift(rows) => shifted_json(alloc, map, *rows),
-        Command::Trace(_) => Err(Error::IncompatibleSourceMap),
+        Command::Trace(_, _) => Err(Error::IncompatibleSourceMap),
     }
 }

@@ -1,5 +1,5 @@
 //! A run of the program: from words and input to a reply, which is a text and an exit status.
-ghost use Rattle.std.specs.Prelude.{◌≡◌, ℕ, List, Result, None, IfErr, IfOk, MatchResult, map, option_map, string_bytes};
+ghost use Rattle.std.specs.Prelude.{◌≡◌, ℕ, List, Result, IfErr, IfOk, MatchResult, map, string_bytes};
 ghost use Rattle.std.specs.Io.KnownBytes.{Appends};
 ghost use Rattle.sourcemap.specs.Answer.{IsAnswer};
 ghost use Rattle.sourcemap.specs.AnyMap.{map_tree};
@@ -7,23 +7,24 @@ ghost use Rattle.sourcemap.specs.Decoder.{Reading};
 ghost use Rattle.sourcemap.specs.Trees.{IsInOrder};
 ghost use Rattle.sourcemap.specs.declared.errors.Error.{Error};
 ghost use Rattle.sourcemap.specs.declared.errors.Error.TheVariants.{OutOfMemory};
+ghost use Rattle.sourcemap_trace.specs.Positions.{first_of};
 ghost use Rattle.sourcemap_cli.specs.declared.command.Command.TheVariants.{Compose};
 ghost use Rattle.sourcemap_cli.specs.declared.program.Reply.{Reply};
 ghost use Rattle.sourcemap_cli.specs.Program.{AskForNone, Ending, Ends, IsCutShort, IsPrinted, IsRefusal, IsReply, IsReplyOf, IsReplyTo, IsWriteError, PrintsRefusal, ReturnsOnBytes, ReturnsWithFile, Runs, WithFile, file_read, misused, traced};
 
 use crate::command::{Command, parse_words};
-use crate::files::{file_bytes, file_map};
+use crate::files::{decode_file, read_command_file};
 use crate::output::{adjusted_json, apply};
 use sourcemap::decoder::decode_vec;
 use sourcemap::{DecodedMap, Error, Result};
 use sourcemap_records::bytes::read_all;
-use sourcemap_trace::trace_text;
+use sourcemap_trace::{Counting, trace_text_from};
 use std::alloc::Global;
 use std::io::{Read, Write};
 use std::rt::Files;
 
 const USAGE: &str =
-    "usage: lookup LINE COL | tokens | rewrite | flatten | compose FILE | shift ROWS | trace FILE\n";
+    "usage: lookup [--from-1] LINE COL | tokens | rewrite | flatten | compose FILE | shift ROWS | trace [--from-1] FILE\n";
 
 const NO_MEMORY: &str = "out of memory\n";
 
@@ -36,52 +37,75 @@ pub struct Reply {
     pub status: u8,
 }
 
-fn compose<F: Files>(
-    rt: &F,
-    alloc: Global,
-    path: &str,
-    map: DecodedMap,
-    preloaded: Option<Result<Vec<u8>>>,
-) -> Result<String>
-    ensures { (path : _) → WithFile (option_map file_read preloaded)
-        (λ file. IsAnswer string_bytes (ReturnsWithFile file (Compose path) (map_tree map)) result) }
+fn compose(alloc: Global, map: DecodedMap, file: Result<Vec<u8>>) -> Result<String>
+    ensures { (path : _) → IsAnswer string_bytes
+        (ReturnsWithFile (file_read file) (Compose path) (map_tree map)) result }
 {
-    let adjustment = file_map(rt, alloc, path, preloaded)?;
+    let adjustment = decode_file(alloc, file)?;
     adjusted_json(alloc, map, adjustment)
 }
 
-fn trace<F: Files>(
-    rt: &F,
+fn trace(
     alloc: Global,
-    path: &str,
+    counting: Counting,
     map: &DecodedMap,
-    preloaded: Option<Result<Vec<u8>>>,
+    file: Result<Vec<u8>>,
 ) -> Result<String>
-    ensures { WithFile (option_map file_read preloaded) (λ file. IsInOrder (map_tree map.now)
-        → IsAnswer string_bytes (λ a. a ≡ traced (map_tree map.now) file) result) }
+    ensures { IsInOrder (map_tree map.now) → IsAnswer string_bytes
+        (λ a. a ≡ traced (first_of counting) (map_tree map.now) (file_read file)) result }
 {
-    let positions = file_bytes(rt, alloc, path, preloaded)?;
-    trace_text(alloc, map, positions.as_slice())
+    // prover: error passed on by `match`
+    match file {
+        Ok(positions) => trace_text_from(alloc, map, positions.as_slice(), counting),
+        Err(error) => Err(error),
+    }
 }
 
-// The map is decoded before FILE is opened. If decoding fails, FILE is not opened, and the result
-// is the decoding error.
 fn execute<F: Files>(
     rt: &F,
     alloc: Global,
     command: &Command,
-    bytes: Vec<u8>,
-    preloaded: Option<Result<Vec<u8>>>,
+    map: DecodedMap,
+    file: Result<Vec<u8>>,
 ) -> Result<String>
-    ensures { WithFile (option_map file_read preloaded)
-        (λ file. IsAnswer string_bytes (ReturnsOnBytes command.now bytes.items file) result) }
+    ensures { IsInOrder (map_tree map) → IsAnswer string_bytes
+        (ReturnsWithFile (file_read file) command.now (map_tree map)) result }
 {
-    let map = decode_vec(alloc, bytes)?;
     match command {
-        Command::Compose(path) => compose(rt, alloc, path.as_str(), map, preloaded),
-        Command::Trace(path) => trace(rt, alloc, path.as_str(), &map, preloaded),
+        Command::Compose(_) => compose(alloc, map, file),
+        Command::Trace(counting, _) => trace(alloc, *counting, &map, file),
         command => apply(rt, alloc, command, map, None),
     }
+}
+
+fn execute_on_bytes<F: Files>(
+    rt: &F,
+    alloc: Global,
+    command: &Command,
+    bytes: Vec<u8>,
+    file: Result<Vec<u8>>,
+) -> Result<String>
+    ensures { IsAnswer string_bytes
+        (ReturnsOnBytes command.now bytes.items (file_read file)) result }
+{
+    let map = decode_vec(alloc, bytes)?;
+    execute(rt, alloc, command, map, file)
+}
+
+// The map is decoded before FILE is opened. If decoding fails, FILE is not opened, and the result
+// is the decoding error.
+fn execute_and_read_file<F: Files>(
+    rt: &F,
+    alloc: Global,
+    command: &Command,
+    bytes: Vec<u8>,
+) -> Result<String>
+    ensures { WithFile (λ file. IsAnswer string_bytes
+        (ReturnsOnBytes command.now bytes.items file) result) }
+{
+    let map = decode_vec(alloc, bytes)?;
+    let file = read_command_file(rt, alloc, command);
+    execute(rt, alloc, command, map, file)
 }
 
 fn error_line(alloc: Global, error: &Error) -> Result<String>
@@ -118,7 +142,8 @@ fn usage_reply(alloc: Global) -> Result<Reply>
 /// `file` is the bytes of the file that `Compose` or `Trace` names, or the error of reading that
 /// file. Other commands ignore `file`.
 ///
-/// - Status 0: the output of the command, as returned by `apply`, or for `Trace` by `trace_text`.
+/// - Status 0: the output of the command, as returned by `apply`, or for `Trace` by
+///   `trace_text_from`.
 /// - Status 1: the text of the first error and a newline. Errors are checked in this order:
 ///   `decode_slice` returns an error for `bytes`; the file could not be read; the file of `Compose`
 ///   does not decode; the command returns an error. An `Io` error says that a junk header is
@@ -145,7 +170,7 @@ pub fn reply_to<F: Files>(
 {
     match parse_words(alloc, words)? {
         Some(command) => {
-            let answer = execute(rt, alloc, &command, bytes, Some(file));
+            let answer = execute_on_bytes(rt, alloc, &command, bytes, file);
             into_reply(alloc, answer)
         }
         None => usage_reply(alloc),
@@ -159,7 +184,7 @@ fn reply_to_input<F: Files, R: Read>(
     words: &[String],
     input: &mut R,
 ) -> Result<Reply>
-    ensures answer { Reading (R.remaining input.old) (λ bytes. WithFile None (λ file.
+    ensures answer { Reading (R.remaining input.old) (λ bytes. WithFile (λ file.
         MatchResult result
         (IsReplyTo (map string_bytes words.now) bytes file)
         (IsCutShort (map string_bytes words.now)))) }
@@ -168,7 +193,7 @@ fn reply_to_input<F: Files, R: Read>(
     match parse_words(alloc, words)? {
         Some(command) => {
             let bytes = read_all(alloc, input)?;
-            let answer = execute(rt, alloc, &command, bytes, None);
+            let answer = execute_and_read_file(rt, alloc, &command, bytes);
             into_reply(alloc, answer)
         }
         None => usage_reply(alloc),

@@ -3,6 +3,7 @@ use crate::runs::TWO;
 use sourcemap::{DecodedMap, Error, decode_slice};
 use sourcemap_cli::command::Command;
 use sourcemap_cli::output::apply;
+use sourcemap_trace::Counting;
 use std::test::Fail;
 
 const RANGED: &str = r#"{"sources":["a.js"],"mappings":"AAAO","rangeMappings":"B"}"#;
@@ -33,7 +34,7 @@ fn lookup_prints(
     (line, col): (u32, u32),
     want: &str,
 ) -> Result<bool, Fail> {
-    let command = Command::Lookup(line, col);
+    let command = Command::Lookup(Counting::From0, line, col);
     is_text(apply(rt, rt.alloc(), &command, map, None), want)
 }
 

@@ -4,6 +4,7 @@ use sourcemap::decode_slice;
 use sourcemap_cli::command::{Command, parse_words};
 use sourcemap_cli::output::apply;
 use sourcemap_cli::program::{reply_to, run};
+use sourcemap_trace::Counting;
 use std::alloc::{AllocError, Global};
 use std::test::Fail;
 
@@ -11,7 +12,7 @@ pub const MAP: &str =
     r#"{"version":3,"sources":["coolstuff.js"],"names":["x","alert"],"mappings":"AAAA,GAAIA,GAAI,EACR,IAAIA,GAAK,EAAG,CACVC,MAAM"}"#;
 
 pub const USAGE: &str =
-    "usage: lookup LINE COL | tokens | rewrite | flatten | compose FILE | shift ROWS | trace FILE\n";
+    "usage: lookup [--from-1] LINE COL | tokens | rewrite | flatten | compose FILE | shift ROWS | trace [--from-1] FILE\n";
 
 // Words, a map, and the status and output of the run.
 const RUNS: &str = r#"lookup 0 5|MAP|0 coolstuff.js:0:4 name=x
@@ -43,6 +44,19 @@ lookup 10 9|TWO|0 b.js:0:0
 lookup 10 3|TWO|0 a.js:0:0
 lookup 0 0|{"x_facebook_sources":[]}|0 none
 lookup 0 9|HERMES|0 b.js:0:0
+lookup --from-1 1 6|MAP|0 coolstuff.js:1:5 name=x
+lookup --from-1 0001 00000000000000000006|MAP|0 coolstuff.js:1:5 name=x
+lookup --from-1 1 1|MAP|0 coolstuff.js:1:1
+lookup --from-1 1 19|MAP|0 coolstuff.js:3:3 name=alert
+lookup --from-1 2 1|MAP|0 coolstuff.js:3:9
+lookup --from-1 4294967296 4294967296|MAP|0 coolstuff.js:3:9
+lookup --from-1 1 6|{"sources":["a.js"],"mappings":"AAAO","rangeMappings":"B"}|0 a.js:1:13
+lookup --from-1 1 6|{"mappings":"A","rangeMappings":"B"}|0 <unknown>:4294967296:4294967296
+lookup --from-1 1 1|{}|0 none
+lookup --from-1 11 5|TWO|0 b.js:1:1
+lookup --from-1 11 4|TWO|0 a.js:1:1
+lookup --from-1 1 10|HERMES|0 b.js:1:1
+lookup --from-1 1 1|[]|1 bad json: a field has the wrong type
 tokens|{"sources":["a.js"],"mappings":"AAAO","rangeMappings":"B"}|0 0:0 a.js:0:7 range
 tokens|{"sources":["a.js"],"mappings":"AADA"}|0 0:0 a.js:4294967295:0
 tokens|{"mappings":"ggggggggggggH"}|0 0:0 <unknown>:4294967295:4294967295
@@ -103,19 +117,49 @@ lookup 0
 lookup 0 0 0
 lookup +0 0
 lookup 0 4294967296
+lookup 4294967296 0
+lookup 0 18446744073709551616
+lookup --from-1 0 5
+lookup --from-1 5 0
+lookup --from-1 1 4294967297
+lookup --from-1 4294967297 1
+lookup --from-1 1 18446744073709551617
+lookup --from-1 1
+lookup --from-1
+lookup --from-1 1 6 6
+lookup --from-1 +1 6
+lookup --from-1 1 x
+lookup 1 6 --from-1
+lookup 1 --from-1 6
+lookup --from-1 --from-1 1 6
+--from-1 lookup 1 6
+--from-1
+lookup --from-0 1 6
+lookup --from1 1 6
+lookup --From-1 1 6
+Lookup --from-1 1 6
 Lookup 0 0
 tokens 0
+tokens --from-1
 Rewrite
 flatten 0
 shift
 shift +1
 shift 4294967296
 shift 1 1
+shift --from-1 1
 compose
 compose a.map b.map
+compose --from-1 a.map
 Compose a.map
 trace
 trace a.txt b.txt
+trace --from-1
+trace --from-1 --from-1
+trace a.txt --from-1
+trace --from-1 a.txt b.txt
+trace --from-0 a.txt
+--from-1 trace a.txt
 Trace a.txt";
 
 pub fn words_of(alloc: Global, line: &str) -> Result<Vec<String>, AllocError> {
@@ -225,7 +269,7 @@ fn ask_for(alloc: Global, line: &str, command: Option<Command>) -> Result<bool, 
 // Whether `apply` returns `want` for `MAP`. False for `Compose` and `Trace`, which name a file.
 fn command_prints(rt: &HostRuntime, command: &Command, want: &str) -> Result<bool, Fail> {
     match command {
-        Command::Compose(_) | Command::Trace(_) => Ok(false),
+        Command::Compose(_) | Command::Trace(_, _) => Ok(false),
         command => {
             let map = decode_slice(rt.alloc(), MAP.as_bytes())?;
             let text = apply(rt, rt.alloc(), command, map, None)?;
@@ -237,15 +281,20 @@ fn command_prints(rt: &HostRuntime, command: &Command, want: &str) -> Result<boo
 #[test]
 fn words_ask_for_commands(rt: HostRuntime) -> Result<(), Fail> {
     let alloc = rt.alloc();
-    assert!(rt; ask_for(alloc, "lookup 0 18", Some(Command::Lookup(0, 18)))?);
+    let command = Command::Lookup(Counting::From0, 0, 18);
+    assert!(rt; ask_for(alloc, "lookup 0 18", Some(command))?);
+    let command = Command::Lookup(Counting::From1, 0, 18);
+    assert!(rt; ask_for(alloc, "lookup --from-1 1 19", Some(command))?);
     assert!(rt; ask_for(alloc, "tokens", Some(Command::Tokens))?);
     assert!(rt; ask_for(alloc, "rewrite", Some(Command::Rewrite))?);
     assert!(rt; ask_for(alloc, "flatten", Some(Command::Flatten))?);
     assert!(rt; ask_for(alloc, "shift 7", Some(Command::Shift(7)))?);
     let path = String::from_str(alloc, "a.map")?;
     assert!(rt; ask_for(alloc, "compose a.map", Some(Command::Compose(path)))?);
-    let path = String::from_str(alloc, "a.txt")?;
-    assert!(rt; ask_for(alloc, "trace a.txt", Some(Command::Trace(path)))?);
+    let command = Command::Trace(Counting::From0, String::from_str(alloc, "a.txt")?);
+    assert!(rt; ask_for(alloc, "trace a.txt", Some(command))?);
+    let command = Command::Trace(Counting::From1, String::from_str(alloc, "a.txt")?);
+    assert!(rt; ask_for(alloc, "trace --from-1 a.txt", Some(command))?);
     assert!(rt; ask_for(alloc, "tokens tokens", None)?);
     Ok(())
 }
@@ -255,8 +304,15 @@ fn commands_are_applied(rt: HostRuntime) -> Result<(), Fail> {
     assert!(rt;
         command_prints(
             &rt,
-            &Command::Lookup(0, 18),
+            &Command::Lookup(Counting::From0, 0, 18),
             "coolstuff.js:2:2 name=alert\n"
+        )?
+    );
+    assert!(rt;
+        command_prints(
+            &rt,
+            &Command::Lookup(Counting::From1, 0, 18),
+            "coolstuff.js:3:3 name=alert\n"
         )?
     );
     assert!(rt; command_prints(&rt, &Command::Tokens, LINES)?);

@@ -1,10 +1,10 @@
-// `trace_text`, and runs of `trace FILE`.
+// `trace_text`, `trace_text_from`, and runs of `trace FILE` and `trace --from-1 FILE`.
 use crate::fake_files::{FakeFiles, files_with};
 use crate::memory::unless_out;
 use crate::runs::{MAP, TWO, words_of};
 use sourcemap::{DecodedMap, Error, decode_slice};
 use sourcemap_cli::program::{reply_to, run};
-use sourcemap_trace::trace_text;
+use sourcemap_trace::{Counting, trace_text, trace_text_from};
 use std::alloc::Global;
 use std::io;
 use std::io::ErrorKind;
@@ -22,7 +22,10 @@ const LATE: &str =
     r#"{"sections":[{"offset":{"line":5,"column":0},"map":{"sources":["a.js"],"mappings":"AAAA"}}]}"#;
 
 // A map, a list of positions, and the output.
-static TRACES: [(&str, &str, &str); 21] = [
+type Row = (&'static str, &'static str, &'static str);
+
+// Positions counted from 0.
+static TRACES: [Row; 21] = [
     (
         MAP,
         "0:5\n0:18\nx\n1:0\n",
@@ -94,34 +97,112 @@ static TRACES: [(&str, &str, &str); 21] = [
     ),
 ];
 
-// Calls `trace_text`, and calls `trace_text` once more if the first call returns `OutOfMemory`.
-fn trace_with_retry(alloc: Global, map: &DecodedMap, positions: &[u8]) -> Result<String, Error> {
-    match trace_text(alloc, map, positions) {
-        Err(Error::OutOfMemory) => trace_text(alloc, map, positions),
+// Positions counted from 1.
+static TRACES_FROM_1: [Row; 11] = [
+    (
+        MAP,
+        "1:6\n1:19\nx\n2:1\n",
+        "coolstuff.js:1:5 name=x\ncoolstuff.js:3:3 name=alert\nbad position\ncoolstuff.js:3:9\n",
+    ),
+    (MAP, "", ""),
+    (
+        MAP,
+        "0:6\n1:0\n0:0\n000:1\n1:1",
+        "bad position\nbad position\nbad position\nbad position\ncoolstuff.js:1:1\n",
+    ),
+    (
+        MAP,
+        "4294967296:4294967296\n4294967297:1\n1:4294967297\n1:6",
+        "coolstuff.js:3:9\nbad position\nbad position\ncoolstuff.js:1:5 name=x\n",
+    ),
+    (
+        MAP,
+        "1:99999999999999999999999\n18446744073709551617:1",
+        "bad position\nbad position\n",
+    ),
+    (
+        MAP,
+        "001:0006\n1:6\r\n+1:6\n1:6:1\n\n",
+        "coolstuff.js:1:5 name=x\nbad position\nbad position\nbad position\nbad position\n",
+    ),
+    (
+        TWO,
+        "10:1\n11:10\n11:5\n11:4",
+        "a.js:1:1\nb.js:1:1\nb.js:1:1\na.js:1:1\n",
+    ),
+    (RANGED, "1:6\n4:6\n", "a.js:1:13\na.js:1:8\n"),
+    (HERMES, "1:6\n", "a.js:1:1\n"),
+    (LATE, "5:10\n6:1\ny\n", "none\na.js:1:1\nbad position\n"),
+    (
+        r#"{"mappings":"A"}"#,
+        "1:6\n",
+        "<unknown>:4294967296:4294967296\n",
+    ),
+];
+
+fn trace(
+    alloc: Global,
+    counting: Counting,
+    map: &DecodedMap,
+    positions: &[u8],
+) -> Result<String, Error> {
+    match counting {
+        Counting::From0 => trace_text(alloc, map, positions),
+        Counting::From1 => trace_text_from(alloc, map, positions, counting),
+    }
+}
+
+// Calls `trace`, and calls `trace` once more if the first call returns `OutOfMemory`.
+fn trace_with_retry(
+    alloc: Global,
+    counting: Counting,
+    map: &DecodedMap,
+    positions: &[u8],
+) -> Result<String, Error> {
+    match trace(alloc, counting, map, positions) {
+        Err(Error::OutOfMemory) => trace(alloc, counting, map, positions),
         answer => answer,
     }
 }
 
-fn trace_of(rt: &HostRuntime, map: &str, positions: &[u8]) -> Result<String, Error> {
+fn trace_of(
+    rt: &HostRuntime,
+    counting: Counting,
+    map: &str,
+    positions: &[u8],
+) -> Result<String, Error> {
     let map = decode_slice(rt.alloc(), map.as_bytes())?;
-    trace_with_retry(rt.alloc(), &map, positions)
+    trace_with_retry(rt.alloc(), counting, &map, positions)
 }
 
-fn traces_to(rt: &HostRuntime, map: &str, positions: &[u8], want: &str) -> Result<bool, Fail> {
-    Ok(trace_of(rt, map, positions)?.as_str() == want)
+fn traces_to(
+    rt: &HostRuntime,
+    counting: Counting,
+    map: &str,
+    positions: &[u8],
+    want: &str,
+) -> Result<bool, Fail> {
+    Ok(trace_of(rt, counting, map, positions)?.as_str() == want)
 }
 
 #[test]
 fn positions_are_answered(rt: HostRuntime) -> Result<(), Fail> {
     for (map, positions, want) in TRACES.iter() {
         assert!(rt;
-            traces_to(&rt, map, positions.as_bytes(), want)?,
+            traces_to(&rt, Counting::From0, map, positions.as_bytes(), want)?,
+            "{map} {positions}"
+        );
+    }
+    for (map, positions, want) in TRACES_FROM_1.iter() {
+        assert!(rt;
+            traces_to(&rt, Counting::From1, map, positions.as_bytes(), want)?,
             "{map} {positions}"
         );
     }
     assert!(rt;
         traces_to(
             &rt,
+            Counting::From0,
             MAP,
             b"\xff:5\n0:5",
             "bad position\ncoolstuff.js:0:4 name=x\n"
@@ -134,11 +215,35 @@ fn positions_are_answered(rt: HostRuntime) -> Result<(), Fail> {
 fn long_lines_and_many_are_answered(rt: HostRuntime) -> Result<(), Fail> {
     let zeros = "0".repeat(rt.alloc(), 10_000_000)?;
     let line = format!(in rt.alloc(); "{zeros}:5")?;
-    assert!(rt; traces_to(&rt, MAP, line.as_bytes(), "coolstuff.js:0:4 name=x\n")?);
-    assert!(rt; traces_to(&rt, MAP, zeros.as_bytes(), "bad position\n")?);
+    assert!(rt;
+        traces_to(
+            &rt,
+            Counting::From0,
+            MAP,
+            line.as_bytes(),
+            "coolstuff.js:0:4 name=x\n"
+        )?
+    );
+    assert!(rt;
+        traces_to(
+            &rt,
+            Counting::From0,
+            MAP,
+            zeros.as_bytes(),
+            "bad position\n"
+        )?
+    );
     let newlines = "\n".repeat(rt.alloc(), 1_000_000)?;
     let answers = "bad position\n".repeat(rt.alloc(), 1_000_000)?;
-    assert!(rt; traces_to(&rt, MAP, newlines.as_bytes(), answers.as_str())?);
+    assert!(rt;
+        traces_to(
+            &rt,
+            Counting::From0,
+            MAP,
+            newlines.as_bytes(),
+            answers.as_str()
+        )?
+    );
     Ok(())
 }
 
@@ -171,20 +276,24 @@ fn replies_with(
     Ok(reply.status == 0 && reply.text.as_str() == text)
 }
 
+// Whether `reply_to` and a run answer these words as the row says, and the run opens the file.
+fn is_answered(rt: &HostRuntime, words: &[String], row: &Row) -> Result<bool, Fail> {
+    let (map, positions, want) = *row;
+    let files = files_with("a.txt", positions);
+    let is_so = replies_with(rt, words, map, positions, want)?
+        && is_run(rt, &files, words, map, 0, want)?;
+    Ok(is_so && files.is_opened.get())
+}
+
 #[test]
 fn runs_answer_positions(rt: HostRuntime) -> Result<(), Fail> {
     let words = words_of(rt.alloc(), "trace a.txt")?;
-    for (map, positions, want) in TRACES.iter() {
-        let files = files_with("a.txt", positions);
-        assert!(rt;
-            replies_with(&rt, words.as_slice(), map, positions, want)?,
-            "{map} {positions}"
-        );
-        assert!(rt;
-            is_run(&rt, &files, words.as_slice(), map, 0, want)?,
-            "{map} {positions}"
-        );
-        assert!(rt; files.is_opened.get());
+    for row in TRACES.iter() {
+        assert!(rt; is_answered(&rt, words.as_slice(), row)?, "{}", row.1);
+    }
+    let words = words_of(rt.alloc(), "trace --from-1 a.txt")?;
+    for row in TRACES_FROM_1.iter() {
+        assert!(rt; is_answered(&rt, words.as_slice(), row)?, "{}", row.1);
     }
     Ok(())
 }
@@ -206,6 +315,8 @@ fn files_of_positions_may_fail(rt: HostRuntime) -> Result<(), Fail> {
             "after {left} bytes"
         );
     }
+    let from_1 = words_of(rt.alloc(), "trace --from-1 a.txt")?;
+    assert!(rt; is_refused(&rt, from_1.as_slice(), 1)?);
     let other = words_of(rt.alloc(), "trace b.txt")?;
     let files = files_with("a.txt", "0:5");
     assert!(rt; is_run(&rt, &files, other.as_slice(), MAP, 1, "entity not found\n")?);

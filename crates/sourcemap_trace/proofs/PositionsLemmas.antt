@@ -28,21 +28,26 @@ module _ (text : List ℕ) (i value digit : ℕ) (within : i < length text) (so_
       let made : digit ≡ digit_value (get_or text i 0) = omega arith in
       cc
 
-  -- if the new number exceeds 4294967295, `number_of text` is `None`
-  pub past_limit : 4294967295 < value * 10 + digit → None ≡ number_of text
-  past_limit past =
+  -- if the new number exceeds `first + 4294967295`, the text gives no number
+  pub past_limit : (first : ℕ) → first + 4294967295 < value * 10 + digit → None ≡ number_of first text
+  past_limit first past =
       let bound = digits_value-take-le 10 text (i + 1) (lit≤ tt) in
-      let above : 4294967295 < digits_value 10 text = let made = next_value in omega arith in
-      let wide : nat_le (digits_value 10 text) 4294967295 ≡ false = lt-leb (digits_value 10 text) 4294967295 above in
-      rw (wide, and-false, and-false) refl
+      let above : first + 4294967295 < digits_value 10 text = let made = next_value in omega arith in
+      let wide : nat_le (digits_value 10 text) (first + 4294967295) ≡ false =
+      lt-leb (digits_value 10 text) (first + 4294967295) above in
+      rw (wide, and-false, and-false, and-false) refl
 
--- if a text consists of one or more ASCII digits, and its value is at most 4294967295, `number_of` returns this value
-number_made : (text : List ℕ) (value : ℕ) → 0 < length text → list_all is_ascii_digit text ≡ true → value ≡ digits_value 10 text
-    → value ≤ 4294967295 → Some value ≡ number_of text
-number_made text value some digits is limit =
+-- a text of one or more ASCII digits, whose value is at least `first` and at most `first + 4294967295`, gives the value
+-- less `first`
+number_made : (first : ℕ) (text : List ℕ) (value : ℕ) → 0 < length text → list_all is_ascii_digit text ≡ true
+    → value ≡ digits_value 10 text → first ≤ value → value ≤ first + 4294967295
+    → Some (value - first) ≡ number_of first text
+number_made first text value some digits is least limit =
     let longer : nat_lt 0 (length text) ≡ true = lt-ltb 0 (length text) some in
-    let small : nat_le (digits_value 10 text) 4294967295 ≡ true = le-leb (digits_value 10 text) 4294967295 (omega arith) in
-    rw (longer, digits, small) (ap Some is)
+    let large : nat_le first (digits_value 10 text) ≡ true = le-leb first (digits_value 10 text) (omega arith) in
+    let small : nat_le (digits_value 10 text) (first + 4294967295) ≡ true =
+    le-leb (digits_value 10 text) (first + 4294967295) (omega arith) in
+    rw (longer, digits, large, small) (ap (λ n. Some (n - first)) is)
 
 module _ (mark : ℕ) (bytes : List ℕ) (i : ℕ) (others : (k : ℕ) → k < i → (get_or bytes k 0 == mark) ≡ false) where
   -- if no byte up to and including index `i` is the mark, the first mark is after index `i`, or there is no mark
@@ -58,7 +63,8 @@ module _ (mark : ℕ) (bytes : List ℕ) (i : ℕ) (others : (k : ℕ) → k < i
             | inr before ↦ absurd (let no : false ≡ true = sym (others _ before) ∙ there in cc)
           ]
 
-      by : (b : Bool) → nat_le (position_or_len (λ b. b == mark) bytes) i ≡ b → i < position_or_len (λ b. b == mark) bytes
+      by : (b : Bool) → nat_le (position_or_len (λ b. b == mark) bytes) i ≡ b
+          → i < position_or_len (λ b. b == mark) bytes
       by true e = early (leb-true _ _ e)
       by false e = leb-false _ _ e
 
@@ -80,35 +86,52 @@ module _ (mark : ℕ) (bytes : List ℕ) (i : ℕ) (others : (k : ℕ) → k < i
   pub not_cut : i ≡ length bytes → [] ≡ after_first (λ b. b == mark) bytes
   not_cut all = sym (drop_of_length-le bytes (omega arith)) ∙ after_end (omega arith) (λ more. absurd (omega arith))
 
-  pub number_at_end : (value : ℕ) → i ≤ length bytes → (i < length bytes → (get_or bytes i 0 == mark) ≡ true) → 0 < i
-      → list_all is_ascii_digit (take i bytes) ≡ true → value ≡ digits_value 10 (take i bytes) → value ≤ 4294967295
-      → Some value ≡ number_of (before_first (λ b. b == mark) bytes)
-  number_at_end value within stops some digits is limit =
-      number_made (take i bytes) value (omega (arith, length-take-le i bytes within)) digits is limit
-      ∙ sym (ap (λ n. number_of (take n bytes)) (ends_at within stops))
+  pub number_at_end : (first value : ℕ) → i ≤ length bytes → (i < length bytes → (get_or bytes i 0 == mark) ≡ true)
+      → 0 < i
+      → list_all is_ascii_digit (take i bytes) ≡ true → value ≡ digits_value 10 (take i bytes)
+      → first ≤ value → value ≤ first + 4294967295
+      → Some (value - first) ≡ number_of first (before_first (λ b. b == mark) bytes)
+  number_at_end first value within stops some digits is least limit =
+      number_made first (take i bytes) value (omega (arith, length-take-le i bytes within)) digits is least limit
+      ∙ sym (ap (λ n. number_of first (take n bytes)) (ends_at within stops))
+
+  -- a value below `first` is no number
+  pub too_small : (first value : ℕ) → i ≤ length bytes → (i < length bytes → (get_or bytes i 0 == mark) ≡ true)
+      → value ≡ digits_value 10 (take i bytes) → value < first
+      → None ≡ number_of first (before_first (λ b. b == mark) bytes)
+  too_small first value within stops is below =
+      let small : nat_le first (digits_value 10 (take i bytes)) ≡ false =
+      lt-leb first (digits_value 10 (take i bytes)) (omega arith) in
+      let none : None ≡ number_of first (take i bytes) = rw (small, and-false, and-false) refl in
+      none ∙ sym (ap (λ n. number_of first (take n bytes)) (ends_at within stops))
 
   module _ (within : i < length bytes) (other : (get_or bytes i 0 == mark) ≡ false) where
     abbrev pub text : List ℕ
     text = before_first (λ b. b == mark) bytes
 
     long : length text ≡ position_or_len (λ b. b == mark) bytes
-    long = length-take-le (position_or_len (λ b. b == mark) bytes) bytes (prefix_len-le-length (λ b. not (b == mark)) bytes)
+    long =
+        length-take-le (position_or_len (λ b. b == mark) bytes) bytes
+        (prefix_len-le-length (λ b. not (b == mark)) bytes)
 
     at : get_or text i 0 ≡ get_or bytes i 0
     at = get_or-take (position_or_len (λ b. b == mark) bytes) bytes i 0 (not_yet within other)
 
-    pub no_digit : false ≡ is_ascii_digit (get_or bytes i 0) → None ≡ number_of text
-    no_digit fails =
+    pub no_digit : (first : ℕ) → false ≡ is_ascii_digit (get_or bytes i 0) → None ≡ number_of first text
+    no_digit first fails =
         let all : list_all is_ascii_digit text ≡ false =
-        list_all_at is_ascii_digit text i 0 (omega (arith, long, not_yet within other)) (ap is_ascii_digit at ∙ sym fails) in
+        list_all_at is_ascii_digit text i 0 (omega (arith, long, not_yet within other))
+        (ap is_ascii_digit at ∙ sym fails) in
         rw (all, and-false) refl
 
-    pub too_large : (value digit : ℕ) → value ≡ digits_value 10 (take i bytes) → IsInRange 48 57 (get_or bytes i 0)
-        → digit ≡ get_or bytes i 0 - 48 → 4294967295 < value * 10 + digit → None ≡ number_of text
-    too_large value digit so_far is of past =
+    pub too_large : (first value digit : ℕ) → value ≡ digits_value 10 (take i bytes)
+        → IsInRange 48 57 (get_or bytes i 0)
+        → digit ≡ get_or bytes i 0 - 48 → first + 4294967295 < value * 10 + digit → None ≡ number_of first text
+    too_large first value digit so_far is of past =
         past_limit text i value digit (omega (arith, long, not_yet within other))
-        (so_far ∙ ap (digits_value 10) (sym (take-take i (position_or_len (λ b. b == mark) bytes) bytes (omega (arith, not_yet within other)))))
-        (subst (IsInRange 48 57) (sym at) is) (of ∙ ap (λ b. b - 48) (sym at)) past
+        (so_far ∙ ap (digits_value 10)
+        (sym (take-take i (position_or_len (λ b. b == mark) bytes) bytes (omega (arith, not_yet within other)))))
+        (subst (IsInRange 48 57) (sym at) is) (of ∙ ap (λ b. b - 48) (sym at)) first past
 
 pub drop_least : (n : ℕ) (bytes : List ℕ) (least : ℕ) → least ≡ min n (length bytes) → drop least bytes ≡ drop n bytes
 drop_least n bytes least is = by (nat_le n (length bytes)) refl
@@ -147,29 +170,32 @@ next_line text some =
     elim (eq-or-lt_of_le (prefix_len-le-length (λ b. not (is_newline b)) text)) [
       | inl none ↦
           let at : position_or_len is_newline text ≡ length text = none in
-          let first : before_first is_newline text ≡ text = take_all (position_or_len is_newline text) text (omega arith) in
+          let first : before_first is_newline text ≡ text =
+          take_all (position_or_len is_newline text) text (omega arith) in
           let rest : after_first is_newline text ≡ [] = drop_of_length-le text (omega arith) in
           let others : All (λ b. is_newline b ≡ false) text =
-          All-from_get_or (λ b. is_newline b ≡ false) text 0 (λ i within. fails_before_first is_newline text i 0 (omega arith)) in
+          All-from_get_or (λ b. is_newline b ≡ false) text 0
+          (λ i within. fails_before_first is_newline text i 0 (omega arith)) in
           let whole : lines_of text ≡ text ∷ [] = split_none text some (slice_split_none is_newline text others) in
           rw (first, rest, whole) refl
       | inr there ↦
           let cut = slice_split_first is_newline text 0 there in
           let after : List ℕ = after_first is_newline text in
-          rw cut (split_on after (before_first is_newline text) (slice_split is_newline after) refl (omega (arith, length-slice_split is_newline after)))
+          rw cut (split_on after (before_first is_newline text) (slice_split is_newline after) refl
+          (omega (arith, length-slice_split is_newline after)))
     ]
 
 -- The position in the first line of `lines`: the number before the first colon of `lines`, and the number after this
 -- colon, up to the next newline.
 
-not_all_digits : (text : List ℕ) → list_all is_ascii_digit text ≡ false → number_of text ≡ None
-not_all_digits text all = rw (all, and-false) refl
+not_all_digits : (first : ℕ) (text : List ℕ) → list_all is_ascii_digit text ≡ false → number_of first text ≡ None
+not_all_digits first text all = rw (all, and-false) refl
 
 then_none : (x : Option ℕ) → option_and_then {T = ℕ} {U = ℕ × ℕ} (λ row. None) x ≡ None
 then_none None = refl
 then_none (Some row) = refl
 
-module _ (lines : List ℕ) where
+module _ (first : ℕ) (lines : List ℕ) where
   abbrev colon : ℕ
   colon = position_or_len is_colon lines
 
@@ -190,7 +216,8 @@ module _ (lines : List ℕ) where
     colon_in_line : position_or_len is_colon line ≡ colon
     colon_in_line =
         position_or_len_is is_colon line colon 0 (omega (arith, line_long, order))
-        (λ k less. ap is_colon (get_or-take newline lines k 0 (omega (arith, order, less))) ∙ fails_before_first is_colon lines k 0 less)
+        (λ k less. ap is_colon (get_or-take newline lines k 0 (omega (arith, order, less)))
+        ∙ fails_before_first is_colon lines k 0 less)
         (λ _. ap is_colon (get_or-take newline lines colon 0 order) ∙ passes_at_first is_colon lines 0 there)
 
     row_text : before_first is_colon line ≡ before_first is_colon lines
@@ -208,9 +235,12 @@ module _ (lines : List ℕ) where
     newline_later =
         let bound = prefix_len-le-length (λ b. not (is_newline b)) lines in
         let size = length-drop (colon + 1) lines in
-        position_or_len_is is_newline (drop (colon + 1) lines) (newline - (colon + 1)) 0 (omega (arith, order, bound, size))
-        (λ k less. ap is_newline (get_or-drop (colon + 1) lines k 0) ∙ fails_before_first is_newline lines (colon + 1 + k) 0 (omega (arith, order, less)))
-        (λ less. ap is_newline (get_or-drop (colon + 1) lines (newline - (colon + 1)) 0 ∙ ap (λ n. get_or lines n 0) (sym split))
+        position_or_len_is is_newline (drop (colon + 1) lines) (newline - (colon + 1)) 0
+        (omega (arith, order, bound, size))
+        (λ k less. ap is_newline (get_or-drop (colon + 1) lines k 0)
+        ∙ fails_before_first is_newline lines (colon + 1 + k) 0 (omega (arith, order, less)))
+        (λ less. ap is_newline
+        (get_or-drop (colon + 1) lines (newline - (colon + 1)) 0 ∙ ap (λ n. get_or lines n 0) (sym split))
         ∙ passes_at_first is_newline lines 0 (omega (arith, order, less, size)))
 
     col_is : after_first is_colon line ≡ before_first is_newline (after_first is_colon lines)
@@ -219,18 +249,21 @@ module _ (lines : List ℕ) where
     later_is : after_first is_newline (after_first is_colon lines) ≡ after_first is_newline lines
     later_is =
         let whole : colon + 1 + (newline - (colon + 1) + 1) ≡ newline + 1 = omega (arith, order) in
-        ap (λ n. drop (n + 1) (drop (colon + 1) lines)) newline_later ∙ drop-drop (newline - (colon + 1) + 1) (colon + 1) lines
+        ap (λ n. drop (n + 1) (drop (colon + 1) lines)) newline_later
+        ∙ drop-drop (newline - (colon + 1) + 1) (colon + 1) lines
         ∙ ap (λ n. drop n lines) whole
 
   -- the first colon is not on the first line
-  none_in_line : newline ≤ colon → position_of line ≡ None
+  none_in_line : newline ≤ colon → position_of first line ≡ None
   none_in_line late =
       let at : position_or_len is_colon line ≡ newline =
       position_or_len_is is_colon line newline 0 (omega (arith, line_long))
-      (λ k less. ap is_colon (get_or-take newline lines k 0 less) ∙ fails_before_first is_colon lines k 0 (omega (arith, late, less)))
+      (λ k less. ap is_colon (get_or-take newline lines k 0 less)
+      ∙ fails_before_first is_colon lines k 0 (omega (arith, late, less)))
       (λ more. absurd (omega (arith, line_long, more))) in
-      let empty : after_first is_colon line ≡ [] = ap (λ n. drop (n + 1) line) at ∙ drop_of_length-le line (omega (arith, line_long)) in
-      rw empty (then_none (number_of (before_first is_colon line)))
+      let empty : after_first is_colon line ≡ [] =
+      ap (λ n. drop (n + 1) line) at ∙ drop_of_length-le line (omega (arith, line_long)) in
+      rw empty (then_none (number_of first (before_first is_colon line)))
 
   by_order : {P : Type 0} → (colon < newline → P) → (newline ≤ colon → P) → P
   by_order {P} early late = by (nat_lt colon newline) refl
@@ -239,29 +272,33 @@ module _ (lines : List ℕ) where
       by true e = early (ltb-true _ _ e)
       by false e = late (ltb-false _ _ e)
 
-  pub no_row : None ≡ number_of (before_first is_colon lines) → None ≡ position_of (before_first is_newline lines)
+  pub no_row : None ≡ number_of first (before_first is_colon lines)
+      → None ≡ position_of first (before_first is_newline lines)
   no_row none =
       by_order
-      (λ order. sym (ap (option_and_then (λ row. option_map (λ col. (row, col)) (number_of (after_first is_colon line))))
-      (ap number_of (row_text order) ∙ sym none)))
+      (λ order. sym (ap (option_and_then (λ row. option_map (λ col. (row, col)) (number_of first (after_first is_colon line))))
+      (ap (number_of first) (row_text order) ∙ sym none)))
       (λ late. sym (none_in_line late))
 
-  pub no_col : None ≡ number_of (before_first is_newline (after_first is_colon lines)) → None ≡ position_of (before_first is_newline lines)
+  pub no_col : None ≡ number_of first (before_first is_newline (after_first is_colon lines))
+      → None ≡ position_of first (before_first is_newline lines)
   no_col none =
       by_order
-      (λ order. let without : number_of (after_first is_colon line) ≡ None = ap number_of (col_is order) ∙ sym none in
-      sym (rw without (then_none (number_of (before_first is_colon line)))))
+      (λ order. let without : number_of first (after_first is_colon line) ≡ None = ap (number_of first) (col_is order)
+      ∙ sym none in
+      sym (rw without (then_none (number_of first (before_first is_colon line)))))
       (λ late. sym (none_in_line late))
 
-  module _ (row col : ℕ) (row_is : Some row ≡ number_of (before_first is_colon lines))
-      (col_is_some : Some col ≡ number_of (before_first is_newline (after_first is_colon lines))) where
+  module _ (row col : ℕ) (row_is : Some row ≡ number_of first (before_first is_colon lines))
+      (col_is_some : Some col ≡ number_of first (before_first is_newline (after_first is_colon lines))) where
     -- `row` and `col` are the numbers before and after the first colon, so this colon is before the first newline
     in_order : colon < newline
     in_order = by_order (λ order. order) (λ late. absurd (out late))
       where
         inside : newline ≤ colon → colon < length lines → ⊥
         inside late within =
-            let break : get_or lines newline 0 ≡ 10 = eqb-true _ _ (passes_at_first is_newline lines 0 (omega (arith, late, within))) in
+            let break : get_or lines newline 0 ≡ 10 =
+            eqb-true _ _ (passes_at_first is_newline lines 0 (omega (arith, late, within))) in
             elim (eq-or-lt_of_le late) [
               | inl same ↦
                   let mark : get_or lines colon 0 ≡ 58 = eqb-true _ _ (passes_at_first is_colon lines 0 within) in
@@ -269,15 +306,17 @@ module _ (lines : List ℕ) where
                   omega (arith, both)
               | inr before ↦
                   let all : list_all is_ascii_digit (take colon lines) ≡ false =
-                  list_all_at is_ascii_digit (take colon lines) newline 0 (omega (arith, length-take-le colon lines (omega (arith, within)), before))
+                  list_all_at is_ascii_digit (take colon lines) newline 0
+                  (omega (arith, length-take-le colon lines (omega (arith, within)), before))
                   (ap is_ascii_digit (get_or-take colon lines newline 0 before ∙ break)) in
-                  let no : true ≡ false = ap is_some (row_is ∙ not_all_digits (take colon lines) all) in cc
+                  let no : true ≡ false = ap is_some (row_is ∙ not_all_digits first (take colon lines) all) in cc
             ]
 
         outside : length lines ≤ colon → ⊥
         outside past =
             let empty : after_first is_colon lines ≡ [] = drop_of_length-le lines (omega (arith, past)) in
-            let no : true ≡ false = ap is_some (col_is_some ∙ ap (λ bs. number_of (before_first is_newline bs)) empty) in cc
+            let no : true ≡ false =
+            ap is_some (col_is_some ∙ ap (λ bs. number_of first (before_first is_newline bs)) empty) in cc
 
         out : newline ≤ colon → ⊥
         out late = by (nat_lt colon (length lines)) refl
@@ -286,11 +325,13 @@ module _ (lines : List ℕ) where
             by true e = inside late (ltb-true _ _ e)
             by false e = outside (ltb-false _ _ e)
 
-    pub both_named : Some (row, col) ≡ position_of (before_first is_newline lines)
+    pub both_named : Some (row, col) ≡ position_of first (before_first is_newline lines)
     both_named =
-        let first : number_of (before_first is_colon line) ≡ Some row = ap number_of (row_text in_order) ∙ sym row_is in
-        let second : number_of (after_first is_colon line) ≡ Some col = ap number_of (col_is in_order) ∙ sym col_is_some in
-        sym (rw (first, second) refl)
+        let row_here : number_of first (before_first is_colon line) ≡ Some row =
+        ap (number_of first) (row_text in_order) ∙ sym row_is in
+        let col_here : number_of first (after_first is_colon line) ≡ Some col =
+        ap (number_of first) (col_is in_order) ∙ sym col_is_some in
+        sym (rw (row_here, col_here) refl)
 
     pub later_lines : after_first is_newline (after_first is_colon lines) ≡ after_first is_newline lines
     later_lines = later_is in_order

@@ -1,19 +1,21 @@
 //! The answers of a map to a list of positions. The list has one position on each line.
-ghost use Rattle.std.specs.Prelude.{◌≡◌, ◌≢◌, ◌++◌, ℕ, List, codes, Some, None, Ok, IsOkUnless, OnOk, string_bytes};
+ghost use Rattle.std.specs.Prelude.{◌≡◌, ◌≢◌, ◌++◌, ℕ, List, codes, Some, None, Ok, IsOkUnless, OnOk, option_map, string_bytes};
 ghost use Rattle.sourcemap.specs.Answer.{Gives};
 ghost use Rattle.sourcemap.specs.AnyMap.{map_tree};
 ghost use Rattle.sourcemap.specs.Decoder.{ValueDecodes};
 ghost use Rattle.sourcemap.specs.Encoder.{ReadsBack};
 ghost use Rattle.sourcemap.specs.Flat.{AnswersLike};
+ghost use Rattle.sourcemap.specs.Token.{meaning_of_token, token_text};
 ghost use Rattle.sourcemap.specs.TreeEncoder.{Restores};
 ghost use Rattle.sourcemap.specs.Trees.{IsInOrder, MapTree, MeansTheSame, leaf, meaning, regular};
 ghost use Rattle.sourcemap.specs.Types.{MapValue};
 ghost use Rattle.sourcemap.specs.declared.errors.Error.TheVariants.{OutOfMemory};
-ghost use Rattle.sourcemap_trace.specs.Trace.{answer_at, answer_to, trace_of};
+ghost use Rattle.sourcemap_trace.specs.Positions.{first_of};
+ghost use Rattle.sourcemap_trace.specs.Trace.{answer_at, answer_to, counted, meaning_text, trace_from, trace_of};
 
-use crate::positions::next_position;
+use crate::positions::{Counting, next_position};
 use sourcemap::laws::answers_are_determined;
-use sourcemap::{DecodedMap, Result};
+use sourcemap::{DecodedMap, Result, Token};
 use std::alloc::Global;
 
 /// Returns the answers to a list of positions: one for each line of the list, in order, each
@@ -35,11 +37,28 @@ pub fn trace_text(alloc: Global, map: &DecodedMap, positions: &[u8]) -> Result<S
         (Ok (trace_of (meaning (map_tree map.now)) positions.now)) }
     ensures memory { IsOkUnless result OutOfMemory }
 {
+    trace_text_from(alloc, map, positions, Counting::From0)
+}
+
+/// Returns what `trace_text` returns, with lines and columns that count from 0 or from 1, both in
+/// the list and in the answers. If they count from 1, a line or a column of 0 makes a line a `bad
+/// position`, the greatest number of a position is 4294967296, and an answer has the original line
+/// and column plus 1.
+pub fn trace_text_from(
+    alloc: Global,
+    map: &DecodedMap,
+    positions: &[u8],
+    counting: Counting,
+) -> Result<String>
+    ensures text { IsInOrder (map_tree map.now) → Gives string_bytes result
+        (Ok (trace_from (first_of counting) (meaning (map_tree map.now)) positions.now)) }
+    ensures memory { IsOkUnless result OutOfMemory }
+{
     let mut text = String::new(alloc);
     let mut rest = positions;
     while !rest.is_empty() {
-        let (position, later) = next_position(rest);
-        push_answer(&mut text, map, position)?;
+        let (position, later) = next_position(rest, counting);
+        push_answer(&mut text, map, position, counting)?;
         rest = later;
     }
     Ok(text)
@@ -47,14 +66,19 @@ pub fn trace_text(alloc: Global, map: &DecodedMap, positions: &[u8]) -> Result<S
 
 // Appends to `text` the answer for `position`, then a newline. `None` means that the line names no
 // position; the answer is then `bad position`.
-fn push_answer(text: &mut String, map: &DecodedMap, position: Option<(u32, u32)>) -> Result<()>
+fn push_answer(
+    text: &mut String,
+    map: &DecodedMap,
+    position: Option<(u32, u32)>,
+    counting: Counting,
+) -> Result<()>
     ensures answer { IsInOrder (map_tree map.now) → OnOk result (string_bytes text.new
         ≡ string_bytes text.old
-        ++ (answer_at (meaning (map_tree map.now)) position ++ codes "\n")) }
+        ++ (answer_at (first_of counting) (meaning (map_tree map.now)) position ++ codes "\n")) }
     ensures memory { IsOkUnless result OutOfMemory }
 {
     match position {
-        Some((line, col)) => push_token(text, map, line, col),
+        Some((line, col)) => push_closest(text, map, line, col, counting),
         None => {
             text.push_str("bad position\n")?;
             Ok(())
@@ -63,18 +87,66 @@ fn push_answer(text: &mut String, map: &DecodedMap, position: Option<(u32, u32)>
 }
 
 // Appends to `text` the answer for the position (`line`, `col`), then a newline.
-fn push_token(text: &mut String, map: &DecodedMap, line: u32, col: u32) -> Result<()>
+fn push_closest(
+    text: &mut String,
+    map: &DecodedMap,
+    line: u32,
+    col: u32,
+    counting: Counting,
+) -> Result<()>
     ensures answer { IsInOrder (map_tree map.now) → OnOk result (string_bytes text.new
         ≡ string_bytes text.old
-        ++ (answer_at (meaning (map_tree map.now)) (Some (line, col)) ++ codes "\n")) }
+        ++ (answer_at (first_of counting) (meaning (map_tree map.now)) (Some (line, col))
+        ++ codes "\n")) }
     ensures memory { IsOkUnless result OutOfMemory }
 {
-    match map.lookup_token(line, col) {
-        Some(token) => {
-            text.write(token)?;
-            text.push_str("\n")?;
+    push_found(text, map.lookup_token(line, col), counting)?;
+    text.push_str("\n")?;
+    Ok(())
+}
+
+/// Appends the answer of a lookup to `text`: the text of the token, as `Display` writes it, with the
+/// original line and column counted from 0 or from 1; `none` without a token. The only error is
+/// `OutOfMemory`.
+pub fn push_found(text: &mut String, found: Option<Token<'_>>, counting: Counting) -> Result<()>
+    ensures text { OnOk result (string_bytes text.new ≡ string_bytes text.old
+        ++ meaning_text (first_of counting) (option_map meaning_of_token found)) }
+    ensures memory { IsOkUnless result OutOfMemory }
+{
+    match found {
+        Some(token) => push_token(text, token, counting),
+        None => {
+            text.push_str("none")?;
+            Ok(())
         }
-        None => text.push_str("none\n")?,
+    }
+}
+
+fn push_token(text: &mut String, token: Token<'_>, counting: Counting) -> Result<()>
+    ensures text { OnOk result (string_bytes text.new ≡ string_bytes text.old
+        ++ token_text (counted (first_of counting) (meaning_of_token token))) }
+    ensures memory { IsOkUnless result OutOfMemory }
+{
+    match counting {
+        Counting::From0 => {
+            text.write(token)?;
+            Ok(())
+        }
+        Counting::From1 => push_token_from_1(text, token),
+    }
+}
+
+fn push_token_from_1(text: &mut String, token: Token<'_>) -> Result<()>
+    ensures text { OnOk result (string_bytes text.new ≡ string_bytes text.old
+        ++ token_text (counted 1 (meaning_of_token token))) }
+    ensures memory { IsOkUnless result OutOfMemory }
+{
+    let source = token.get_source().unwrap_or("<unknown>");
+    let line = u64::from(token.get_src_line()) + 1;
+    let column = u64::from(token.get_src_col()) + 1;
+    write!(text, "{source}:{line}:{column}")?;
+    if let Some(name) = token.get_name() {
+        write!(text, " name={name}")?;
     }
     Ok(())
 }

@@ -3,7 +3,7 @@ use Rattle.std.proofs.Common.{Some}
 use Rattle.std.proofs.lemmas.Result.{err_from_is_err_and}
 use Rattle.sourcemap.specs.AnyMap.{map_tree}
 use Rattle.sourcemap_index.proofs.FamilyLemmas.{regular_tree}
-use Rattle.sourcemap_index.specs.declared.family.DecodedMap.TheVariants.{Regular}
+use Rattle.sourcemap.specs.declared.types.DecodedMap.TheVariants.{Regular}
 use Rattle.sourcemap_cli.proofs.ProgramLemmas.{returns_adjusted, returns_no_adjusted}
 use Rattle.sourcemap_cli.proofs.output.adjusted_json.Goals as goal
 
@@ -16,4 +16,5 @@ returns c = λ path.
 pub returns-in_err-adjusted : goal.returns-in_err-adjusted
 returns-in_err-adjusted c = λ path.
     let p = err_from_is_err_and c.from_residual.result c.from_residual.ensures.1 in
-    rw (p.1, p.2) (returns_no_adjusted path (map_tree c.args.map) (Some (map_tree c.args.adjustment)) _ c.in_err-adjusted.ensures)
+    rw (p.1, p.2) (returns_no_adjusted path (map_tree c.args.map) (Some (map_tree c.args.adjustment)) _
+    c.in_err-adjusted.ensures)

@@ -1,7 +1,10 @@
--- If `lookup_token` returns a token, the result is the text of this token and a newline.
-use Rattle.std.proofs.Common.{Some}
+-- The result is the text of the token that `lookup_token` returns, or `none`, and a newline.
+use Rattle.sourcemap.specs.AnyMap.{map_tree}
 use Rattle.sourcemap.specs.Token.{token_value}
+use Rattle.sourcemap_cli.proofs.ProgramLemmas.{returns_looked_up}
 use Rattle.sourcemap_cli.proofs.output.lookup_line.Goals as goal
 
-pub returns-in_ok-format-in-Some : goal.returns-in_ok-format-in-Some
-returns-in_ok-format-in-Some c = (Some (token_value c.in-Some.token), c.in_ok-format-in-Some.ensures.ok, c.in-Some.ensures.value)
+pub returns : goal.returns
+returns c =
+    returns_looked_up token_value c.args.counting c.args.line c.args.col (map_tree c.args.map.now) c.lookup_token.result
+    c.found_line.result c.found_line.ensures c.lookup_token.ensures.value

@@ -5,7 +5,7 @@ use Rattle.sourcemap.specs.AnyMap.{map_tree}
 use Rattle.sourcemap.specs.Hermes.{hermes_value}
 use Rattle.sourcemap.specs.Trees.{hermes}
 use Rattle.sourcemap_index.proofs.FamilyLemmas.{hermes_tree}
-use Rattle.sourcemap_index.specs.declared.family.DecodedMap.TheVariants.{Hermes}
+use Rattle.sourcemap.specs.declared.types.DecodedMap.TheVariants.{Hermes}
 use Rattle.sourcemap_cli.proofs.MapsLemmas.{hermes_by_default}
 use Rattle.sourcemap_cli.proofs.ProgramLemmas.{no_memory, returns_rewritten}
 use Rattle.sourcemap_cli.proofs.output.rewritten_hermes.Goals as goal

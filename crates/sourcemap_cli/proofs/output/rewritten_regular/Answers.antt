@@ -4,7 +4,7 @@ use Rattle.std.proofs.lemmas.Result.{err_from_is_err_and}
 use Rattle.sourcemap.specs.AnyMap.{map_tree}
 use Rattle.sourcemap.specs.Trees.{regular}
 use Rattle.sourcemap_index.proofs.FamilyLemmas.{regular_tree}
-use Rattle.sourcemap_index.specs.declared.family.DecodedMap.TheVariants.{Regular}
+use Rattle.sourcemap.specs.declared.types.DecodedMap.TheVariants.{Regular}
 use Rattle.sourcemap_cli.proofs.MapsLemmas.{rewritten_by_default}
 use Rattle.sourcemap_cli.proofs.ProgramLemmas.{no_memory, returns_rewritten}
 use Rattle.sourcemap_cli.proofs.output.rewritten_regular.Goals as goal

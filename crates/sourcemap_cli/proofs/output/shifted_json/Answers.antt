@@ -5,7 +5,7 @@ use Rattle.std.proofs.lemmas.Result.{err_from_is_err_and}
 use Rattle.sourcemap.specs.AnyMap.{index_value, map_tree}
 use Rattle.sourcemap.specs.Trees.{index_tree}
 use Rattle.sourcemap_index.proofs.FamilyLemmas.{index_tree-of}
-use Rattle.sourcemap_index.specs.declared.family.DecodedMap.TheVariants.{Index}
+use Rattle.sourcemap.specs.declared.types.DecodedMap.TheVariants.{Index}
 use Rattle.sourcemap_cli.proofs.ProgramLemmas.{no_index_shift, returns_no_shift, returns_shifted}
 use Rattle.sourcemap_cli.proofs.output.shifted_json.Goals as goal
 

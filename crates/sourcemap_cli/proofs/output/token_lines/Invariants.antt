@@ -6,4 +6,6 @@ use Rattle.sourcemap_cli.proofs.output.token_lines.Given as goal
 
 -- the text so far and the lines of the remaining tokens are the whole text
 abbrev pub invariant-loop-token : goal.invariant-loop-token
-invariant-loop-token l = string_bytes l.text ++ flat_map token_line (tokens_left l.token-iterator) ≡ flat_map token_line (tokens_from l.map 0)
+invariant-loop-token l =
+    string_bytes l.text ++ flat_map token_line (tokens_left l.token-iterator)
+    ≡ flat_map token_line (tokens_from l.map 0)

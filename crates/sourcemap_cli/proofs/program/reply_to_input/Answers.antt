@@ -1,15 +1,17 @@
 -- The input is read only if the words are a command. In this case, the reply is correct for the bytes of the input.
-use Rattle.std.proofs.Common.{Err, None, [], inl, inr, ◌∙◌, ap, map, string_bytes}
+use Rattle.std.proofs.Common.{Err, [], inl, inr, ◌∙◌, ap, map, string_bytes}
 use Rattle.std.proofs.lemmas.Result.{err_from_is_err_and}
-use Rattle.sourcemap_cli.proofs.ProgramLemmas.{cut_short, out_of_memory, reading_failed, reply_of_command, reply_of_reader, reply_to_others}
+use Rattle.sourcemap_cli.proofs.ProgramLemmas.{cut_short, out_of_memory, reading_failed, reply_of_read_command, reply_of_reader, usage_for_others}
 use Rattle.sourcemap_cli.proofs.program.reply_to_input.Goals as goal
 
 pub returns-in_ok-bytes-in-Some-clause-answer : goal.returns-in_ok-bytes-in-Some-clause-answer
 returns-in_ok-bytes-in-Some-clause-answer g c =
-    reply_of_reader (map string_bytes c.args.words.now) (g.R.Read.remaining c.args.input.now) c.in_ok-bytes-in-Some.bytes.items
+    reply_of_reader (map string_bytes c.args.words.now) (g.R.Read.remaining c.args.input.now)
+    c.in_ok-bytes-in-Some.bytes.items
     c.into_reply.result (inr c.in_ok-bytes-in-Some.ensures)
-    (reply_of_command None (map string_bytes c.args.words.now) c.in_ok-bytes-in-Some.bytes.items c.in-Some.command c.execute-answer.result
-    c.into_reply.result (rw c.in-Some.is at c.in_ok-command.ensures) c.execute-answer.ensures c.into_reply.ensures)
+    (reply_of_read_command (map string_bytes c.args.words.now) c.in_ok-bytes-in-Some.bytes.items c.in-Some.command
+    c.execute_and_read_file-answer.result c.into_reply.result (rw c.in-Some.is at c.in_ok-command.ensures)
+    c.execute_and_read_file-answer.ensures c.into_reply.ensures)
 
 pub returns-in_err-bytes-in-Some-clause-answer : goal.returns-in_err-bytes-in-Some-clause-answer
 returns-in_err-bytes-in-Some-clause-answer g c =
@@ -23,7 +25,7 @@ pub returns-in-None-clause-answer : goal.returns-in-None-clause-answer
 returns-in-None-clause-answer g c =
     reply_of_reader (map string_bytes c.args.words.now) (g.R.Read.remaining c.args.input.now) [] c.usage_reply.result
     (inl (rw c.in-None.is at c.in_ok-command.ensures))
-    (reply_to_others None (map string_bytes c.args.words.now) [] c.usage_reply.result
+    (usage_for_others (map string_bytes c.args.words.now) [] c.usage_reply.result
     (rw c.in-None.is at c.in_ok-command.ensures) c.usage_reply.ensures)
 
 pub returns-in_err-command-clause-answer : goal.returns-in_err-command-clause-answer
