@@ -110,7 +110,7 @@ fn push_closest(
 /// `OutOfMemory`.
 pub fn push_found(text: &mut String, found: Option<Token<'_>>, counting: Counting) -> Result<()>
     ensures text { OnOk result (string_bytes text.new ≡ string_bytes text.old
-        ++ meaning_text (first_of counting) (option_map meaning_of_token found)) }
+        ++ meaning_text (first_of counting) (option_map meaning_of_token found.entry)) }
     ensures memory { IsOkUnless result OutOfMemory }
 {
     match found {
@@ -124,7 +124,7 @@ pub fn push_found(text: &mut String, found: Option<Token<'_>>, counting: Countin
 
 fn push_token(text: &mut String, token: Token<'_>, counting: Counting) -> Result<()>
     ensures text { OnOk result (string_bytes text.new ≡ string_bytes text.old
-        ++ token_text (counted (first_of counting) (meaning_of_token token))) }
+        ++ token_text (counted (first_of counting) (meaning_of_token token.entry))) }
     ensures memory { IsOkUnless result OutOfMemory }
 {
     match counting {
@@ -138,7 +138,7 @@ fn push_token(text: &mut String, token: Token<'_>, counting: Counting) -> Result
 
 fn push_token_from_1(text: &mut String, token: Token<'_>) -> Result<()>
     ensures text { OnOk result (string_bytes text.new ≡ string_bytes text.old
-        ++ token_text (counted 1 (meaning_of_token token))) }
+        ++ token_text (counted 1 (meaning_of_token token.entry))) }
     ensures memory { IsOkUnless result OutOfMemory }
 {
     let source = token.get_source().unwrap_or("<unknown>");
