@@ -24,7 +24,7 @@ use std::rt::Files;
 fn found_line(alloc: Global, found: Option<Token<'_>>, counting: Counting) -> Result<String>
     ensures { MatchResult result
         (λ text. string_bytes text
-        ≡ meaning_text (first_of counting) (option_map meaning_of_token found) ++ newline)
+        ≡ meaning_text (first_of counting) (option_map meaning_of_token found.entry) ++ newline)
         (λ e. e ≡ OutOfMemory) }
 {
     let mut text = String::new(alloc);
