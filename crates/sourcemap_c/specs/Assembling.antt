@@ -44,7 +44,8 @@ line_of offset = if offset == 4294967295 then None else Some offset
 
 -- the index map with this file and these sections. `offsets` are the lines at which the modules begin, and `paths` are
 -- the paths of the modules
-abbrev pub index_of : (file : Option (List ℕ)) → (offsets : Option (List (Option ℕ))) → (paths : Option (List (List ℕ))) → List MapSection → MapTree
+abbrev pub index_of : (file : Option (List ℕ)) → (offsets : Option (List (Option ℕ)))
+    → (paths : Option (List (List ℕ))) → List MapSection → MapTree
 index_of file offsets paths ss = index_tree (index_made file ss offsets paths)
 
 -- paths are given, and the failure is that one of them is not UTF-8

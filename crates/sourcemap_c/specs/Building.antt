@@ -63,7 +63,8 @@ FailsStep Becomes (Some b) failure = Becomes b (Err failure)
 FailsStep Becomes None failure = failure ≡ WrongKind
 
 -- `id` is the id of the added text, and the handle has the builder with this text
-abbrev pub Adds : (BuilderValue → List (List ℕ)) → (BuilderValue → List ℕ → BuilderValue) → List ℕ → (id : ℕ) → (old new : Option Held) → Type 0
+abbrev pub Adds : (BuilderValue → List (List ℕ)) → (BuilderValue → List ℕ → BuilderValue) → List ℕ → (id : ℕ)
+    → (old new : Option Held) → Type 0
 Adds texts added text id old new =
     IsSomeAnd (builder_in old) (λ b. (id_for (texts b) text ≡ Ok id) × (builder_in new ≡ Some (added b text)))
 

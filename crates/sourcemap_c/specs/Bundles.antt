@@ -58,7 +58,8 @@ Makes made Due = MatchResult made (λ item. (due : Result ModuleParts Error) →
 -- `x_facebook_offsets` is null. Each other module has one item. The item is the error `InvalidRamBundleEntry` in three
 -- cases: the module cannot be read, `x_facebook_offsets` has no entry `n`, or `parts_at` gives this error.
 abbrev pub IsSplit : Option BundleValue → Option MapTree → Option Held → Type 0
-IsSplit bundle tree held = (b : BundleValue) × (i : IndexValue) × (split : SplitValue) × (bundle ≡ Some b) × (tree ≡ Some (index_tree i))
+IsSplit bundle tree held =
+    (b : BundleValue) × (i : IndexValue) × (split : SplitValue) × (bundle ≡ Some b) × (tree ≡ Some (index_tree i))
     × Splits i (modules_of b) (Ok split) × (items_in held ≡ Some (map due_value (dues_in split)))
 
 abbrev pub IsNoIndex : Option MapTree → Type 0
@@ -67,7 +68,8 @@ IsNoIndex _ = Unit {0}
 
 -- the errors of splitting; `WrongKind` if there is no bundle or no index map
 abbrev pub IsUnsplit : Option BundleValue → Option MapTree → Failure → Type 0
-IsUnsplit bundle tree (Library e) = (b : BundleValue) × (i : IndexValue) × (bundle ≡ Some b) × (tree ≡ Some (index_tree i)) × Splits i (modules_of b) (Err e)
+IsUnsplit bundle tree (Library e) = (b : BundleValue) × (i : IndexValue) × (bundle ≡ Some b)
+    × (tree ≡ Some (index_tree i)) × Splits i (modules_of b) (Err e)
 IsUnsplit bundle tree WrongKind = (bundle ≡ None) ⊎ IsNoIndex tree
 IsUnsplit bundle tree Absent = ⊥
 IsUnsplit bundle tree PastLimit = ⊥

@@ -15,7 +15,8 @@ UnlessMemory _ P = P
 
 -- The result of a call. After success `Done` holds. After a failure `Kept` holds, and the failure is one that `Due`
 -- allows, or out of memory.
-abbrev pub Does : {T : Type 0} → Result T Failure → (Done : Type 0) → (Due : Failure → Type 0) → (Kept : Type 0) → Type 0
+abbrev pub Does : {T : Type 0} → Result T Failure → (Done : Type 0) → (Due : Failure → Type 0) → (Kept : Type 0)
+    → Type 0
 Does result Done Due Kept = MatchResult result (λ _. Done) (λ failure. UnlessMemory failure (Due failure) × Kept)
 
 -- The code and the error report that a call returns and writes. After success `Done` holds, and the report is

@@ -15,7 +15,8 @@ use Rattle.sourcemap_c.specs.Codes.{IsAbsentUnlessOk, ReturnsValue}
 -- `positions` (`trace_of`). Without a map, `IsTrace` is false.
 abbrev pub IsTrace : Option MapTree → (positions : List ℕ) → Option (List ℕ) → Type 0
 IsTrace None positions held = ⊥
-IsTrace (Some t) positions held = (text : List ℕ) × (held ≡ Some text) × (IsInOrder t → text ≡ trace_of (meaning t) positions)
+IsTrace (Some t) positions held =
+    (text : List ℕ) × (held ≡ Some text) × (IsInOrder t → text ≡ trace_of (meaning t) positions)
 
 -- the call returned the code `due`, and wrote nothing
 abbrev pub Refuses : (due code : ℕ) → (old new : List ℕ) → Type 0
@@ -40,7 +41,8 @@ Names (leaf (hermes h)) source minified p code old new = IsAbsentUnlessOk code o
 Names t None minified p code old new = Refuses 33 code old new
 Names t (Some source) minified p code old new = Guesses t source minified p code old new
 
-abbrev pub NamesIn : Option MapTree → (source : Option (List ℕ)) → (minified : List ℕ) → ℕ × ℕ → ℕ → (old new : List ℕ) → Type 0
+abbrev pub NamesIn : Option MapTree → (source : Option (List ℕ)) → (minified : List ℕ) → ℕ × ℕ → ℕ
+    → (old new : List ℕ) → Type 0
 NamesIn None source minified p code old new = Refuses 33 code old new
 NamesIn (Some t) source minified p code old new = Names t source minified p code old new
 

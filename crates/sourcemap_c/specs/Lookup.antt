@@ -18,7 +18,8 @@ use Rattle.sourcemap_c.specs.Getters.{as_u32}
 -- value with `SM_OK`. Without a map the call returns `SM_WRONG_KIND`. The call writes only if it returns `SM_OK`.
 abbrev pub ReturnsLookup : {X : Type 0} → (MapTree → Option X) → Option MapTree → (code : ℕ) → (old new : X) → Type 0
 ReturnsLookup ask None code old new = ReturnsValue None code old new
-ReturnsLookup ask (Some t) code old new = IsAbsentUnlessOk code old new × (IsInOrder t → ReturnsValue (Some (ask t)) code old new)
+ReturnsLookup ask (Some t) code old new =
+    IsAbsentUnlessOk code old new × (IsInOrder t → ReturnsValue (Some (ask t)) code old new)
 
 -- the closest token to a position; `None` if there is no closest token
 abbrev pub found_at : MapTree → ℕ × ℕ → Option Found
@@ -42,7 +43,8 @@ span_at m p = option_map (λ token. (found_in (Some token), start_after m.tokens
 
 -- all positions from `p` (inclusive) to `until` (exclusive) have the same closest token as `p`
 abbrev pub StaysClosest : List RawToken → ℕ × ℕ → (until : Position) → Type 0
-StaysClosest tokens p until = (q : ℕ × ℕ) → is_lt (position_cmp q p) ≡ false → is_lt (position_cmp q (until.line, until.column)) ≡ true
+StaysClosest tokens p until =
+    (q : ℕ × ℕ) → is_lt (position_cmp q p) ≡ false → is_lt (position_cmp q (until.line, until.column)) ≡ true
     → closest_token tokens q ≡ closest_token tokens p
 
 abbrev pub source_at : MapTree → ℕ × ℕ → Option (List ℕ)

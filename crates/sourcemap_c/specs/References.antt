@@ -34,7 +34,8 @@ IsNotFound due WrongKind = ⊥
 IsNotFound due PastLimit = ⊥
 
 -- both texts are UTF-8, and `Due` allows the result `due`
-abbrev pub OfTexts : (url base : List ℕ) → (Result (Option (List ℕ)) Error → Type 0) → Result (Option (List ℕ)) Error → Type 0
+abbrev pub OfTexts : (url base : List ℕ) → (Result (Option (List ℕ)) Error → Type 0)
+    → Result (Option (List ℕ)) Error → Type 0
 OfTexts url base Due due = IsUtf8 url × IsUtf8 base × Due due
 
 -- the handle has the resolved reference
@@ -53,7 +54,8 @@ LeadsNowhere url base Due PastLimit = ⊥
 -- only failure is out of memory. If resolving returned `None`, the call fails with `Absent`. If resolving returned an
 -- error, the call fails with this error.
 abbrev pub Puts : Result (Option (String Global)) Error → Result (Unit {0}) Failure → (old new : Option Held) → Type 0
-Puts (Ok (Some text)) result old new = Does result (bytes_in new ≡ Some (string_bytes text)) (OfLibrary NoError) (new ≡ old)
+Puts (Ok (Some text)) result old new =
+    Does result (bytes_in new ≡ Some (string_bytes text)) (OfLibrary NoError) (new ≡ old)
 Puts (Ok None) result old new = (result ≡ Err Absent) × (new ≡ old)
 Puts (Err e) result old new = (result ≡ Err (Library e)) × (new ≡ old)
 

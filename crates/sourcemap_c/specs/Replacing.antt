@@ -7,7 +7,8 @@ use Rattle.sourcemap_c_handles.specs.declared.errors.Failure.{Failure}
 use Rattle.sourcemap_c.specs.Codes.{IsNoText, OfLibrary}
 
 abbrev pub removal : (with_names with_contents : Bool) → List (List ℕ) → Removal
-removal with_names with_contents prefixes = record { with_names = with_names; with_contents = with_contents; prefixes = prefixes }
+removal with_names with_contents prefixes =
+    record { with_names = with_names; with_contents = with_contents; prefixes = prefixes }
 
 -- the error is that one of the texts is not UTF-8
 abbrev pub HasNoText : List (List ℕ) → Error → Type 0

@@ -11,7 +11,8 @@ sections_in (leaf _) = None
 sections_in (index parts ss) = Some (section_list ss)
 
 abbrev pub start_of : MapSection → SectionStart
-start_of s = record { line = s.head.line; column = s.head.column; has_map = is_some s.map; has_url = is_some s.head.url }
+start_of s =
+    record { line = s.head.line; column = s.head.column; has_map = is_some s.map; has_url = is_some s.head.url }
 
 abbrev pub url_of : MapSection → Option (List ℕ)
 url_of s = s.head.url

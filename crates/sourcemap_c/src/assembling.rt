@@ -34,18 +34,14 @@ pub extern "C" fn sm_sections_new(
     sections: &mut Handle,
     error: &mut ErrorReport,
 ) -> u32
-    ensures { Answers result error.old error.new
-        (list_in (held_in sections.new) ≡ Some [])
-        (OfLibrary NoError)
+    ensures { Answers result error.old error.new (list_in (held_in sections.new) ≡ Some []) (OfLibrary NoError)
         (held_in sections.new ≡ held_in sections.old) }
 {
     finish(alloc, put_none(alloc, sections), error)
 }
 
 fn put_none(alloc: Global, sections: &mut Handle) -> Outcome<()>
-    ensures { Does result
-        (list_in (held_in sections.new) ≡ Some [])
-        (OfLibrary NoError)
+    ensures { Does result (list_in (held_in sections.new) ≡ Some []) (OfLibrary NoError)
         (held_in sections.new ≡ held_in sections.old) }
 {
     sections.fill(alloc, Held::Sections(Vec::new(alloc)))?;
@@ -68,8 +64,7 @@ pub extern "C" fn sm_sections_add(
     ensures added { let section = section_due (line, column) (text_if has_url url.now) has_map
         (tree_in (held_in map.old)) in
         let due = with_section (list_in (held_in sections.old)) section in
-        Answers result error.old error.new
-        ((due ≢ None) × (list_in (held_in sections.new) ≡ due))
+        Answers result error.old error.new ((due ≢ None) × (list_in (held_in sections.new) ≡ due))
         (OrNoText has_url url.now (OfLibraryOrKind NoError (due ≡ None)))
         (AreAsBefore (held_in sections.old) (held_in sections.new)) }
     ensures kept { held_in map.new ≡ held_in map.old }
@@ -93,8 +88,7 @@ fn add_section(
     ensures added { let section = section_due start (text_if has_url url.now) has_map
         (tree_in (held_in map.old)) in
         let due = with_section (list_in (held_in sections.old)) section in
-        Does result
-        ((due ≢ None) × (list_in (held_in sections.new) ≡ due))
+        Does result ((due ≢ None) × (list_in (held_in sections.new) ≡ due))
         (OrNoText has_url url.now (OfLibraryOrKind NoError (due ≡ None)))
         (AreAsBefore (held_in sections.old) (held_in sections.new)) }
     ensures kept { held_in map.new ≡ held_in map.old }
@@ -113,10 +107,8 @@ fn section_of(
     has_map: bool,
     map: &mut Handle,
 ) -> Outcome<SourceMapSection>
-    ensures made { let due = section_due start (text_if has_url url.now) has_map
-        (tree_in (held_in map.old)) in
-        MatchResult result (λ section. due ≡ Some (section_value section))
-        (λ failure. UnlessMemory failure
+    ensures made { let due = section_due start (text_if has_url url.now) has_map (tree_in (held_in map.old)) in
+        MatchResult result (λ section. due ≡ Some (section_value section)) (λ failure. UnlessMemory failure
         (OrNoText has_url url.now (OfLibraryOrKind NoError (due ≡ None)) failure)) }
     ensures kept { held_in map.new ≡ held_in map.old }
 {
@@ -133,8 +125,7 @@ fn section_with(
     has_map: bool,
     map: &mut Handle,
 ) -> Outcome<SourceMapSection>
-    ensures made { let due = section_due start (option_copied url.entry) has_map
-        (tree_in (held_in map.old)) in
+    ensures made { let due = section_due start (option_copied url.entry) has_map (tree_in (held_in map.old)) in
         MatchResult result (λ section. due ≡ Some (section_value section))
         (λ failure. UnlessMemory failure (OfLibraryOrKind NoError (due ≡ None) failure)) }
     ensures kept { held_in map.new ≡ held_in map.old }
@@ -166,10 +157,8 @@ fn section_made(
     url: Option<&str>,
     map: Option<DecodedMap>,
 ) -> Result<SourceMapSection>
-    ensures { MatchResult result
-        (λ section. section_value section
-        ≡ section_made start (option_copied url.entry) (option_map map_tree map))
-        (λ e. e ≡ OutOfMemory) }
+    ensures { MatchResult result (λ section. section_value section
+        ≡ section_made start (option_copied url.entry) (option_map map_tree map)) (λ e. e ≡ OutOfMemory) }
 {
     let mut section = SourceMapSection::new(alloc, start, None, map)?;
     section.set_url(url)?;
@@ -178,9 +167,7 @@ fn section_made(
 
 fn push_in(alloc: Global, handle: &mut Handle, section: SourceMapSection) -> Outcome<()>
     ensures { let due = with_section (list_in (held_in handle.old)) (Some (section_value section)) in
-        Does result
-        ((due ≢ None) × (list_in (held_in handle.new) ≡ due))
-        (OfLibraryOrKind NoError (due ≡ None))
+        Does result ((due ≢ None) × (list_in (held_in handle.new) ≡ due)) (OfLibraryOrKind NoError (due ≡ None))
         (AreAsBefore (held_in handle.old) (held_in handle.new)) }
 {
     match handle.take(alloc) {
@@ -195,9 +182,7 @@ fn push_in(alloc: Global, handle: &mut Handle, section: SourceMapSection) -> Out
 
 fn push_to(held: &mut Held, section: SourceMapSection) -> Outcome<()>
     ensures { let due = with_section (list_in (Some held.old)) (Some (section_value section)) in
-        Does result
-        ((due ≢ None) × (list_in (Some held.new) ≡ due))
-        (OfLibraryOrKind NoError (due ≡ None))
+        Does result ((due ≢ None) × (list_in (Some held.new) ≡ due)) (OfLibraryOrKind NoError (due ≡ None))
         (AreAsBefore (Some held.old) (Some held.new)) }
 {
     match held {
@@ -215,12 +200,7 @@ fn push(sections: &mut Vec<SourceMapSection>, section: SourceMapSection) -> Resu
     Ok(())
 }
 
-/// Fills `map` with the index map of the sections in `sections`. Item `n` of `offsets` is the line
-/// at which module `n` begins, or `SM_NONE` if there is no module `n`. After success the handle
-/// `sections` is empty. The errors are `Utf8` if a given file name or path is not UTF-8,
-/// `WrongKind` if `sections` holds no list of sections, and `OutOfMemory`. After an error both
-/// handles are unchanged, with one exception: after `OutOfMemory` a handle `sections` that held a
-/// list of sections may be empty.
+/// Fills `map` with the index map of the sections in `sections`, and empties `sections`.
 #[unsafe(no_mangle)]
 pub extern "C" fn sm_sections_finish(
     alloc: Global,
@@ -245,8 +225,7 @@ pub extern "C" fn sm_sections_finish(
     ensures emptied { result ≡ 0 → held_in sections.new ≡ None }
     ensures refused { result ≢ 0 → (held_in sections.new ≡ held_in sections.old)
         ⊎ ((result ≡ 20) × (held_in sections.new ≡ None)) }
-    ensures other { list_in (held_in sections.old) ≡ None
-        → held_in sections.new ≡ held_in sections.old }
+    ensures other { list_in (held_in sections.old) ≡ None → held_in sections.new ≡ held_in sections.old }
 {
     let outcome = finish_sections(
         alloc,
@@ -282,8 +261,7 @@ fn finish_sections(
         (OfLibraryOrKind NoError (list_in (held_in sections.old) ≡ None))))
         (held_in map.new ≡ held_in map.old) }
     ensures emptied { Empties result (held_in sections.old) (held_in sections.new) }
-    ensures other { list_in (held_in sections.old) ≡ None
-        → held_in sections.new ≡ held_in sections.old }
+    ensures other { list_in (held_in sections.old) ≡ None → held_in sections.new ≡ held_in sections.old }
 {
     match parts_of(
         alloc,
@@ -309,12 +287,10 @@ fn parts_of(
     paths: &[&[u8]],
 ) -> Outcome<IndexParts>
     ensures { let texts = list_map (λ path. path.now) paths.now in
-        MatchResult result
-        (λ parts. (option_map string_bytes parts.file ≡ text_if has_file file.now)
+        MatchResult result (λ parts. (option_map string_bytes parts.file ≡ text_if has_file file.now)
         × (option_map (λ v. v.items) parts.offsets ≡ if_given has_offsets (list_map line_of offsets.now))
         × (option_map (λ v. list_map string_bytes v.items) parts.paths ≡ if_given has_paths texts))
-        (λ failure. UnlessMemory failure
-        (OrNoText has_file file.now (IsNoPathIf has_paths texts) failure)) }
+        (λ failure. UnlessMemory failure (OrNoText has_file file.now (IsNoPathIf has_paths texts) failure)) }
 {
     let paths = paths_if(alloc, has_paths, paths)?;
     let file = string_if(alloc, has_file, file)?;
@@ -393,13 +369,10 @@ fn finish_with(
 ) -> Outcome<()>
     ensures made { let due = index_of (option_map string_bytes parts.file) (option_map (λ v. v.items) parts.offsets)
         (option_map (λ v. list_map string_bytes v.items) parts.paths) in
-        Does result
-        (IsSomeAnd (list_in (held_in handle.old)) (λ ss. tree_in (held_in map.new) ≡ Some (due ss)))
-        (OfLibraryOrKind NoError (list_in (held_in handle.old) ≡ None))
-        (held_in map.new ≡ held_in map.old) }
+        Does result (IsSomeAnd (list_in (held_in handle.old)) (λ ss. tree_in (held_in map.new) ≡ Some (due ss)))
+        (OfLibraryOrKind NoError (list_in (held_in handle.old) ≡ None)) (held_in map.new ≡ held_in map.old) }
     ensures emptied { Empties result (held_in handle.old) (held_in handle.new) }
-    ensures other { list_in (held_in handle.old) ≡ None
-        → held_in handle.new ≡ held_in handle.old }
+    ensures other { list_in (held_in handle.old) ≡ None → held_in handle.new ≡ held_in handle.old }
 {
     match take_sections(alloc, handle) {
         Some(sections) => put_index(alloc, map, parts, sections),
@@ -415,10 +388,8 @@ fn put_index(
 ) -> Outcome<()>
     ensures { let due = index_of (option_map string_bytes parts.file) (option_map (λ v. v.items) parts.offsets)
         (option_map (λ v. list_map string_bytes v.items) parts.paths) in
-        Does result
-        (tree_in (held_in map.new) ≡ Some (due (list_map section_value sections.items)))
-        (OfLibrary NoError)
-        (held_in map.new ≡ held_in map.old) }
+        Does result (tree_in (held_in map.new) ≡ Some (due (list_map section_value sections.items)))
+        (OfLibrary NoError) (held_in map.new ≡ held_in map.old) }
 {
     let IndexParts {
         file,
@@ -430,11 +401,9 @@ fn put_index(
 }
 
 fn take_sections(alloc: Global, handle: &mut Handle) -> Option<Vec<SourceMapSection>>
-    ensures value { option_map (λ ss. list_map section_value ss.items) result
-        ≡ list_in (held_in handle.old) }
+    ensures value { option_map (λ ss. list_map section_value ss.items) result ≡ list_in (held_in handle.old) }
     ensures emptied { IfSome (list_in (held_in handle.old)) (λ _. held_in handle.new ≡ None) }
-    ensures other { list_in (held_in handle.old) ≡ None
-        → held_in handle.new ≡ held_in handle.old }
+    ensures other { list_in (held_in handle.old) ≡ None → held_in handle.new ≡ held_in handle.old }
 {
     if !holds_sections(handle) {
         return None;

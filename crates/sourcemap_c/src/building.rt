@@ -46,17 +46,14 @@ pub extern "C" fn sm_builder_new(
 ) -> u32
     ensures { Answers result error.old error.new
         (builder_in (held_in builder.new) ≡ Some (empty_builder (text_if has_file file.now)))
-        (OrNoText has_file file.now (OfLibrary NoError))
-        (held_in builder.new ≡ held_in builder.old) }
+        (OrNoText has_file file.now (OfLibrary NoError)) (held_in builder.new ≡ held_in builder.old) }
 {
     finish(alloc, new_builder(alloc, builder, has_file, file), error)
 }
 
 fn new_builder(alloc: Global, builder: &mut Handle, has_file: bool, file: &[u8]) -> Outcome<()>
-    ensures { Does result
-        (builder_in (held_in builder.new) ≡ Some (empty_builder (text_if has_file file.now)))
-        (OrNoText has_file file.now (OfLibrary NoError))
-        (held_in builder.new ≡ held_in builder.old) }
+    ensures { Does result (builder_in (held_in builder.new) ≡ Some (empty_builder (text_if has_file file.now)))
+        (OrNoText has_file file.now (OfLibrary NoError)) (held_in builder.new ≡ held_in builder.old) }
 {
     match text_if(has_file, file) {
         Ok(file) => put_builder(alloc, builder, file),
@@ -65,10 +62,8 @@ fn new_builder(alloc: Global, builder: &mut Handle, has_file: bool, file: &[u8])
 }
 
 fn put_builder(alloc: Global, builder: &mut Handle, file: Option<&str>) -> Outcome<()>
-    ensures { Does result
-        (builder_in (held_in builder.new) ≡ Some (empty_builder (option_copied file.entry)))
-        (OfLibrary NoError)
-        (held_in builder.new ≡ held_in builder.old) }
+    ensures { Does result (builder_in (held_in builder.new) ≡ Some (empty_builder (option_copied file.entry)))
+        (OfLibrary NoError) (held_in builder.new ≡ held_in builder.old) }
 {
     let new = SourceMapBuilder::new(alloc, file)?;
     builder.fill(alloc, Held::Builder(new))?;
@@ -177,8 +172,7 @@ fn add_source_of(alloc: Global, builder: &mut Handle, text: &str, id: &mut u32) 
 }
 
 fn add_source_to(held: &mut Held, text: &str, id: &mut u32) -> Outcome<()>
-    ensures { Does result
-        (Adds (λ b. b.interned) with_source text.now id.new (Some held.old) (Some held.new))
+    ensures { Does result (Adds (λ b. b.interned) with_source text.now id.new (Some held.old) (Some held.new))
         (AddsNot (λ b. b.interned) text.now (builder_in (Some held.old)))
         ((held.new ≡ held.old) × (id.new ≡ id.old)) }
 {
@@ -237,8 +231,7 @@ fn add_name_of(alloc: Global, builder: &mut Handle, text: &str, id: &mut u32) ->
 }
 
 fn add_name_to(held: &mut Held, text: &str, id: &mut u32) -> Outcome<()>
-    ensures { Does result
-        (Adds (λ b. b.names) with_name text.now id.new (Some held.old) (Some held.new))
+    ensures { Does result (Adds (λ b. b.names) with_name text.now id.new (Some held.old) (Some held.new))
         (AddsNot (λ b. b.names) text.now (builder_in (Some held.old)))
         ((held.new ≡ held.old) × (id.new ≡ id.old)) }
 {
@@ -251,9 +244,7 @@ fn add_name_to(held: &mut Held, text: &str, id: &mut u32) -> Outcome<()>
     }
 }
 
-/// Borrows the entry of `sources` with this id. The entry is not resolved against `sourceRoot`. The
-/// call returns `SM_ABSENT` if no source has this id, and `SM_WRONG_KIND` if the handle holds no
-/// builder.
+/// Borrows the entry of `sources` with this id, not resolved against `sourceRoot`.
 #[unsafe(no_mangle)]
 pub extern "C" fn sm_builder_source<'a>(
     builder: &'a mut Handle,
@@ -268,8 +259,7 @@ pub extern "C" fn sm_builder_source<'a>(
 }
 
 fn put_source<'a>(held: Option<&'a Held>, id: u32, text: &mut &'a [u8]) -> u32
-    ensures { ReturnsValue
-        (option_map (λ b. slice_get b.sources id) (builder_in (option_copied held.entry)))
+    ensures { ReturnsValue (option_map (λ b. slice_get b.sources id) (builder_in (option_copied held.entry)))
         result text.old.now text.new.now }
 {
     match held {
@@ -278,11 +268,7 @@ fn put_source<'a>(held: Option<&'a Held>, id: u32, text: &mut &'a [u8]) -> u32
     }
 }
 
-/// Sets the entry of `sources` with this id to `source`. The call does not resolve `source` against
-/// `sourceRoot`. The builder remembers the text with which the source was added. If this text is
-/// added again, `sm_builder_add_source` writes the same id. The errors are `Utf8` if `source` is
-/// not UTF-8, `Absent` if no source has this id, `WrongKind` if the handle holds no builder, and
-/// `OutOfMemory`. After an error the value of the handle is unchanged.
+/// Sets the entry of `sources` with this id, not resolved against `sourceRoot`.
 #[unsafe(no_mangle)]
 pub extern "C" fn sm_builder_set_source(
     alloc: Global,
@@ -300,8 +286,7 @@ pub extern "C" fn sm_builder_set_source(
 }
 
 fn set_source(alloc: Global, builder: &mut Handle, id: u32, source: &[u8]) -> Outcome<()>
-    ensures { Does result
-        (HoldsStep (HasSource id source.now) (held_in builder.old) (held_in builder.new))
+    ensures { Does result (HoldsStep (HasSource id source.now) (held_in builder.old) (held_in builder.new))
         (OrNoText true source.now (FailsStep (HasSource id source.now) (builder_in (held_in builder.old))))
         (held_in builder.new ≡ held_in builder.old) }
 {
@@ -311,12 +296,7 @@ fn set_source(alloc: Global, builder: &mut Handle, id: u32, source: &[u8]) -> Ou
     }
 }
 
-/// Removes from each source the first of `prefixes` that the source starts with. A prefix that does
-/// not end with `/` is used with a `/` appended: `a` turns `a/b` into `b`, and does not match `ab`.
-/// `~` has no special meaning. The builder remembers the text with which each source was added. If
-/// such a text is added again, `sm_builder_add_source` writes the same id. The errors are `Utf8` if
-/// a prefix is not UTF-8, `WrongKind` if the handle holds no builder, and `OutOfMemory`. After an
-/// error the value of the handle is unchanged.
+/// Removes from each source the first of `prefixes` that the source starts with.
 #[unsafe(no_mangle)]
 pub extern "C" fn sm_builder_strip_prefixes(
     alloc: Global,
@@ -403,8 +383,7 @@ pub extern "C" fn sm_builder_ignore_source(
 }
 
 fn step_in(alloc: Global, handle: &mut Handle, step: &Step<'_>) -> Outcome<()>
-    ensures { Does result
-        (HoldsStep (StepsTo step.now) (held_in handle.old) (held_in handle.new))
+    ensures { Does result (HoldsStep (StepsTo step.now) (held_in handle.old) (held_in handle.new))
         (FailsStep (StepsTo step.now) (builder_in (held_in handle.old)))
         (held_in handle.new ≡ held_in handle.old) }
 {
@@ -419,10 +398,8 @@ fn step_in(alloc: Global, handle: &mut Handle, step: &Step<'_>) -> Outcome<()>
 }
 
 fn step_held(held: &mut Held, step: &Step<'_>) -> Outcome<()>
-    ensures { Does result
-        (HoldsStep (StepsTo step.now) (Some held.old) (Some held.new))
-        (FailsStep (StepsTo step.now) (builder_in (Some held.old)))
-        (held.new ≡ held.old) }
+    ensures { Does result (HoldsStep (StepsTo step.now) (Some held.old) (Some held.new))
+        (FailsStep (StepsTo step.now) (builder_in (Some held.old))) (held.new ≡ held.old) }
 {
     match held {
         Held::Builder(builder) => step_builder(builder, step),
@@ -431,10 +408,8 @@ fn step_held(held: &mut Held, step: &Step<'_>) -> Outcome<()>
 }
 
 fn step_builder(builder: &mut SourceMapBuilder, step: &Step<'_>) -> Outcome<()>
-    ensures { Does result
-        (StepsTo step.now builder.old (Ok builder.new))
-        (λ failure. StepsTo step.now builder.old (Err failure))
-        (builder.new ≡ builder.old) }
+    ensures { Does result (StepsTo step.now builder.old (Ok builder.new))
+        (λ failure. StepsTo step.now builder.old (Err failure)) (builder.new ≡ builder.old) }
 {
     match step {
         Step::Root(root) => builder.set_source_root(*root)?,
@@ -448,10 +423,8 @@ fn step_builder(builder: &mut SourceMapBuilder, step: &Step<'_>) -> Outcome<()>
 }
 
 fn replace_source(builder: &mut SourceMapBuilder, id: u32, source: &str) -> Outcome<()>
-    ensures { Does result
-        (HasSource id source.now builder.old (Ok builder.new))
-        (λ failure. HasSource id source.now builder.old (Err failure))
-        (builder.new ≡ builder.old) }
+    ensures { Does result (HasSource id source.now builder.old (Ok builder.new))
+        (λ failure. HasSource id source.now builder.old (Err failure)) (builder.new ≡ builder.old) }
 {
     if builder.get_source(id).is_none() {
         return Err(Failure::Absent);
@@ -461,8 +434,7 @@ fn replace_source(builder: &mut SourceMapBuilder, id: u32, source: &str) -> Outc
 }
 
 fn put_contents(builder: &mut SourceMapBuilder, id: u32, contents: Option<&str>) -> Outcome<()>
-    ensures { Does result
-        (HasContents id (option_copied contents.entry) builder.old (Ok builder.new))
+    ensures { Does result (HasContents id (option_copied contents.entry) builder.old (Ok builder.new))
         (λ failure. HasContents id (option_copied contents.entry) builder.old (Err failure))
         (builder.new ≡ builder.old) }
 {
@@ -474,10 +446,8 @@ fn put_contents(builder: &mut SourceMapBuilder, id: u32, contents: Option<&str>)
 }
 
 fn ignore(builder: &mut SourceMapBuilder, id: u32) -> Outcome<()>
-    ensures { Does result
-        (Ignores id builder.old (Ok builder.new))
-        (λ failure. Ignores id builder.old (Err failure))
-        (builder.new ≡ builder.old) }
+    ensures { Does result (Ignores id builder.old (Ok builder.new))
+        (λ failure. Ignores id builder.old (Err failure)) (builder.new ≡ builder.old) }
 {
     if builder.get_source(id).is_none() {
         return Err(Failure::Absent);
@@ -500,8 +470,7 @@ pub extern "C" fn sm_builder_add_tokens(
     ensures other { builder_in (held_in builder.old) ≡ None
         → (result ≡ 0) × (held_in builder.new ≡ held_in builder.old) }
     ensures bound { result ≤ length tokens.now }
-    ensures all { AddsAll (builder_in (held_in builder.old)) (length tokens.now) result error.old
-        error.new }
+    ensures all { AddsAll (builder_in (held_in builder.old)) (length tokens.now) result error.old error.new }
 {
     let (count, outcome) = add_tokens(alloc, builder, tokens);
     finish(alloc, outcome, error);
@@ -587,29 +556,23 @@ pub extern "C" fn sm_builder_finish(
     map: &mut Handle,
     error: &mut ErrorReport,
 ) -> u32
-    ensures built { Answers result error.old error.new
-        (IsSomeAnd (builder_in (held_in builder.old))
+    ensures built { Answers result error.old error.new (IsSomeAnd (builder_in (held_in builder.old))
         (λ b. tree_in (held_in map.new) ≡ Some (leaf (regular (built b)))))
         (OfLibraryOrKind NoError (builder_in (held_in builder.old) ≡ None))
         (held_in map.new ≡ held_in map.old) }
-    ensures emptied { IfSome (builder_in (held_in builder.old))
-        (λ _. held_in builder.new ≡ None) }
-    ensures other { builder_in (held_in builder.old) ≡ None
-        → held_in builder.new ≡ held_in builder.old }
+    ensures emptied { IfSome (builder_in (held_in builder.old)) (λ _. held_in builder.new ≡ None) }
+    ensures other { builder_in (held_in builder.old) ≡ None → held_in builder.new ≡ held_in builder.old }
 {
     finish(alloc, finish_builder(alloc, builder, map), error)
 }
 
 fn finish_builder(alloc: Global, builder: &mut Handle, map: &mut Handle) -> Outcome<()>
-    ensures built { Does result
-        (IsSomeAnd (builder_in (held_in builder.old))
+    ensures built { Does result (IsSomeAnd (builder_in (held_in builder.old))
         (λ b. tree_in (held_in map.new) ≡ Some (leaf (regular (built b)))))
         (OfLibraryOrKind NoError (builder_in (held_in builder.old) ≡ None))
         (held_in map.new ≡ held_in map.old) }
-    ensures emptied { IfSome (builder_in (held_in builder.old))
-        (λ _. held_in builder.new ≡ None) }
-    ensures other { builder_in (held_in builder.old) ≡ None
-        → held_in builder.new ≡ held_in builder.old }
+    ensures emptied { IfSome (builder_in (held_in builder.old)) (λ _. held_in builder.new ≡ None) }
+    ensures other { builder_in (held_in builder.old) ≡ None → held_in builder.new ≡ held_in builder.old }
 {
     match take_builder(alloc, builder) {
         Some(builder) => put_built(alloc, builder, map),
@@ -620,8 +583,7 @@ fn finish_builder(alloc: Global, builder: &mut Handle, map: &mut Handle) -> Outc
 fn take_builder(alloc: Global, handle: &mut Handle) -> Option<SourceMapBuilder>
     ensures value { result ≡ builder_in (held_in handle.old) }
     ensures emptied { IfSome (builder_in (held_in handle.old)) (λ _. held_in handle.new ≡ None) }
-    ensures other { builder_in (held_in handle.old) ≡ None
-        → held_in handle.new ≡ held_in handle.old }
+    ensures other { builder_in (held_in handle.old) ≡ None → held_in handle.new ≡ held_in handle.old }
 {
     if !holds_builder(handle) {
         return None;
@@ -640,10 +602,8 @@ fn holds_builder(handle: &mut Handle) -> bool
 }
 
 fn put_built(alloc: Global, builder: SourceMapBuilder, map: &mut Handle) -> Outcome<()>
-    ensures { Does result
-        (tree_in (held_in map.new) ≡ Some (leaf (regular (built builder))))
-        (OfLibrary NoError)
-        (held_in map.new ≡ held_in map.old) }
+    ensures { Does result (tree_in (held_in map.new) ≡ Some (leaf (regular (built builder))))
+        (OfLibrary NoError) (held_in map.new ≡ held_in map.old) }
 {
     match builder.into_sourcemap() {
         Ok(built) => put_map(alloc, map, DecodedMap::Regular(built)),

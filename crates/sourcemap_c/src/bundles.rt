@@ -43,17 +43,14 @@ pub extern "C" fn sm_bundle_open(
 ) -> u32
     ensures { Answers result error.old error.new
         (option_map Ok (bundle_in (held_in bundle.new)) ≡ Some (indexed_bundle bytes.now))
-        (OfLibrary (λ e. indexed_bundle bytes.now ≡ Err e))
-        (held_in bundle.new ≡ held_in bundle.old) }
+        (OfLibrary (λ e. indexed_bundle bytes.now ≡ Err e)) (held_in bundle.new ≡ held_in bundle.old) }
 {
     finish(alloc, open(alloc, bundle, bytes), error)
 }
 
 fn open(alloc: Global, bundle: &mut Handle, bytes: &[u8]) -> Outcome<()>
-    ensures { Does result
-        (option_map Ok (bundle_in (held_in bundle.new)) ≡ Some (indexed_bundle bytes.now))
-        (OfLibrary (λ e. indexed_bundle bytes.now ≡ Err e))
-        (held_in bundle.new ≡ held_in bundle.old) }
+    ensures { Does result (option_map Ok (bundle_in (held_in bundle.new)) ≡ Some (indexed_bundle bytes.now))
+        (OfLibrary (λ e. indexed_bundle bytes.now ≡ Err e)) (held_in bundle.new ≡ held_in bundle.old) }
 {
     let copy = Vec::from_slice(alloc, bytes)?;
     match RamBundle::parse_indexed_from_vec(copy) {
@@ -63,9 +60,7 @@ fn open(alloc: Global, bundle: &mut Handle, bytes: &[u8]) -> Outcome<()>
 }
 
 fn put_bundle(alloc: Global, parsed: RamBundle<'static>, bundle: &mut Handle) -> Outcome<()>
-    ensures { Does result
-        (bundle_in (held_in bundle.new) ≡ Some parsed.entry)
-        (OfLibrary NoError)
+    ensures { Does result (bundle_in (held_in bundle.new) ≡ Some parsed.entry) (OfLibrary NoError)
         (held_in bundle.new ≡ held_in bundle.old) }
 {
     bundle.fill(alloc, Held::Bundle(parsed))?;
@@ -101,8 +96,7 @@ pub extern "C" fn sm_bundle_startup<'a>(
     ensures answer { Answers result error.old error.new
         (option_map bundle_startup (bundle_in (held_in bundle.old)) ≡ Some (Ok bytes.new.now))
         (OfLibraryOrKind (λ e. option_map bundle_startup (bundle_in (held_in bundle.old)) ≡ Some (Err e))
-        (bundle_in (held_in bundle.old) ≡ None))
-        (bytes.new.now ≡ bytes.old.now) }
+        (bundle_in (held_in bundle.old) ≡ None)) (bytes.new.now ≡ bytes.old.now) }
 {
     answer_startup(alloc, bundle.get(), bytes, error)
 }
@@ -115,10 +109,8 @@ fn answer_startup<'a>(
 ) -> u32
     ensures { Answers result error.old error.new
         (option_map bundle_startup (bundle_in (option_copied held.entry)) ≡ Some (Ok bytes.new.now))
-        (OfLibraryOrKind
-        (λ e. option_map bundle_startup (bundle_in (option_copied held.entry)) ≡ Some (Err e))
-        (bundle_in (option_copied held.entry) ≡ None))
-        (bytes.new.now ≡ bytes.old.now) }
+        (OfLibraryOrKind (λ e. option_map bundle_startup (bundle_in (option_copied held.entry)) ≡ Some (Err e))
+        (bundle_in (option_copied held.entry) ≡ None)) (bytes.new.now ≡ bytes.old.now) }
 {
     finish(alloc, startup(held, bytes), error)
 }
@@ -126,10 +118,8 @@ fn answer_startup<'a>(
 fn startup<'a>(held: Option<&'a Held>, bytes: &mut &'a [u8]) -> Outcome<()>
     ensures { Does result
         (option_map bundle_startup (bundle_in (option_copied held.entry)) ≡ Some (Ok bytes.new.now))
-        (OfLibraryOrKind
-        (λ e. option_map bundle_startup (bundle_in (option_copied held.entry)) ≡ Some (Err e))
-        (bundle_in (option_copied held.entry) ≡ None))
-        (bytes.new.now ≡ bytes.old.now) }
+        (OfLibraryOrKind (λ e. option_map bundle_startup (bundle_in (option_copied held.entry)) ≡ Some (Err e))
+        (bundle_in (option_copied held.entry) ≡ None)) (bytes.new.now ≡ bytes.old.now) }
 {
     match held {
         Some(Held::Bundle(bundle)) => put_startup(bundle, bytes),
@@ -138,10 +128,8 @@ fn startup<'a>(held: Option<&'a Held>, bytes: &mut &'a [u8]) -> Outcome<()>
 }
 
 fn put_startup<'a>(bundle: &'a RamBundle<'static>, bytes: &mut &'a [u8]) -> Outcome<()>
-    ensures { Does result
-        (bundle_startup bundle.now ≡ Ok bytes.new.now)
-        (OfLibrary (λ e. bundle_startup bundle.now ≡ Err e))
-        (bytes.new.now ≡ bytes.old.now) }
+    ensures { Does result (bundle_startup bundle.now ≡ Ok bytes.new.now)
+        (OfLibrary (λ e. bundle_startup bundle.now ≡ Err e)) (bytes.new.now ≡ bytes.old.now) }
 {
     match bundle.startup_code() {
         Ok(code) => {
@@ -207,8 +195,7 @@ fn module<'a>(held: Option<&'a Held>, id: usize, bytes: &mut &'a [u8]) -> Outcom
 }
 
 fn put_module<'a>(bundle: &'a RamBundle<'static>, id: usize, bytes: &mut &'a [u8]) -> Outcome<()>
-    ensures { Does result
-        (module_bytes bundle.now id ≡ Ok (Some bytes.new.now))
+    ensures { Does result (module_bytes bundle.now id ≡ Ok (Some bytes.new.now))
         (OfLibraryKindOrAbsent (λ e. module_bytes bundle.now id ≡ Err e) ⊥ (module_bytes bundle.now id ≡ Ok None))
         (bytes.new.now ≡ bytes.old.now) }
 {
@@ -222,11 +209,8 @@ fn put_module<'a>(bundle: &'a RamBundle<'static>, id: usize, bytes: &mut &'a [u8
     }
 }
 
-/// Splits the bundle in `bundle` by the index map in `index`. Fills `split` with all items that the
-/// iterator of `split_ram_bundle` returns. An item is the name, the text and the map of a module,
-/// or an error. If an item is the error `OutOfMemory`, the call returns `OutOfMemory`. The other
-/// errors of the call are the errors of `split_ram_bundle`, and `WrongKind` if `bundle` holds no
-/// bundle or `index` holds no index map. After an error `split` is unchanged.
+/// Splits the bundle by the index map in `index`, and fills `split` with its items: modules and
+/// errors.
 #[unsafe(no_mangle)]
 pub extern "C" fn sm_bundle_split(
     alloc: Global,
@@ -270,10 +254,8 @@ fn split_with(
     index: &mut Handle,
     split: &mut Handle,
 ) -> Outcome<()>
-    ensures split { Does result
-        (IsSplit (Some bundle.now) (tree_in (held_in index.old)) (held_in split.new))
-        (IsUnsplit (Some bundle.now) (tree_in (held_in index.old)))
-        (held_in split.new ≡ held_in split.old) }
+    ensures split { Does result (IsSplit (Some bundle.now) (tree_in (held_in index.old)) (held_in split.new))
+        (IsUnsplit (Some bundle.now) (tree_in (held_in index.old))) (held_in split.new ≡ held_in split.old) }
     ensures index { held_in index.new ≡ held_in index.old }
 {
     match map_in(index) {
@@ -288,10 +270,8 @@ fn split_by_map(
     tree: &DecodedMap,
     split: &mut Handle,
 ) -> Outcome<()>
-    ensures { Does result
-        (IsSplit (Some bundle.now) (Some (map_tree tree.now)) (held_in split.new))
-        (IsUnsplit (Some bundle.now) (Some (map_tree tree.now)))
-        (held_in split.new ≡ held_in split.old) }
+    ensures { Does result (IsSplit (Some bundle.now) (Some (map_tree tree.now)) (held_in split.new))
+        (IsUnsplit (Some bundle.now) (Some (map_tree tree.now))) (held_in split.new ≡ held_in split.old) }
 {
     match tree {
         DecodedMap::Index(index) => put_split(alloc, bundle, index, split),
@@ -321,10 +301,8 @@ fn put_items(
     modules: SplitRamBundleModuleIter<'_>,
     split: &mut Handle,
 ) -> Outcome<()>
-    ensures { Does result
-        (items_in (held_in split.new) ≡ Some (map due_value (dues_left modules.entry)))
-        (OfLibrary NoError)
-        (held_in split.new ≡ held_in split.old) }
+    ensures { Does result (items_in (held_in split.new) ≡ Some (map due_value (dues_left modules.entry)))
+        (OfLibrary NoError) (held_in split.new ≡ held_in split.old) }
 {
     let items = items_of(alloc, modules)?;
     split.fill(alloc, Held::Split(items))?;
@@ -463,8 +441,7 @@ fn put_texts_of<'a>(
     name: &mut &'a [u8],
     text: &mut &'a [u8],
 ) -> Outcome<()>
-    ensures { Does result
-        (IsNamed (item_of (Some (map item_value items.now)) item) name.new.now text.new.now)
+    ensures { Does result (IsNamed (item_of (Some (map item_value items.now)) item) name.new.now text.new.now)
         (IsNoItem (item_of (Some (map item_value items.now)) item))
         ((name.new.now ≡ name.old.now) × (text.new.now ≡ text.old.now)) }
 {
@@ -478,10 +455,7 @@ fn put_texts_of<'a>(
     }
 }
 
-/// Fills `to` with the map of an item. The map is not copied: `split` and `to` share it. The errors
-/// are `InvalidRamBundleEntry` if the item holds an error, `Absent` if there is no such item,
-/// `WrongKind` if `split` holds no split bundle, and `OutOfMemory`. After an error `to` is
-/// unchanged.
+/// Fills `to` with the map of an item. The map is not copied: `split` and `to` share it.
 #[unsafe(no_mangle)]
 pub extern "C" fn sm_split_map(
     alloc: Global,
@@ -492,18 +466,15 @@ pub extern "C" fn sm_split_map(
 ) -> u32
     ensures map { Answers result error.old error.new
         (HasMap (item_of (items_in (held_in split.old)) item) (tree_in (held_in to.new)))
-        (IsNoItem (item_of (items_in (held_in split.old)) item))
-        (held_in to.new ≡ held_in to.old) }
+        (IsNoItem (item_of (items_in (held_in split.old)) item)) (held_in to.new ≡ held_in to.old) }
     ensures kept { held_in split.new ≡ held_in split.old }
 {
     finish(alloc, put_map_of(alloc, split, item, to), error)
 }
 
 fn put_map_of(alloc: Global, split: &mut Handle, item: usize, to: &mut Handle) -> Outcome<()>
-    ensures map { Does result
-        (HasMap (item_of (items_in (held_in split.old)) item) (tree_in (held_in to.new)))
-        (IsNoItem (item_of (items_in (held_in split.old)) item))
-        (held_in to.new ≡ held_in to.old) }
+    ensures map { Does result (HasMap (item_of (items_in (held_in split.old)) item) (tree_in (held_in to.new)))
+        (IsNoItem (item_of (items_in (held_in split.old)) item)) (held_in to.new ≡ held_in to.old) }
     ensures kept { held_in split.new ≡ held_in split.old }
 {
     match items_in(split) {
@@ -518,10 +489,8 @@ fn put_map_at(
     item: usize,
     to: &mut Handle,
 ) -> Outcome<()>
-    ensures { Does result
-        (HasMap (item_of (Some (map item_value items.now)) item) (tree_in (held_in to.new)))
-        (IsNoItem (item_of (Some (map item_value items.now)) item))
-        (held_in to.new ≡ held_in to.old) }
+    ensures { Does result (HasMap (item_of (Some (map item_value items.now)) item) (tree_in (held_in to.new)))
+        (IsNoItem (item_of (Some (map item_value items.now)) item)) (held_in to.new ≡ held_in to.old) }
 {
     match item_at(items, item) {
         Ok(found) => put_shared_map(alloc, found, to),
@@ -530,9 +499,7 @@ fn put_map_at(
 }
 
 fn put_shared_map(alloc: Global, found: &SplitModule, to: &mut Handle) -> Outcome<()>
-    ensures { Does result
-        (tree_in (held_in to.new) ≡ Some (module_value found.now).tree)
-        (OfLibrary NoError)
+    ensures { Does result (tree_in (held_in to.new) ≡ Some (module_value found.now).tree) (OfLibrary NoError)
         (held_in to.new ≡ held_in to.old) }
 {
     match Arc::try_clone(&found.map) {

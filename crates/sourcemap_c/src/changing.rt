@@ -40,18 +40,15 @@ pub extern "C" fn sm_shift(
     lines: u32,
     error: &mut ErrorReport,
 ) -> u32
-    ensures { Answers result error.old error.new
-        (HoldsNew (IsDown lines) (held_in map.old) (held_in map.new))
-        (FailsAs (IsDown lines) (tree_in (held_in map.old)))
-        (IsAsBefore (held_in map.old) (held_in map.new)) }
+    ensures { Answers result error.old error.new (HoldsNew (IsDown lines) (held_in map.old) (held_in map.new))
+        (FailsAs (IsDown lines) (tree_in (held_in map.old))) (IsAsBefore (held_in map.old) (held_in map.new)) }
 {
     finish(alloc, change_map(alloc, map, &Change::Down(lines)), error)
 }
 
 /// Changes the map in the handle. After an error the value of the handle is unchanged.
 pub(crate) fn change_map(alloc: Global, handle: &mut Handle, change: &Change<'_>) -> Outcome<()>
-    ensures { Does result
-        (HoldsNew (ChangesTo change.now) (held_in handle.old) (held_in handle.new))
+    ensures { Does result (HoldsNew (ChangesTo change.now) (held_in handle.old) (held_in handle.new))
         (FailsAs (ChangesTo change.now) (tree_in (held_in handle.old)))
         (IsAsBefore (held_in handle.old) (held_in handle.new)) }
 {
@@ -66,8 +63,7 @@ pub(crate) fn change_map(alloc: Global, handle: &mut Handle, change: &Change<'_>
 }
 
 fn change_held(alloc: Global, held: &mut Held, change: &Change<'_>) -> Outcome<()>
-    ensures { Does result
-        (HoldsNew (ChangesTo change.now) (Some held.old) (Some held.new))
+    ensures { Does result (HoldsNew (ChangesTo change.now) (Some held.old) (Some held.new))
         (FailsAs (ChangesTo change.now) (tree_in (Some held.old)))
         (IsAsBefore (Some held.old) (Some held.new)) }
 {
@@ -111,8 +107,7 @@ fn change_copy(alloc: Global, map: &DecodedMap, change: &Change<'_>) -> Outcome<
 }
 
 fn apply(map: &mut DecodedMap, change: &Change<'_>) -> Outcome<()>
-    ensures { Does result
-        (ChangesTo change.now (map_tree map.old) (Ok (map_tree map.new)))
+    ensures { Does result (ChangesTo change.now (map_tree map.old) (Ok (map_tree map.new)))
         (λ failure. ChangesTo change.now (map_tree map.old) (Err failure))
         (map_tree map.new ≡ map_tree map.old) }
 {
@@ -129,8 +124,7 @@ fn apply(map: &mut DecodedMap, change: &Change<'_>) -> Outcome<()>
 }
 
 fn set_file(map: &mut DecodedMap, file: Option<&str>) -> Outcome<()>
-    ensures { Does result
-        (HasFile (option_copied file.entry) (map_tree map.old) (Ok (map_tree map.new)))
+    ensures { Does result (HasFile (option_copied file.entry) (map_tree map.old) (Ok (map_tree map.new)))
         (λ failure. HasFile (option_copied file.entry) (map_tree map.old) (Err failure))
         (map_tree map.new ≡ map_tree map.old) }
 {
@@ -143,8 +137,7 @@ fn set_file(map: &mut DecodedMap, file: Option<&str>) -> Outcome<()>
 }
 
 fn set_root(map: &mut DecodedMap, root: Option<&str>) -> Outcome<()>
-    ensures { Does result
-        (HasRoot (option_copied root.entry) (map_tree map.old) (Ok (map_tree map.new)))
+    ensures { Does result (HasRoot (option_copied root.entry) (map_tree map.old) (Ok (map_tree map.new)))
         (λ failure. HasRoot (option_copied root.entry) (map_tree map.old) (Err failure))
         (map_tree map.new ≡ map_tree map.old) }
 {
@@ -157,18 +150,15 @@ fn set_root(map: &mut DecodedMap, root: Option<&str>) -> Outcome<()>
 }
 
 fn set_id(map: &mut DecodedMap, id: Option<DebugId>) -> Outcome<()>
-    ensures { Does result
-        (HasId id (map_tree map.old) (Ok (map_tree map.new)))
-        (λ failure. HasId id (map_tree map.old) (Err failure))
-        (map_tree map.new ≡ map_tree map.old) }
+    ensures { Does result (HasId id (map_tree map.old) (Ok (map_tree map.new)))
+        (λ failure. HasId id (map_tree map.old) (Err failure)) (map_tree map.new ≡ map_tree map.old) }
 {
     map.set_debug_id(id);
     Ok(())
 }
 
 fn set_source(map: &mut DecodedMap, id: u32, source: &str) -> Outcome<()>
-    ensures { Does result
-        (HasSource id source.now (map_tree map.old) (Ok (map_tree map.new)))
+    ensures { Does result (HasSource id source.now (map_tree map.old) (Ok (map_tree map.new)))
         (λ failure. HasSource id source.now (map_tree map.old) (Err failure))
         (map_tree map.new ≡ map_tree map.old) }
 {
@@ -180,11 +170,9 @@ fn set_source(map: &mut DecodedMap, id: u32, source: &str) -> Outcome<()>
 }
 
 fn set_source_of(map: &mut SourceMap, id: u32, source: &str) -> Outcome<()>
-    ensures { Does result
-        ((id < length map.old.sources)
+    ensures { Does result ((id < length map.old.sources)
         × (map.new ≡ record map.old { sources = slice_set map.old.sources id source.now }))
-        (λ failure. (length map.old.sources ≤ id) × (failure ≡ Absent))
-        (map.new ≡ map.old) }
+        (λ failure. (length map.old.sources ≤ id) × (failure ≡ Absent)) (map.new ≡ map.old) }
 {
     if id >= map.get_source_count() {
         return Err(Failure::Absent);
@@ -207,13 +195,10 @@ fn set_contents(map: &mut DecodedMap, id: u32, contents: Option<&str>) -> Outcom
 }
 
 fn set_contents_of(map: &mut SourceMap, id: u32, contents: Option<&str>) -> Outcome<()>
-    ensures { Does result
-        ((id < length map.old.sources) × (map.new ≡ record map.old {
-          contents = slice_set (fitted (length map.old.sources) map.old.contents) id
-              (option_copied contents.entry);
-        }))
-        (λ failure. (length map.old.sources ≤ id) × (failure ≡ Absent))
-        (map.new ≡ map.old) }
+    ensures { Does result ((id < length map.old.sources) × (map.new ≡ record map.old {
+      contents = slice_set (fitted (length map.old.sources) map.old.contents) id
+          (option_copied contents.entry);
+    })) (λ failure. (length map.old.sources ≤ id) × (failure ≡ Absent)) (map.new ≡ map.old) }
 {
     if id >= map.get_source_count() {
         return Err(Failure::Absent);
@@ -223,10 +208,8 @@ fn set_contents_of(map: &mut SourceMap, id: u32, contents: Option<&str>) -> Outc
 }
 
 fn ignore(map: &mut DecodedMap, id: u32) -> Outcome<()>
-    ensures { Does result
-        (Ignores id (map_tree map.old) (Ok (map_tree map.new)))
-        (λ failure. Ignores id (map_tree map.old) (Err failure))
-        (map_tree map.new ≡ map_tree map.old) }
+    ensures { Does result (Ignores id (map_tree map.old) (Ok (map_tree map.new)))
+        (λ failure. Ignores id (map_tree map.old) (Err failure)) (map_tree map.new ≡ map_tree map.old) }
 {
     match map {
         DecodedMap::Regular(map) => ignore_of(map, id),
@@ -236,11 +219,9 @@ fn ignore(map: &mut DecodedMap, id: u32) -> Outcome<()>
 }
 
 fn ignore_of(map: &mut SourceMap, id: u32) -> Outcome<()>
-    ensures { Does result
-        ((id < length map.old.sources)
+    ensures { Does result ((id < length map.old.sources)
         × (map.new ≡ record map.old { ignored = insert_key nat_cmp map.old.ignored id }))
-        (λ failure. (length map.old.sources ≤ id) × (failure ≡ Absent))
-        (map.new ≡ map.old) }
+        (λ failure. (length map.old.sources ≤ id) × (failure ≡ Absent)) (map.new ≡ map.old) }
 {
     if id >= map.get_source_count() {
         return Err(Failure::Absent);
@@ -250,10 +231,8 @@ fn ignore_of(map: &mut SourceMap, id: u32) -> Outcome<()>
 }
 
 fn remove_names(map: &mut DecodedMap) -> Outcome<()>
-    ensures { Does result
-        (HasNoNames (map_tree map.old) (Ok (map_tree map.new)))
-        (λ failure. HasNoNames (map_tree map.old) (Err failure))
-        (map_tree map.new ≡ map_tree map.old) }
+    ensures { Does result (HasNoNames (map_tree map.old) (Ok (map_tree map.new)))
+        (λ failure. HasNoNames (map_tree map.old) (Err failure)) (map_tree map.new ≡ map_tree map.old) }
 {
     match map {
         DecodedMap::Regular(map) => map.remove_names(),
@@ -264,10 +243,8 @@ fn remove_names(map: &mut DecodedMap) -> Outcome<()>
 }
 
 fn move_down(map: &mut DecodedMap, lines: u32) -> Outcome<()>
-    ensures { Does result
-        (IsDown lines (map_tree map.old) (Ok (map_tree map.new)))
-        (λ failure. IsDown lines (map_tree map.old) (Err failure))
-        (map_tree map.new ≡ map_tree map.old) }
+    ensures { Does result (IsDown lines (map_tree map.old) (Ok (map_tree map.new)))
+        (λ failure. IsDown lines (map_tree map.old) (Err failure)) (map_tree map.new ≡ map_tree map.old) }
 {
     match map {
         DecodedMap::Index(index) => {

@@ -18,8 +18,7 @@ pub(crate) const WRONG_KIND: u32 = 33;
 
 /// Returns the bytes as text. The error is `Utf8` if they are not UTF-8.
 pub(crate) fn text_in(bytes: &[u8]) -> Result<&str>
-    ensures { MatchResult result (λ text. (text.now ≡ bytes.now) × IsUtf8 bytes.now)
-        (IsNoText bytes.now) }
+    ensures { MatchResult result (λ text. (text.now ≡ bytes.now) × IsUtf8 bytes.now) (IsNoText bytes.now) }
 {
     Ok(str::from_utf8(bytes)?)
 }

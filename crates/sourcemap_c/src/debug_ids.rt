@@ -24,17 +24,14 @@ pub extern "C" fn sm_debug_id_text(
     error: &mut ErrorReport,
 ) -> u32
     ensures { Answers result error.old error.new
-        (bytes_in (held_in text.new) ≡ Some (debug_id_text id.now.bytes))
-        (OfLibrary NoError)
+        (bytes_in (held_in text.new) ≡ Some (debug_id_text id.now.bytes)) (OfLibrary NoError)
         (held_in text.new ≡ held_in text.old) }
 {
     finish(alloc, put_id_text(alloc, id.to_id(), text), error)
 }
 
 fn put_id_text(alloc: Global, id: DebugId, text: &mut Handle) -> Outcome<()>
-    ensures { Does result
-        (bytes_in (held_in text.new) ≡ Some (debug_id_text id))
-        (OfLibrary NoError)
+    ensures { Does result (bytes_in (held_in text.new) ≡ Some (debug_id_text id)) (OfLibrary NoError)
         (held_in text.new ≡ held_in text.old) }
 {
     match id.to_string(alloc) {
@@ -47,8 +44,7 @@ fn put_id_text(alloc: Global, id: DebugId, text: &mut Handle) -> Outcome<()>
 /// for any other text.
 #[unsafe(no_mangle)]
 pub extern "C" fn sm_parse_debug_id(text: &[u8], id: &mut IdBytes) -> u32
-    ensures id { IsUtf8 text.now
-        → ReturnsValue (Some (debug_id_of text.now)) result id.old.bytes id.new.bytes }
+    ensures id { IsUtf8 text.now → ReturnsValue (Some (debug_id_of text.now)) result id.old.bytes id.new.bytes }
     ensures no_text { ¬ IsUtf8 text.now → ReturnsValue (Some None) result id.old.bytes id.new.bytes }
 {
     match id_in(text) {

@@ -17,17 +17,8 @@ use sourcemap_c_handles::errors::{Code, ErrorReport, Failure, Outcome, finish};
 use sourcemap_trace::trace_text;
 use std::alloc::Global;
 
-/// Looks up each generated position of a list, and fills `text` with the answers. The list has one
-/// position on each line. A position is written as `12:5`: the line, a colon and the column. Both
-/// count from 0 and are at most 4294967295. For each line of `positions`, `text` has one answer and
-/// a newline after it. An answer has more than one line if its source or its name has a newline.
-/// The answer is the text that `sm_lookup_text` writes, for example `a.js:3:4 name=f`. The answer
-/// is `none` if there is no closest token, and `bad position` if the line of `positions` is not a
-/// position.
-///
-/// If an index map has unsorted sections at any level, an answer may be `none` or the text of a
-/// token that is not the closest. The error is `SM_WRONG_KIND` if `map` holds no map. The only
-/// other error is `SM_OUT_OF_MEMORY`. After an error the value of `text` is unchanged.
+/// Looks up each generated position of a list, and fills `text` with the answers, one for each
+/// line.
 #[unsafe(no_mangle)]
 pub extern "C" fn sm_trace(
     alloc: Global,
@@ -38,8 +29,7 @@ pub extern "C" fn sm_trace(
 ) -> u32
     ensures trace { Answers result error.old error.new
         (IsTrace (tree_in (held_in map.old)) positions.now (bytes_in (held_in text.new)))
-        (OfLibraryOrKind NoError (tree_in (held_in map.old) ≡ None))
-        (held_in text.new ≡ held_in text.old) }
+        (OfLibraryOrKind NoError (tree_in (held_in map.old) ≡ None)) (held_in text.new ≡ held_in text.old) }
     ensures kept { held_in map.new ≡ held_in map.old }
 {
     finish(alloc, trace(alloc, map, positions, text), error)
@@ -48,8 +38,7 @@ pub extern "C" fn sm_trace(
 fn trace(alloc: Global, map: &mut Handle, positions: &[u8], text: &mut Handle) -> Outcome<()>
     ensures trace { Does result
         (IsTrace (tree_in (held_in map.old)) positions.now (bytes_in (held_in text.new)))
-        (OfLibraryOrKind NoError (tree_in (held_in map.old) ≡ None))
-        (held_in text.new ≡ held_in text.old) }
+        (OfLibraryOrKind NoError (tree_in (held_in map.old) ≡ None)) (held_in text.new ≡ held_in text.old) }
     ensures kept { held_in map.new ≡ held_in map.old }
 {
     match map_in(map) {
@@ -59,10 +48,8 @@ fn trace(alloc: Global, map: &mut Handle, positions: &[u8], text: &mut Handle) -
 }
 
 fn put_trace(alloc: Global, map: &DecodedMap, positions: &[u8], text: &mut Handle) -> Outcome<()>
-    ensures { Does result
-        (IsTrace (Some (map_tree map.now)) positions.now (bytes_in (held_in text.new)))
-        (OfLibrary NoError)
-        (held_in text.new ≡ held_in text.old) }
+    ensures { Does result (IsTrace (Some (map_tree map.now)) positions.now (bytes_in (held_in text.new)))
+        (OfLibrary NoError) (held_in text.new ≡ held_in text.old) }
 {
     match trace_text(alloc, map, positions) {
         Ok(answers) => put_bytes(alloc, text, answers.into_bytes()),
@@ -70,16 +57,8 @@ fn put_trace(alloc: Global, map: &DecodedMap, positions: &[u8], text: &mut Handl
     }
 }
 
-/// Borrows the name of the function at a generated position. A Hermes map has names for line 0
-/// only. For a Hermes map the call ignores `minified` and `view`. For other maps the call guesses
-/// the name from the tokens, from `minified` (the minified name) and from the generated text in
-/// `view`.
-///
-/// Returns `SM_ABSENT` if there is no name, and `SM_WRONG_KIND` if `map` holds no map. For a map
-/// that is no Hermes map, the call also returns `SM_WRONG_KIND` if `view` holds no view, and
-/// `SM_UTF8` if `view` holds a view and `minified` is not UTF-8. The name may be wrong or missing
-/// if an index map has unsorted sections at any level, or if a source of a Hermes map has unsorted
-/// functions.
+/// Borrows the name of the function at a generated position: the stored name for a Hermes map, a
+/// guess for other maps.
 #[unsafe(no_mangle)]
 pub extern "C" fn sm_function_name<'a>(
     map: &'a mut Handle,
@@ -146,8 +125,7 @@ fn put_guess<'a>(
     view: &SourceView,
     text: &mut &'a [u8],
 ) -> u32
-    ensures { Guesses (map_tree map.now) view.now minified.now (line, column) result text.old.now
-        text.new.now }
+    ensures { Guesses (map_tree map.now) view.now minified.now (line, column) result text.old.now text.new.now }
 {
     match text_in(minified) {
         Ok(minified) => put_text(

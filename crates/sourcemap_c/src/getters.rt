@@ -18,10 +18,7 @@ use sourcemap::{DecodedMap, RawToken, SourceMap, SourceMapIndex};
 use sourcemap_c_handles::Handle;
 use sourcemap_c_handles::layout::{Counts, IdBytes, MapToken};
 
-/// Writes how many tokens, sources, names and sections the map has, and how many ids its ignore
-/// list has. An id on the ignore list counts even if no source has this id. For an index map, all
-/// counts except the count of sections are 0. For other maps, the count of sections is 0. A count
-/// above 4294967295 is written as 4294967295. Returns `SM_WRONG_KIND` if the handle holds no map.
+/// Writes how many tokens, sources, names, ignored ids and sections the map has.
 #[unsafe(no_mangle)]
 pub extern "C" fn sm_count(map: &mut Handle, counts: &mut Counts) -> u32
     ensures counts { ReturnsValue (option_map (λ t. Some (counts_of t)) (tree_in (held_in map.old)))
@@ -243,8 +240,7 @@ fn contents_in(map: &DecodedMap, id: u32) -> Option<&str>
 #[unsafe(no_mangle)]
 pub extern "C" fn sm_ignore_list(map: &mut Handle, first: u32, ids: &mut [u32]) -> usize
     ensures count { result ≡ unwrap_or (option_map (λ t. unwrap_or (option_map
-        (λ m. min (length ids.old) (length m.ignored - first)) (leaf_in t)) 0)
-        (tree_in (held_in map.old))) 0 }
+        (λ m. min (length ids.old) (length m.ignored - first)) (leaf_in t)) 0) (tree_in (held_in map.old))) 0 }
     ensures each { IfSome (tree_in (held_in map.old)) (λ t. IfSome (leaf_in t)
         (λ m. AreIdsFrom first m.ignored ids.new result)) }
     ensures rest { (i : ℕ) → result ≤ i → slice_get ids.new i ≡ slice_get ids.old i }
@@ -259,8 +255,7 @@ pub extern "C" fn sm_ignore_list(map: &mut Handle, first: u32, ids: &mut [u32]) 
 fn put_ids(map: &DecodedMap, first: usize, ids: &mut [u32]) -> usize
     ensures count { result ≡ unwrap_or (option_map
         (λ m. min (length ids.old) (length m.ignored - first)) (leaf_in (map_tree map.now))) 0 }
-    ensures each { IfSome (leaf_in (map_tree map.now))
-        (λ m. AreIdsFrom first m.ignored ids.new result) }
+    ensures each { IfSome (leaf_in (map_tree map.now)) (λ m. AreIdsFrom first m.ignored ids.new result) }
     ensures rest { (i : ℕ) → result ≤ i → slice_get ids.new i ≡ slice_get ids.old i }
 {
     match leaf_in(map) {

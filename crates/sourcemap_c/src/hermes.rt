@@ -21,8 +21,7 @@ pub extern "C" fn sm_hermes_map(
     error: &mut ErrorReport,
 ) -> u32
     ensures copied { Answers result error.old error.new
-        (HoldsRegular (option_and_then hermes_in (tree_in (held_in map.old)))
-        (tree_in (held_in regular.new)))
+        (HoldsRegular (option_and_then hermes_in (tree_in (held_in map.old))) (tree_in (held_in regular.new)))
         (OfLibraryOrKind NoError (option_and_then hermes_in (tree_in (held_in map.old)) ≡ None))
         (held_in regular.new ≡ held_in regular.old) }
     ensures kept { held_in map.new ≡ held_in map.old }
@@ -31,8 +30,7 @@ pub extern "C" fn sm_hermes_map(
 }
 
 fn copy_regular(alloc: Global, map: &mut Handle, regular: &mut Handle) -> Outcome<()>
-    ensures copied { Does result
-        (HoldsRegular (option_and_then hermes_in (tree_in (held_in map.old)))
+    ensures copied { Does result (HoldsRegular (option_and_then hermes_in (tree_in (held_in map.old)))
         (tree_in (held_in regular.new)))
         (OfLibraryOrKind NoError (option_and_then hermes_in (tree_in (held_in map.old)) ≡ None))
         (held_in regular.new ≡ held_in regular.old) }
@@ -45,9 +43,7 @@ fn copy_regular(alloc: Global, map: &mut Handle, regular: &mut Handle) -> Outcom
 }
 
 fn put_copy(alloc: Global, map: &SourceMap, handle: &mut Handle) -> Outcome<()>
-    ensures { Does result
-        (tree_in (held_in handle.new) ≡ Some (regular_tree map.now))
-        (OfLibrary NoError)
+    ensures { Does result (tree_in (held_in handle.new) ≡ Some (regular_tree map.now)) (OfLibrary NoError)
         (held_in handle.new ≡ held_in handle.old) }
 {
     match map.clone() {

@@ -1,4 +1,5 @@
-//! The C interface: the functions of `sourcemap.h`.
+//! The functions of `sourcemap.h`: each calls the library on what a handle holds, and knows nothing
+//! of how maps are read, looked up or written. The header says what each does and with which errors.
 #![tactic(auto)]
 
 pub mod assembling;

@@ -64,9 +64,6 @@ fn put_found(token: Option<Token<'_>>, found: &mut Found) -> u32
 }
 
 /// Looks up each generated position `positions[i]`, and writes its closest token to `found[i]`.
-/// Without a closest token, `found[i].found` is false. Stops at the end of the shorter array.
-/// Returns the number of items written, which is 0 if the handle holds no map. If an index map has
-/// unsorted sections at any level, the items may be wrong.
 #[unsafe(no_mangle)]
 pub extern "C" fn sm_lookup_many(
     map: &mut Handle,
@@ -138,10 +135,7 @@ fn put_index(map: &DecodedMap, line: u32, column: u32, index: &mut u32) -> u32
     }
 }
 
-/// Writes to `found` the closest token in a regular or Hermes map, and to `until` the generated
-/// position of the next token. Without a next token, `until` is line and column 4294967295. All
-/// positions from the looked-up position (inclusive) to `until` (exclusive) have the same closest
-/// token.
+/// Writes to `found` the closest token, and to `until` the generated position of the next token.
 #[unsafe(no_mangle)]
 pub extern "C" fn sm_lookup_span(
     map: &mut Handle,
@@ -276,8 +270,7 @@ fn put_name_at<'a>(map: Option<&'a DecodedMap>, line: u32, column: u32, text: &m
 }
 
 fn name_at(map: &DecodedMap, line: u32, column: u32) -> Option<&str>
-    ensures { IsInOrder (map_tree map.now)
-        → option_copied result ≡ name_at (map_tree map.now) (line, column) }
+    ensures { IsInOrder (map_tree map.now) → option_copied result ≡ name_at (map_tree map.now) (line, column) }
 {
     map.lookup_token(line, column)?.get_name()
 }

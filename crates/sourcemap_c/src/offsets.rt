@@ -21,10 +21,7 @@ use std::alloc::Global;
 // `SM_NONE` of the C header.
 pub(crate) const NONE: u32 = u32::MAX;
 
-/// Writes to `offsets[i]` the generated line at which module `first + i` begins, or `SM_NONE` if
-/// this module does not exist. Stops at the end of `offsets`, or at the end of `x_facebook_offsets`
-/// in the map. Writes to `written` the number of items written to `offsets`. Returns `SM_ABSENT` if
-/// the map has no `x_facebook_offsets`, and `SM_WRONG_KIND` if `map` holds no index map.
+/// Writes the generated lines at which the modules from `first` on begin, as many as fit.
 #[unsafe(no_mangle)]
 pub extern "C" fn sm_module_offsets(
     map: &mut Handle,
@@ -109,9 +106,7 @@ fn path_of(index: &SourceMapIndex, id: usize) -> Option<&str>
     Some(path.as_str())
 }
 
-/// Fills `path` with the relative path from the folder of the file `base` to the file `target`. `/`
-/// and `\` both separate parts. The call compares the parts as they are written: both paths must
-/// start from the same folder, and neither may have a part `.` or `..`.
+/// Fills `path` with the relative path from the folder of the file `base` to the file `target`.
 #[unsafe(no_mangle)]
 pub extern "C" fn sm_relative_path(
     alloc: Global,
@@ -120,21 +115,17 @@ pub extern "C" fn sm_relative_path(
     path: &mut Handle,
     error: &mut ErrorReport,
 ) -> u32
-    ensures { Answers result error.old error.new
-        (AreTexts base.now target.now
+    ensures { Answers result error.old error.new (AreTexts base.now target.now
         × (bytes_in (held_in path.new) ≡ Some (relative_path base.now target.now)))
-        (OfLibrary (IsNoTextOf base.now target.now))
-        (held_in path.new ≡ held_in path.old) }
+        (OfLibrary (IsNoTextOf base.now target.now)) (held_in path.new ≡ held_in path.old) }
 {
     finish(alloc, put_relative(alloc, base, target, path), error)
 }
 
 fn put_relative(alloc: Global, base: &[u8], target: &[u8], path: &mut Handle) -> Outcome<()>
-    ensures { Does result
-        (AreTexts base.now target.now
+    ensures { Does result (AreTexts base.now target.now
         × (bytes_in (held_in path.new) ≡ Some (relative_path base.now target.now)))
-        (OfLibrary (IsNoTextOf base.now target.now))
-        (held_in path.new ≡ held_in path.old) }
+        (OfLibrary (IsNoTextOf base.now target.now)) (held_in path.new ≡ held_in path.old) }
 {
     match text_in(base) {
         Ok(base) => match text_in(target) {
@@ -146,10 +137,8 @@ fn put_relative(alloc: Global, base: &[u8], target: &[u8], path: &mut Handle) ->
 }
 
 fn put_path_between(alloc: Global, base: &str, target: &str, path: &mut Handle) -> Outcome<()>
-    ensures { Does result
-        (bytes_in (held_in path.new) ≡ Some (relative_path base.now target.now))
-        (OfLibrary NoError)
-        (held_in path.new ≡ held_in path.old) }
+    ensures { Does result (bytes_in (held_in path.new) ≡ Some (relative_path base.now target.now))
+        (OfLibrary NoError) (held_in path.new ≡ held_in path.old) }
 {
     match make_relative_path(alloc, base, target) {
         Ok(found) => put_bytes(alloc, path, found.into_bytes()),

@@ -56,19 +56,15 @@ pub extern "C" fn sm_open(
     bytes: &[u8],
     error: &mut ErrorReport,
 ) -> u32
-    ensures { Answers result error.old error.new
-        (Holds (BytesDecode bytes.now) (held_in map.new))
-        (OfLibrary (λ e. BytesDecode bytes.now (Err e)))
-        (held_in map.new ≡ held_in map.old) }
+    ensures { Answers result error.old error.new (Holds (BytesDecode bytes.now) (held_in map.new))
+        (OfLibrary (λ e. BytesDecode bytes.now (Err e))) (held_in map.new ≡ held_in map.old) }
 {
     finish(alloc, open(alloc, map, bytes), error)
 }
 
 fn open(alloc: Global, map: &mut Handle, bytes: &[u8]) -> Outcome<()>
-    ensures { Does result
-        (Holds (BytesDecode bytes.now) (held_in map.new))
-        (OfLibrary (λ e. BytesDecode bytes.now (Err e)))
-        (held_in map.new ≡ held_in map.old) }
+    ensures { Does result (Holds (BytesDecode bytes.now) (held_in map.new))
+        (OfLibrary (λ e. BytesDecode bytes.now (Err e))) (held_in map.new ≡ held_in map.old) }
 {
     match decode_slice(alloc, bytes) {
         Ok(decoded) => put_map(alloc, map, decoded),
@@ -84,19 +80,15 @@ pub extern "C" fn sm_open_url(
     url: &[u8],
     error: &mut ErrorReport,
 ) -> u32
-    ensures { Answers result error.old error.new
-        (IsUtf8 url.now × Holds (UrlDecodes url.now) (held_in map.new))
-        (OfLibrary (AreNoUrl url.now))
-        (held_in map.new ≡ held_in map.old) }
+    ensures { Answers result error.old error.new (IsUtf8 url.now × Holds (UrlDecodes url.now) (held_in map.new))
+        (OfLibrary (AreNoUrl url.now)) (held_in map.new ≡ held_in map.old) }
 {
     finish(alloc, open_url(alloc, map, url), error)
 }
 
 fn open_url(alloc: Global, map: &mut Handle, url: &[u8]) -> Outcome<()>
-    ensures { Does result
-        (IsUtf8 url.now × Holds (UrlDecodes url.now) (held_in map.new))
-        (OfLibrary (AreNoUrl url.now))
-        (held_in map.new ≡ held_in map.old) }
+    ensures { Does result (IsUtf8 url.now × Holds (UrlDecodes url.now) (held_in map.new))
+        (OfLibrary (AreNoUrl url.now)) (held_in map.new ≡ held_in map.old) }
 {
     match text_in(url) {
         Ok(url) => open_text(alloc, map, url),
@@ -105,10 +97,8 @@ fn open_url(alloc: Global, map: &mut Handle, url: &[u8]) -> Outcome<()>
 }
 
 fn open_text(alloc: Global, map: &mut Handle, url: &str) -> Outcome<()>
-    ensures { Does result
-        (Holds (UrlDecodes url.now) (held_in map.new))
-        (OfLibrary (λ e. UrlDecodes url.now (Err e)))
-        (held_in map.new ≡ held_in map.old) }
+    ensures { Does result (Holds (UrlDecodes url.now) (held_in map.new))
+        (OfLibrary (λ e. UrlDecodes url.now (Err e))) (held_in map.new ≡ held_in map.old) }
 {
     match decode_data_url(alloc, url) {
         Ok(decoded) => put_map(alloc, map, decoded),
@@ -126,8 +116,7 @@ pub extern "C" fn sm_share(
 ) -> u32
     ensures shared { Answers result error.old error.new
         ((tree_in (held_in map.old) ≢ None) × (tree_in (held_in other.new) ≡ tree_in (held_in map.old)))
-        (OfLibraryOrKind NoError (tree_in (held_in map.old) ≡ None))
-        (held_in other.new ≡ held_in other.old) }
+        (OfLibraryOrKind NoError (tree_in (held_in map.old) ≡ None)) (held_in other.new ≡ held_in other.old) }
     ensures kept { held_in map.new ≡ held_in map.old }
 {
     finish(alloc, share(alloc, map, other), error)
@@ -136,8 +125,7 @@ pub extern "C" fn sm_share(
 fn share(alloc: Global, map: &mut Handle, other: &mut Handle) -> Outcome<()>
     ensures shared { Does result
         ((tree_in (held_in map.old) ≢ None) × (tree_in (held_in other.new) ≡ tree_in (held_in map.old)))
-        (OfLibraryOrKind NoError (tree_in (held_in map.old) ≡ None))
-        (held_in other.new ≡ held_in other.old) }
+        (OfLibraryOrKind NoError (tree_in (held_in map.old) ≡ None)) (held_in other.new ≡ held_in other.old) }
     ensures kept { held_in map.new ≡ held_in map.old }
 {
     match map.get() {
@@ -147,9 +135,7 @@ fn share(alloc: Global, map: &mut Handle, other: &mut Handle) -> Outcome<()>
 }
 
 fn put_another(alloc: Global, map: &Arc<DecodedMap>, other: &mut Handle) -> Outcome<()>
-    ensures { Does result
-        (tree_in (held_in other.new) ≡ tree_in (Some (Held.Map map.now)))
-        (OfLibrary NoError)
+    ensures { Does result (tree_in (held_in other.new) ≡ tree_in (Some (Held.Map map.now))) (OfLibrary NoError)
         (held_in other.new ≡ held_in other.old) }
 {
     match Arc::try_clone(map) {
@@ -158,9 +144,7 @@ fn put_another(alloc: Global, map: &Arc<DecodedMap>, other: &mut Handle) -> Outc
     }
 }
 
-/// Writes to `answer` whether the bytes are a source map, by the rules of `is_sourcemap_slice`. The
-/// call checks which keys are present and not null. The only value that the call checks is that of
-/// `version`. So `sm_open` may still refuse the bytes.
+/// Writes whether the bytes are a source map. It checks no values but `version`.
 #[unsafe(no_mangle)]
 pub extern "C" fn sm_is_source_map(
     alloc: Global,
@@ -168,19 +152,14 @@ pub extern "C" fn sm_is_source_map(
     answer: &mut bool,
     error: &mut ErrorReport,
 ) -> u32
-    ensures { Answers result error.old error.new
-        (IsTrue answer.new ↔ AreMap bytes.now)
-        (OfLibrary NoError)
+    ensures { Answers result error.old error.new (IsTrue answer.new ↔ AreMap bytes.now) (OfLibrary NoError)
         (answer.new ≡ answer.old) }
 {
     finish(alloc, is_source_map(alloc, bytes, answer), error)
 }
 
 fn is_source_map(alloc: Global, bytes: &[u8], answer: &mut bool) -> Outcome<()>
-    ensures { Does result
-        (IsTrue answer.new ↔ AreMap bytes.now)
-        (OfLibrary NoError)
-        (answer.new ≡ answer.old) }
+    ensures { Does result (IsTrue answer.new ↔ AreMap bytes.now) (OfLibrary NoError) (answer.new ≡ answer.old) }
 {
     match is_sourcemap_slice(alloc, bytes) {
         Ok(is_map) => {

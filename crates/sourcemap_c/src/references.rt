@@ -32,8 +32,7 @@ pub extern "C" fn sm_locate_reference(
 }
 
 fn locate(alloc: Global, text: &[u8], url: &mut Handle, is_legacy: &mut bool) -> Outcome<()>
-    ensures { Does result
-        (IsFound (first_reference text.now) (held_in url.new) is_legacy.new)
+    ensures { Does result (IsFound (first_reference text.now) (held_in url.new) is_legacy.new)
         (IsNotFound (first_reference text.now))
         ((held_in url.new ≡ held_in url.old) × (is_legacy.new ≡ is_legacy.old)) }
 {
@@ -50,9 +49,7 @@ fn put_reference(
     url: &mut Handle,
     is_legacy: &mut bool,
 ) -> Outcome<()>
-    ensures { Does result
-        (IsReference (reference found) (held_in url.new) is_legacy.new)
-        (OfLibrary NoError)
+    ensures { Does result (IsReference (reference found) (held_in url.new) is_legacy.new) (OfLibrary NoError)
         ((held_in url.new ≡ held_in url.old) × (is_legacy.new ≡ is_legacy.old)) }
 {
     match found {
@@ -87,17 +84,14 @@ pub extern "C" fn sm_resolve(
 ) -> u32
     ensures { Answers result error.old error.new
         (LeadsTo url.now base.now (Resolves base.now url.now) (held_in to.new))
-        (LeadsNowhere url.now base.now (Resolves base.now url.now))
-        (held_in to.new ≡ held_in to.old) }
+        (LeadsNowhere url.now base.now (Resolves base.now url.now)) (held_in to.new ≡ held_in to.old) }
 {
     finish(alloc, resolve(alloc, url, base, to), error)
 }
 
 fn resolve(alloc: Global, url: &[u8], base: &[u8], to: &mut Handle) -> Outcome<()>
-    ensures { Does result
-        (LeadsTo url.now base.now (Resolves base.now url.now) (held_in to.new))
-        (LeadsNowhere url.now base.now (Resolves base.now url.now))
-        (held_in to.new ≡ held_in to.old) }
+    ensures { Does result (LeadsTo url.now base.now (Resolves base.now url.now) (held_in to.new))
+        (LeadsNowhere url.now base.now (Resolves base.now url.now)) (held_in to.new ≡ held_in to.old) }
 {
     match text_in(base) {
         Ok(base) => match reference_to(alloc, url) {
@@ -120,17 +114,14 @@ pub extern "C" fn sm_resolve_path(
 ) -> u32
     ensures { Answers result error.old error.new
         (LeadsTo url.now base.now (ResolvesPath base.now url.now) (held_in to.new))
-        (LeadsNowhere url.now base.now (ResolvesPath base.now url.now))
-        (held_in to.new ≡ held_in to.old) }
+        (LeadsNowhere url.now base.now (ResolvesPath base.now url.now)) (held_in to.new ≡ held_in to.old) }
 {
     finish(alloc, resolve_path(alloc, url, base, to), error)
 }
 
 fn resolve_path(alloc: Global, url: &[u8], base: &[u8], to: &mut Handle) -> Outcome<()>
-    ensures { Does result
-        (LeadsTo url.now base.now (ResolvesPath base.now url.now) (held_in to.new))
-        (LeadsNowhere url.now base.now (ResolvesPath base.now url.now))
-        (held_in to.new ≡ held_in to.old) }
+    ensures { Does result (LeadsTo url.now base.now (ResolvesPath base.now url.now) (held_in to.new))
+        (LeadsNowhere url.now base.now (ResolvesPath base.now url.now)) (held_in to.new ≡ held_in to.old) }
 {
     match text_in(base) {
         Ok(base) => match reference_to(alloc, url) {

@@ -24,25 +24,18 @@ use sourcemap_c_handles::errors::{ErrorReport, Failure, Outcome, finish};
 use sourcemap_c_handles::no_files::NoFiles;
 use std::alloc::Global;
 
-/// Flattens an index map. Afterwards the handle holds a regular map instead. The error is
-/// `SM_CANNOT_FLATTEN` if a section at any level has no map, if there would be more than 4294967295
-/// sources or names, or if a token would move past line or column 4294967295. The error is
-/// `SM_WRONG_KIND` if the handle holds no index map. The only other error is `SM_OUT_OF_MEMORY`.
+/// Flattens an index map. Afterwards the handle holds a regular map instead.
 #[unsafe(no_mangle)]
 pub extern "C" fn sm_flatten(alloc: Global, map: &mut Handle, error: &mut ErrorReport) -> u32
-    ensures { Answers result error.old error.new
-        (HoldsNew IsFlat (held_in map.old) (held_in map.new))
-        (FailsAs IsFlat (tree_in (held_in map.old)))
-        (held_in map.new ≡ held_in map.old) }
+    ensures { Answers result error.old error.new (HoldsNew IsFlat (held_in map.old) (held_in map.new))
+        (FailsAs IsFlat (tree_in (held_in map.old))) (held_in map.new ≡ held_in map.old) }
 {
     finish(alloc, flatten(alloc, map), error)
 }
 
 fn flatten(alloc: Global, map: &mut Handle) -> Outcome<()>
-    ensures { Does result
-        (HoldsNew IsFlat (held_in map.old) (held_in map.new))
-        (FailsAs IsFlat (tree_in (held_in map.old)))
-        (held_in map.new ≡ held_in map.old) }
+    ensures { Does result (HoldsNew IsFlat (held_in map.old) (held_in map.new))
+        (FailsAs IsFlat (tree_in (held_in map.old))) (held_in map.new ≡ held_in map.old) }
 {
     match flat_in(map) {
         Ok(flat) => put_map(alloc, map, flat),
@@ -75,10 +68,7 @@ fn flat(map: &DecodedMap) -> Outcome<DecodedMap>
     }
 }
 
-/// Adjusts the map in `map` to a later version of the map's generated text. The map in `adjustment`
-/// has generated positions in the later text, and original positions in the earlier text. The error
-/// is `SM_WRONG_KIND` unless both handles hold regular maps. The error is `SM_INCOMPATIBLE` if a
-/// token would move past column 4294967295. The only other error is `SM_OUT_OF_MEMORY`.
+/// Adjusts the map in `map` to a later version of its generated text, by the map in `adjustment`.
 #[unsafe(no_mangle)]
 pub extern "C" fn sm_compose(
     alloc: Global,
@@ -87,8 +77,7 @@ pub extern "C" fn sm_compose(
     error: &mut ErrorReport,
 ) -> u32
     ensures adjusted { Answers result error.old error.new
-        (HoldsNew (IsAdjustedBy (tree_in (held_in adjustment.old)))
-        (held_in map.old) (held_in map.new))
+        (HoldsNew (IsAdjustedBy (tree_in (held_in adjustment.old))) (held_in map.old) (held_in map.new))
         (FailsAs (IsAdjustedBy (tree_in (held_in adjustment.old))) (tree_in (held_in map.old)))
         (held_in map.new ≡ held_in map.old) }
     ensures kept { held_in adjustment.new ≡ held_in adjustment.old }
@@ -97,8 +86,7 @@ pub extern "C" fn sm_compose(
 }
 
 fn compose(alloc: Global, map: &mut Handle, adjustment: &mut Handle) -> Outcome<()>
-    ensures adjusted { Does result
-        (HoldsNew (IsAdjustedBy (tree_in (held_in adjustment.old)))
+    ensures adjusted { Does result (HoldsNew (IsAdjustedBy (tree_in (held_in adjustment.old)))
         (held_in map.old) (held_in map.new))
         (FailsAs (IsAdjustedBy (tree_in (held_in adjustment.old))) (tree_in (held_in map.old)))
         (held_in map.new ≡ held_in map.old) }
@@ -111,12 +99,10 @@ fn compose(alloc: Global, map: &mut Handle, adjustment: &mut Handle) -> Outcome<
 }
 
 fn compose_handles(map: &mut Handle, adjustment: &mut Handle) -> Outcome<DecodedMap>
-    ensures composed { MatchResult result
-        (λ new. IsSomeAnd (tree_in (held_in map.old))
+    ensures composed { MatchResult result (λ new. IsSomeAnd (tree_in (held_in map.old))
         (λ t. IsAdjustedBy (tree_in (held_in adjustment.old)) t (Ok (map_tree new))))
         (λ failure. UnlessMemory failure
-        (FailsAs (IsAdjustedBy (tree_in (held_in adjustment.old))) (tree_in (held_in map.old))
-        failure)) }
+        (FailsAs (IsAdjustedBy (tree_in (held_in adjustment.old))) (tree_in (held_in map.old)) failure)) }
     ensures kept { held_in map.new ≡ held_in map.old }
     ensures adjustment_kept { held_in adjustment.new ≡ held_in adjustment.old }
 {
@@ -128,8 +114,7 @@ fn compose_handles(map: &mut Handle, adjustment: &mut Handle) -> Outcome<Decoded
 
 fn compose_with_handle(map: &DecodedMap, adjustment: &mut Handle) -> Outcome<DecodedMap>
     ensures composed { MatchResult result
-        (λ new. IsAdjustedBy (tree_in (held_in adjustment.old)) (map_tree map.now)
-        (Ok (map_tree new)))
+        (λ new. IsAdjustedBy (tree_in (held_in adjustment.old)) (map_tree map.now) (Ok (map_tree new)))
         (λ failure. UnlessMemory failure
         (IsAdjustedBy (tree_in (held_in adjustment.old)) (map_tree map.now) (Err failure))) }
     ensures adjustment_kept { held_in adjustment.new ≡ held_in adjustment.old }
@@ -141,10 +126,8 @@ fn compose_with_handle(map: &DecodedMap, adjustment: &mut Handle) -> Outcome<Dec
 }
 
 fn compose_regular(map: &DecodedMap, adjustment: &SourceMap) -> Outcome<DecodedMap>
-    ensures { MatchResult result
-        (λ new. IsAdjustedBy (Some (leaf (regular adjustment.now))) (map_tree map.now)
-        (Ok (map_tree new)))
-        (λ failure. UnlessMemory failure
+    ensures { MatchResult result (λ new. IsAdjustedBy (Some (leaf (regular adjustment.now))) (map_tree map.now)
+        (Ok (map_tree new))) (λ failure. UnlessMemory failure
         (IsAdjustedBy (Some (leaf (regular adjustment.now))) (map_tree map.now) (Err failure))) }
 {
     match map {
@@ -164,22 +147,7 @@ fn compose_copy(map: &SourceMap, adjustment: &SourceMap) -> Result<SourceMap>
     Ok(copy)
 }
 
-/// Rewrites the map. Removes the sources and names that no token uses, and the contents of the
-/// removed sources. The other sources are resolved against `sourceRoot`. Sources that resolve to
-/// the same text become one new source. The new source gets its contents from one of these sources:
-/// among those that have contents, the one that a token uses first. Removes `sourceRoot` and the
-/// ignore list. If `with_names` is false, removes all names. If `with_contents` is false, removes
-/// all contents.
-///
-/// Removes from each source the first of `prefixes` that the source starts with. If a prefix does
-/// not end with `/`, the call adds `/` to the prefix beforehand: `a` turns `a/b` into `b`. The
-/// prefix `~` stands for the common prefix of all sources that are absolute paths: `/a` for `/a/b`
-/// and `/a/bc`. The common prefix is computed from the sources as the map stores them, not resolved
-/// against `sourceRoot`. Unused sources count too. The common prefix is tried last. If the common
-/// prefix is empty or `/`, the call ignores `~`.
-///
-/// The error is `SM_UTF8` if a prefix is not UTF-8. Otherwise, the error is `SM_WRONG_KIND` if
-/// `map` holds an index map or no map. The only other error is `SM_OUT_OF_MEMORY`.
+/// Rewrites the map: resolves its sources, removes what no token uses, and removes prefixes.
 #[unsafe(no_mangle)]
 pub extern "C" fn sm_rewrite(
     alloc: Global,
@@ -193,8 +161,7 @@ pub extern "C" fn sm_rewrite(
         let Rewritten = IsRewritten (removal with_names with_contents texts) in
         Answers result error.old error.new
         (All IsUtf8 texts × HoldsNew Rewritten (held_in map.old) (held_in map.new))
-        (OrNoPrefix texts (FailsAs Rewritten (tree_in (held_in map.old))))
-        (held_in map.new ≡ held_in map.old) }
+        (OrNoPrefix texts (FailsAs Rewritten (tree_in (held_in map.old)))) (held_in map.new ≡ held_in map.old) }
 {
     finish(
         alloc,
@@ -212,10 +179,8 @@ fn rewrite(
 ) -> Outcome<()>
     ensures { let texts = list_map (λ prefix. prefix.now) prefixes.now in
         let Rewritten = IsRewritten (removal with_names with_contents texts) in
-        Does result
-        (All IsUtf8 texts × HoldsNew Rewritten (held_in map.old) (held_in map.new))
-        (OrNoPrefix texts (FailsAs Rewritten (tree_in (held_in map.old))))
-        (held_in map.new ≡ held_in map.old) }
+        Does result (All IsUtf8 texts × HoldsNew Rewritten (held_in map.old) (held_in map.new))
+        (OrNoPrefix texts (FailsAs Rewritten (tree_in (held_in map.old)))) (held_in map.new ≡ held_in map.old) }
 {
     match texts_in(alloc, prefixes) {
         Ok(prefixes) => rewrite_by(alloc, map, with_names, with_contents, prefixes.as_slice()),
@@ -226,8 +191,7 @@ fn rewrite(
 /// Returns each item of `texts` as a text. The error is `Utf8` if an item is not UTF-8. The only
 /// other error is `OutOfMemory`.
 pub(crate) fn texts_in<'a>(alloc: Global, texts: &[&'a [u8]]) -> Result<Vec<&'a str>>
-    ensures { MatchResult result
-        (λ found. let found = list_map (λ text. text.now) found.items in
+    ensures { MatchResult result (λ found. let found = list_map (λ text. text.now) found.items in
         (found ≡ list_map (λ text. text.now) texts.now) × All IsUtf8 found)
         (λ e. UnlessOutOfMemory e (HasNoText (list_map (λ text. text.now) texts.now) e)) }
 {
@@ -247,10 +211,8 @@ fn rewrite_by(
 ) -> Outcome<()>
     ensures { let texts = list_map (λ prefix. prefix.now) prefixes.now in
         let Rewritten = IsRewritten (removal with_names with_contents texts) in
-        Does result
-        (HoldsNew Rewritten (held_in map.old) (held_in map.new))
-        (FailsAs Rewritten (tree_in (held_in map.old)))
-        (held_in map.new ≡ held_in map.old) }
+        Does result (HoldsNew Rewritten (held_in map.old) (held_in map.new))
+        (FailsAs Rewritten (tree_in (held_in map.old))) (held_in map.new ≡ held_in map.old) }
 {
     let options = RewriteOptions {
         with_names,
@@ -268,10 +230,8 @@ fn rewrite_by(
 
 fn rewrite_handle(map: &mut Handle, options: &RewriteOptions<'_>) -> Outcome<DecodedMap>
     requires { options.now.load_local_source_contents ≡ false }
-    ensures rewritten { MatchResult result
-        (λ new. IsSomeAnd (tree_in (held_in map.old))
-        (λ t. IsRewritten (removal_of options.now) t (Ok (map_tree new))))
-        (λ failure. UnlessMemory failure
+    ensures rewritten { MatchResult result (λ new. IsSomeAnd (tree_in (held_in map.old))
+        (λ t. IsRewritten (removal_of options.now) t (Ok (map_tree new)))) (λ failure. UnlessMemory failure
         (FailsAs (IsRewritten (removal_of options.now)) (tree_in (held_in map.old)) failure)) }
     ensures kept { held_in map.new ≡ held_in map.old }
 {

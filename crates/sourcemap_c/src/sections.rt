@@ -95,8 +95,7 @@ fn put_url<'a>(index: Option<&'a SourceMapIndex>, id: u32, text: &mut &'a [u8]) 
 }
 
 fn url_at(index: &SourceMapIndex, id: u32) -> Option<&str>
-    ensures { option_copied result
-        ≡ option_and_then url_of (slice_get (index_value index.now).sections id) }
+    ensures { option_copied result ≡ option_and_then url_of (slice_get (index_value index.now).sections id) }
 {
     index.get_section(id)?.get_url()
 }
@@ -121,8 +120,7 @@ pub extern "C" fn sm_section(
 }
 
 fn copy_section(alloc: Global, map: &mut Handle, id: u32, section: &mut Handle) -> Outcome<()>
-    ensures copied { Does result
-        (HoldsMapAt id (option_and_then sections_in (tree_in (held_in map.old)))
+    ensures copied { Does result (HoldsMapAt id (option_and_then sections_in (tree_in (held_in map.old)))
         (tree_in (held_in section.new)))
         (LacksMapAt id (option_and_then sections_in (tree_in (held_in map.old))))
         (held_in section.new ≡ held_in section.old) }
@@ -137,8 +135,7 @@ fn copy_section(alloc: Global, map: &mut Handle, id: u32, section: &mut Handle) 
 fn put_section(alloc: Global, index: &SourceMapIndex, id: u32, section: &mut Handle) -> Outcome<()>
     ensures { Does result
         (HoldsMapAt id (Some (index_value index.now).sections) (tree_in (held_in section.new)))
-        (LacksMapAt id (Some (index_value index.now).sections))
-        (held_in section.new ≡ held_in section.old) }
+        (LacksMapAt id (Some (index_value index.now).sections)) (held_in section.new ≡ held_in section.old) }
 {
     match map_at(index, id) {
         Some(map) => put_copy(alloc, map, section),

@@ -25,8 +25,7 @@ pub extern "C" fn sm_parse_segment(
     count: &mut usize,
     error: &mut ErrorReport,
 ) -> u32
-    ensures { Answers result error.old error.new
-        (WritesNumbers segment.now numbers.old numbers.new count.new)
+    ensures { Answers result error.old error.new (WritesNumbers segment.now numbers.old numbers.new count.new)
         (OfLibrary (λ e. ParsingAnswers segment.now (Err e)))
         ((numbers.new ≡ numbers.old) × (count.new ≡ count.old)) }
 {
@@ -34,8 +33,7 @@ pub extern "C" fn sm_parse_segment(
 }
 
 fn parse(alloc: Global, segment: &[u8], numbers: &mut [i64], count: &mut usize) -> Outcome<()>
-    ensures { Does result
-        (WritesNumbers segment.now numbers.old numbers.new count.new)
+    ensures { Does result (WritesNumbers segment.now numbers.old numbers.new count.new)
         (OfLibrary (λ e. ParsingAnswers segment.now (Err e)))
         ((numbers.new ≡ numbers.old) × (count.new ≡ count.old)) }
 {
@@ -58,10 +56,7 @@ fn overwrite(numbers: &mut [i64], parsed: &[i64])
     numbers[..fitting].copy_from_slice(&parsed[..fitting]);
 }
 
-/// Encodes the numbers in Base64 VLQ as one segment, and fills `text` with the segment. Each number
-/// is encoded with as few digits as possible. Without numbers, the segment is empty. The error is
-/// `SM_VLQ_OVERFLOW` if the absolute value of a number is 2^62 or more. The only other error is
-/// `SM_OUT_OF_MEMORY`.
+/// Encodes the numbers in Base64 VLQ as one segment, and fills `text` with the segment.
 #[unsafe(no_mangle)]
 pub extern "C" fn sm_write_segment(
     alloc: Global,
@@ -69,19 +64,15 @@ pub extern "C" fn sm_write_segment(
     text: &mut Handle,
     error: &mut ErrorReport,
 ) -> u32
-    ensures { Answers result error.old error.new
-        (HoldsSegment numbers.now (bytes_in (held_in text.new)))
-        (OfLibrary (λ e. SpellingAnswers numbers.now (Err e)))
-        (held_in text.new ≡ held_in text.old) }
+    ensures { Answers result error.old error.new (HoldsSegment numbers.now (bytes_in (held_in text.new)))
+        (OfLibrary (λ e. SpellingAnswers numbers.now (Err e))) (held_in text.new ≡ held_in text.old) }
 {
     finish(alloc, write(alloc, numbers, text), error)
 }
 
 fn write(alloc: Global, numbers: &[i64], text: &mut Handle) -> Outcome<()>
-    ensures { Does result
-        (HoldsSegment numbers.now (bytes_in (held_in text.new)))
-        (OfLibrary (λ e. SpellingAnswers numbers.now (Err e)))
-        (held_in text.new ≡ held_in text.old) }
+    ensures { Does result (HoldsSegment numbers.now (bytes_in (held_in text.new)))
+        (OfLibrary (λ e. SpellingAnswers numbers.now (Err e))) (held_in text.new ≡ held_in text.old) }
 {
     let segment = generate_vlq_segment(alloc, numbers)?;
     put_bytes(alloc, text, segment.into_bytes())

@@ -30,8 +30,7 @@ pub extern "C" fn sm_set_file(
 }
 
 fn set_file(alloc: Global, map: &mut Handle, present: bool, text: &[u8]) -> Outcome<()>
-    ensures { Does result
-        (HoldsNew (HasFile (text_if present text.now)) (held_in map.old) (held_in map.new))
+    ensures { Does result (HoldsNew (HasFile (text_if present text.now)) (held_in map.old) (held_in map.new))
         (OrNoText present text.now (FailsAs (HasFile (text_if present text.now)) (tree_in (held_in map.old))))
         (IsAsBefore (held_in map.old) (held_in map.new)) }
 {
@@ -59,8 +58,7 @@ pub extern "C" fn sm_set_source_root(
 }
 
 fn set_source_root(alloc: Global, map: &mut Handle, present: bool, text: &[u8]) -> Outcome<()>
-    ensures { Does result
-        (HoldsNew (HasRoot (text_if present text.now)) (held_in map.old) (held_in map.new))
+    ensures { Does result (HoldsNew (HasRoot (text_if present text.now)) (held_in map.old) (held_in map.new))
         (OrNoText present text.now (FailsAs (HasRoot (text_if present text.now)) (tree_in (held_in map.old))))
         (IsAsBefore (held_in map.old) (held_in map.new)) }
 {
@@ -100,11 +98,7 @@ fn set_contents(alloc: Global, map: &mut Handle, id: u32, present: bool, text: &
     }
 }
 
-/// Changes the source with this id to `text`. The map stores and writes `text` as it is given.
-/// Calls such as `sm_source` return the new source resolved against `sourceRoot`. The errors are
-/// `Utf8` if `text` is not UTF-8, `Absent` if no source has this id, `WrongKind` if the handle
-/// holds an index map or no map, and `OutOfMemory`. After an error the value of the handle is
-/// unchanged.
+/// Changes the source with this id. The map stores `text` as it is given.
 #[unsafe(no_mangle)]
 pub extern "C" fn sm_set_source(
     alloc: Global,
@@ -122,8 +116,7 @@ pub extern "C" fn sm_set_source(
 }
 
 fn set_source(alloc: Global, map: &mut Handle, id: u32, text: &[u8]) -> Outcome<()>
-    ensures { Does result
-        (HoldsNew (HasSource id text.now) (held_in map.old) (held_in map.new))
+    ensures { Does result (HoldsNew (HasSource id text.now) (held_in map.old) (held_in map.new))
         (OrNoText true text.now (FailsAs (HasSource id text.now) (tree_in (held_in map.old))))
         (IsAsBefore (held_in map.old) (held_in map.new)) }
 {
@@ -151,8 +144,7 @@ pub extern "C" fn sm_set_debug_id(
 }
 
 fn set_id(alloc: Global, map: &mut Handle, present: bool, id: &IdBytes) -> Outcome<()>
-    ensures { Does result
-        (HoldsNew (HasId (text_if present id.now.bytes)) (held_in map.old) (held_in map.new))
+    ensures { Does result (HoldsNew (HasId (text_if present id.now.bytes)) (held_in map.old) (held_in map.new))
         (FailsAs (HasId (text_if present id.now.bytes)) (tree_in (held_in map.old)))
         (IsAsBefore (held_in map.old) (held_in map.new)) }
 {
@@ -168,10 +160,8 @@ pub extern "C" fn sm_ignore_source(
     id: u32,
     error: &mut ErrorReport,
 ) -> u32
-    ensures { Answers result error.old error.new
-        (HoldsNew (Ignores id) (held_in map.old) (held_in map.new))
-        (FailsAs (Ignores id) (tree_in (held_in map.old)))
-        (IsAsBefore (held_in map.old) (held_in map.new)) }
+    ensures { Answers result error.old error.new (HoldsNew (Ignores id) (held_in map.old) (held_in map.new))
+        (FailsAs (Ignores id) (tree_in (held_in map.old))) (IsAsBefore (held_in map.old) (held_in map.new)) }
 {
     finish(alloc, change_map(alloc, map, &Change::Ignored(id)), error)
 }
@@ -179,10 +169,8 @@ pub extern "C" fn sm_ignore_source(
 /// Removes all names.
 #[unsafe(no_mangle)]
 pub extern "C" fn sm_remove_names(alloc: Global, map: &mut Handle, error: &mut ErrorReport) -> u32
-    ensures { Answers result error.old error.new
-        (HoldsNew HasNoNames (held_in map.old) (held_in map.new))
-        (FailsAs HasNoNames (tree_in (held_in map.old)))
-        (IsAsBefore (held_in map.old) (held_in map.new)) }
+    ensures { Answers result error.old error.new (HoldsNew HasNoNames (held_in map.old) (held_in map.new))
+        (FailsAs HasNoNames (tree_in (held_in map.old))) (IsAsBefore (held_in map.old) (held_in map.new)) }
 {
     finish(alloc, change_map(alloc, map, &Change::NoNames), error)
 }

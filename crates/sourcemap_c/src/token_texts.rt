@@ -15,11 +15,7 @@ use sourcemap_c_handles::Handle;
 use sourcemap_c_handles::errors::{ErrorReport, Failure, Outcome, finish};
 use std::alloc::Global;
 
-/// Fills `text` with the source, original line, original column and name of the token with this
-/// index, for example `a.js:3:5 name=total`. Line and column count from 0. The source is resolved
-/// against `sourceRoot`. Without a name, the text is `a.js:3:5`. Without a source, the text begins
-/// with `<unknown>:`. The errors are `SM_ABSENT` if no token has this index, `SM_WRONG_KIND` if
-/// `map` holds neither a regular nor a Hermes map, and `SM_OUT_OF_MEMORY`.
+/// Fills `text` with the token with this index, for example `a.js:3:5 name=total`.
 #[unsafe(no_mangle)]
 pub extern "C" fn sm_token_text(
     alloc: Global,
@@ -29,8 +25,7 @@ pub extern "C" fn sm_token_text(
     error: &mut ErrorReport,
 ) -> u32
     ensures text { Answers result error.old error.new
-        (HoldsTextOf index (option_and_then leaf_in (tree_in (held_in map.old)))
-        (bytes_in (held_in text.new)))
+        (HoldsTextOf index (option_and_then leaf_in (tree_in (held_in map.old))) (bytes_in (held_in text.new)))
         (LacksTextOf index (option_and_then leaf_in (tree_in (held_in map.old))))
         (held_in text.new ≡ held_in text.old) }
     ensures kept { held_in map.new ≡ held_in map.old }
@@ -39,10 +34,8 @@ pub extern "C" fn sm_token_text(
 }
 
 fn put_text_of(alloc: Global, map: &mut Handle, index: u32, text: &mut Handle) -> Outcome<()>
-    ensures text { Does result
-        (HoldsTextOf index (option_and_then leaf_in (tree_in (held_in map.old)))
-        (bytes_in (held_in text.new)))
-        (LacksTextOf index (option_and_then leaf_in (tree_in (held_in map.old))))
+    ensures text { Does result (HoldsTextOf index (option_and_then leaf_in (tree_in (held_in map.old)))
+        (bytes_in (held_in text.new))) (LacksTextOf index (option_and_then leaf_in (tree_in (held_in map.old))))
         (held_in text.new ≡ held_in text.old) }
     ensures kept { held_in map.new ≡ held_in map.old }
 {
@@ -53,10 +46,8 @@ fn put_text_of(alloc: Global, map: &mut Handle, index: u32, text: &mut Handle) -
 }
 
 fn put_text_in(alloc: Global, map: &DecodedMap, index: u32, text: &mut Handle) -> Outcome<()>
-    ensures { Does result
-        (HoldsTextOf index (leaf_in (map_tree map.now)) (bytes_in (held_in text.new)))
-        (LacksTextOf index (leaf_in (map_tree map.now)))
-        (held_in text.new ≡ held_in text.old) }
+    ensures { Does result (HoldsTextOf index (leaf_in (map_tree map.now)) (bytes_in (held_in text.new)))
+        (LacksTextOf index (leaf_in (map_tree map.now))) (held_in text.new ≡ held_in text.old) }
 {
     match leaf_in(map) {
         Some(map) => put_listed(alloc, map, index, text),
@@ -65,10 +56,8 @@ fn put_text_in(alloc: Global, map: &DecodedMap, index: u32, text: &mut Handle) -
 }
 
 fn put_listed(alloc: Global, map: &SourceMap, index: u32, text: &mut Handle) -> Outcome<()>
-    ensures { Does result
-        (HoldsTextOf index (Some map.now) (bytes_in (held_in text.new)))
-        (LacksTextOf index (Some map.now))
-        (held_in text.new ≡ held_in text.old) }
+    ensures { Does result (HoldsTextOf index (Some map.now) (bytes_in (held_in text.new)))
+        (LacksTextOf index (Some map.now)) (held_in text.new ≡ held_in text.old) }
 {
     match map.get_token(index as usize) {
         Some(token) => put_token(alloc, token, text),
@@ -77,10 +66,8 @@ fn put_listed(alloc: Global, map: &SourceMap, index: u32, text: &mut Handle) -> 
 }
 
 fn put_token(alloc: Global, token: Token<'_>, text: &mut Handle) -> Outcome<()>
-    ensures { Does result
-        (bytes_in (held_in text.new) ≡ Some (token_text (meaning_of_token token.entry)))
-        (OfLibrary NoError)
-        (held_in text.new ≡ held_in text.old) }
+    ensures { Does result (bytes_in (held_in text.new) ≡ Some (token_text (meaning_of_token token.entry)))
+        (OfLibrary NoError) (held_in text.new ≡ held_in text.old) }
 {
     match token.to_string(alloc) {
         Ok(printed) => put_bytes(alloc, text, printed.into_bytes()),
@@ -88,10 +75,8 @@ fn put_token(alloc: Global, token: Token<'_>, text: &mut Handle) -> Outcome<()>
     }
 }
 
-/// Looks up a generated position, and fills `text` with the closest token, in the form that
-/// `sm_token_text` writes. The column is the `original_column` that `sm_lookup` writes. If an index
-/// map has unsorted sections at any level, the answer may be wrong. The errors are `SM_ABSENT` if
-/// there is no closest token, `SM_WRONG_KIND` if `map` holds no map, and `SM_OUT_OF_MEMORY`.
+/// Looks up a generated position, and fills `text` with the closest token, in the form of
+/// `sm_token_text`.
 #[unsafe(no_mangle)]
 pub extern "C" fn sm_lookup_text(
     alloc: Global,
@@ -103,8 +88,7 @@ pub extern "C" fn sm_lookup_text(
 ) -> u32
     ensures text { Answers result error.old error.new
         (HoldsTextAt (line, column) (tree_in (held_in map.old)) (bytes_in (held_in text.new)))
-        (LacksTextAt (line, column) (tree_in (held_in map.old)))
-        (held_in text.new ≡ held_in text.old) }
+        (LacksTextAt (line, column) (tree_in (held_in map.old))) (held_in text.new ≡ held_in text.old) }
     ensures kept { held_in map.new ≡ held_in map.old }
 {
     finish(alloc, put_text_at(alloc, map, line, column, text), error)
@@ -119,8 +103,7 @@ fn put_text_at(
 ) -> Outcome<()>
     ensures text { Does result
         (HoldsTextAt (line, column) (tree_in (held_in map.old)) (bytes_in (held_in text.new)))
-        (LacksTextAt (line, column) (tree_in (held_in map.old)))
-        (held_in text.new ≡ held_in text.old) }
+        (LacksTextAt (line, column) (tree_in (held_in map.old))) (held_in text.new ≡ held_in text.old) }
     ensures kept { held_in map.new ≡ held_in map.old }
 {
     match map_in(map) {
@@ -136,10 +119,8 @@ fn put_found(
     column: u32,
     text: &mut Handle,
 ) -> Outcome<()>
-    ensures { Does result
-        (HoldsTextAt (line, column) (Some (map_tree map.now)) (bytes_in (held_in text.new)))
-        (LacksTextAt (line, column) (Some (map_tree map.now)))
-        (held_in text.new ≡ held_in text.old) }
+    ensures { Does result (HoldsTextAt (line, column) (Some (map_tree map.now)) (bytes_in (held_in text.new)))
+        (LacksTextAt (line, column) (Some (map_tree map.now))) (held_in text.new ≡ held_in text.old) }
 {
     match map.lookup_token(line, column) {
         Some(token) => put_token(alloc, token, text),

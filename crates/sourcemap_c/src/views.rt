@@ -33,18 +33,14 @@ pub extern "C" fn sm_view_open(
     text: &[u8],
     error: &mut ErrorReport,
 ) -> u32
-    ensures { Answers result error.old error.new
-        (view_in (held_in view.new) ≡ Some text.now)
-        (OfLibrary (IsNoText text.now))
-        (held_in view.new ≡ held_in view.old) }
+    ensures { Answers result error.old error.new (view_in (held_in view.new) ≡ Some text.now)
+        (OfLibrary (IsNoText text.now)) (held_in view.new ≡ held_in view.old) }
 {
     finish(alloc, open(alloc, view, text), error)
 }
 
 fn open(alloc: Global, view: &mut Handle, text: &[u8]) -> Outcome<()>
-    ensures { Does result
-        (view_in (held_in view.new) ≡ Some text.now)
-        (OfLibrary (IsNoText text.now))
+    ensures { Does result (view_in (held_in view.new) ≡ Some text.now) (OfLibrary (IsNoText text.now))
         (held_in view.new ≡ held_in view.old) }
 {
     match text_in(text) {
@@ -54,9 +50,7 @@ fn open(alloc: Global, view: &mut Handle, text: &[u8]) -> Outcome<()>
 }
 
 fn open_text(alloc: Global, view: &mut Handle, text: &str) -> Outcome<()>
-    ensures { Does result
-        (view_in (held_in view.new) ≡ Some text.now)
-        (OfLibrary NoError)
+    ensures { Does result (view_in (held_in view.new) ≡ Some text.now) (OfLibrary NoError)
         (held_in view.new ≡ held_in view.old) }
 {
     let made = SourceView::new(alloc, text)?;
@@ -120,10 +114,7 @@ fn put_line<'a>(view: Option<&'a SourceView>, line: u32, text: &mut &'a [u8]) ->
     }
 }
 
-/// Borrows a slice of a line: `span` UTF-16 units from column `column` on. If the slice would start
-/// or end inside a surrogate pair, this start or end moves to the end of the pair. Returns
-/// `SM_ABSENT` if there is no such line, or if the line has fewer than `column + span` units.
-/// Returns `SM_WRONG_KIND` if the handle holds no view.
+/// Borrows a slice of a line: `span` UTF-16 units from column `column` on.
 #[unsafe(no_mangle)]
 pub extern "C" fn sm_view_slice<'a>(
     view: &'a mut Handle,

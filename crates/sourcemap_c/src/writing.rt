@@ -28,18 +28,15 @@ pub extern "C" fn sm_write(
 ) -> u32
     ensures written { Answers result error.old error.new
         (HoldsText (tree_in (held_in map.old)) (bytes_in (held_in text.new)))
-        (OfLibraryOrKind NoError (tree_in (held_in map.old) ≡ None))
-        (held_in text.new ≡ held_in text.old) }
+        (OfLibraryOrKind NoError (tree_in (held_in map.old) ≡ None)) (held_in text.new ≡ held_in text.old) }
     ensures kept { held_in map.new ≡ held_in map.old }
 {
     finish(alloc, write(alloc, map, text), error)
 }
 
 fn write(alloc: Global, map: &mut Handle, text: &mut Handle) -> Outcome<()>
-    ensures written { Does result
-        (HoldsText (tree_in (held_in map.old)) (bytes_in (held_in text.new)))
-        (OfLibraryOrKind NoError (tree_in (held_in map.old) ≡ None))
-        (held_in text.new ≡ held_in text.old) }
+    ensures written { Does result (HoldsText (tree_in (held_in map.old)) (bytes_in (held_in text.new)))
+        (OfLibraryOrKind NoError (tree_in (held_in map.old) ≡ None)) (held_in text.new ≡ held_in text.old) }
     ensures kept { held_in map.new ≡ held_in map.old }
 {
     match map_in(map) {
@@ -49,10 +46,8 @@ fn write(alloc: Global, map: &mut Handle, text: &mut Handle) -> Outcome<()>
 }
 
 fn put_encoded(alloc: Global, map: &DecodedMap, text: &mut Handle) -> Outcome<()>
-    ensures { Does result
-        (HoldsText (Some (map_tree map.now)) (bytes_in (held_in text.new)))
-        (OfLibrary NoError)
-        (held_in text.new ≡ held_in text.old) }
+    ensures { Does result (HoldsText (Some (map_tree map.now)) (bytes_in (held_in text.new)))
+        (OfLibrary NoError) (held_in text.new ≡ held_in text.old) }
 {
     match encode_to_vec(alloc, map) {
         Ok(encoded) => put_bytes(alloc, text, encoded),
@@ -70,18 +65,15 @@ pub extern "C" fn sm_write_url(
 ) -> u32
     ensures written { Answers result error.old error.new
         (HoldsUrl (tree_in (held_in map.old)) (bytes_in (held_in text.new)))
-        (OfLibraryOrKind NoError (tree_in (held_in map.old) ≡ None))
-        (held_in text.new ≡ held_in text.old) }
+        (OfLibraryOrKind NoError (tree_in (held_in map.old) ≡ None)) (held_in text.new ≡ held_in text.old) }
     ensures kept { held_in map.new ≡ held_in map.old }
 {
     finish(alloc, write_url(alloc, map, text), error)
 }
 
 fn write_url(alloc: Global, map: &mut Handle, text: &mut Handle) -> Outcome<()>
-    ensures written { Does result
-        (HoldsUrl (tree_in (held_in map.old)) (bytes_in (held_in text.new)))
-        (OfLibraryOrKind NoError (tree_in (held_in map.old) ≡ None))
-        (held_in text.new ≡ held_in text.old) }
+    ensures written { Does result (HoldsUrl (tree_in (held_in map.old)) (bytes_in (held_in text.new)))
+        (OfLibraryOrKind NoError (tree_in (held_in map.old) ≡ None)) (held_in text.new ≡ held_in text.old) }
     ensures kept { held_in map.new ≡ held_in map.old }
 {
     match map_in(map) {
@@ -91,9 +83,7 @@ fn write_url(alloc: Global, map: &mut Handle, text: &mut Handle) -> Outcome<()>
 }
 
 fn put_url(alloc: Global, map: &DecodedMap, text: &mut Handle) -> Outcome<()>
-    ensures { Does result
-        (HoldsUrl (Some (map_tree map.now)) (bytes_in (held_in text.new)))
-        (OfLibrary NoError)
+    ensures { Does result (HoldsUrl (Some (map_tree map.now)) (bytes_in (held_in text.new))) (OfLibrary NoError)
         (held_in text.new ≡ held_in text.old) }
 {
     match encode_to_vec(alloc, map) {
@@ -103,9 +93,7 @@ fn put_url(alloc: Global, map: &DecodedMap, text: &mut Handle) -> Outcome<()>
 }
 
 fn put_url_of(alloc: Global, encoded: &[u8], text: &mut Handle) -> Outcome<()>
-    ensures { Does result
-        (bytes_in (held_in text.new) ≡ Some (data_url_of encoded.now))
-        (OfLibrary NoError)
+    ensures { Does result (bytes_in (held_in text.new) ≡ Some (data_url_of encoded.now)) (OfLibrary NoError)
         (held_in text.new ≡ held_in text.old) }
 {
     match data_url(alloc, encoded) {

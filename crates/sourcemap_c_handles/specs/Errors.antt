@@ -121,7 +121,8 @@ IsWritten code numbers text old new = new ≡ record {
 -- `new` is `old` after the report of `failure` was written to `old`. The written text is `failure_text failure`. If
 -- `failure_text failure` is `None` (for `Io` and `Utf8`), the definition allows any text.
 abbrev pub IsOf : Failure → ErrorReport → ErrorReport → Type 0
-IsOf failure old new = (text : List ℕ) × IsWritten (code_of failure) (failure_numbers failure) text old new × IfSome (failure_text failure) (λ due. text ≡ due)
+IsOf failure old new = (text : List ℕ) × IsWritten (code_of failure) (failure_numbers failure) text old new
+    × IfSome (failure_text failure) (λ due. text ≡ due)
 
 -- Either `code` and the report `new` describe `failure`, or both describe `OutOfMemory`. The definition always allows
 -- `OutOfMemory`, because the call that writes the report needs memory for the text.

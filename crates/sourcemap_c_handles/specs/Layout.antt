@@ -32,13 +32,15 @@ raw_token token = record {
 -- `token.extra_columns`, but at most 4294967295. The other fields are those of `token.raw`. `extra_columns` is 0 unless
 -- the token is a range token on the line of the looked-up position.
 abbrev pub found_token : TokenValue → MapToken
-found_token token = record (map_token token.raw) { original_line = (says token).line; original_column = (says token).column }
+found_token token =
+    record (map_token token.raw) { original_line = (says token).line; original_column = (says token).column }
 
 -- The result of a lookup. `Some token` means that the lookup found `token`. `None` means that the lookup found no
 -- token. Then all numbers in the result are 0, and `is_range` and `found` are false.
 abbrev pub found_in : Option TokenValue → Found
 found_in None = record {
-  token = record { line = 0; column = 0; original_line = 0; original_column = 0; source = 0; name = 0; is_range = false };
+  token =
+      record { line = 0; column = 0; original_line = 0; original_column = 0; source = 0; name = 0; is_range = false };
   found = false;
 }
 found_in (Some token) = record { token = found_token token; found = true }

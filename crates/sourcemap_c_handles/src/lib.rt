@@ -1,4 +1,4 @@
-//! The handles, the structs and the error reports of the C interface.
+//! The handles, the structs and the error reports of the C interface; it knows nothing of the calls.
 #![tactic(auto)]
 
 pub mod errors;

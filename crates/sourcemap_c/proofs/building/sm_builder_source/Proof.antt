@@ -1,4 +1,3 @@
--- `sm_builder_source` passes the handle to `Handle::get`, and the result to `put_source`.
 use Rattle.std.specs.Prelude.{option_map, slice_get}
 use Rattle.sourcemap_c.specs.Codes.{ReturnsValue}
 use Rattle.sourcemap_c.specs.Kinds.{builder_in}

@@ -1,4 +1,3 @@
--- `sm_hermes_function_name` passes the handle to `map_in`, and the result to `put_name_at`.
 use Rattle.sourcemap_c.specs.Functions.{NamesAt}
 use Rattle.sourcemap_c.proofs.Lending.{maps, lends_1}
 use Rattle.sourcemap_c.specs.contracts.functions.sm_hermes_function_name.Key as key

@@ -1,4 +1,3 @@
--- `sm_file` passes the handle to `map_in`, and the result to `put_file`.
 use Rattle.std.specs.Prelude.{option_map}
 use Rattle.sourcemap_c.specs.Codes.{ReturnsValue}
 use Rattle.sourcemap_c.specs.Getters.{file_of}

@@ -1,4 +1,3 @@
--- `sm_lookup_name` passes the handle to `map_in`, and the result to `put_name_at`.
 use Rattle.sourcemap_c.specs.Lookup.{ReturnsLookup, name_at}
 use Rattle.sourcemap_c.proofs.Lending.{maps, lends_2}
 use Rattle.sourcemap_c.specs.contracts.lookup.sm_lookup_name.Key as key

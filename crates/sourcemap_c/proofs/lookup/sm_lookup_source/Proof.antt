@@ -1,4 +1,3 @@
--- `sm_lookup_source` passes the handle to `map_in`, and the result to `put_source_at`.
 use Rattle.sourcemap_c.specs.Lookup.{ReturnsLookup, source_at}
 use Rattle.sourcemap_c.proofs.Lending.{maps, lends_2}
 use Rattle.sourcemap_c.specs.contracts.lookup.sm_lookup_source.Key as key

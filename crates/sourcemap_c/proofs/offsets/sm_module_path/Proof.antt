@@ -1,4 +1,3 @@
--- `sm_module_path` passes the handle to `map_in`, and the result to `put_path`.
 use Rattle.sourcemap_c.specs.Codes.{ReturnsValue}
 use Rattle.sourcemap_c.specs.Offsets.{path_in}
 use Rattle.sourcemap_c.proofs.Lending.{maps, lends_1}

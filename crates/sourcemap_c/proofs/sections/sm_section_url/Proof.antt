@@ -1,4 +1,3 @@
--- `sm_section_url` passes the handle to `index_in`, and the result to `put_url`.
 use Rattle.std.specs.Prelude.{List, Option, option_and_then, option_map, slice_get}
 use Rattle.sourcemap_index_model.specs.MapTree.{MapSection}
 use Rattle.sourcemap_index.specs.Family.{index_value}

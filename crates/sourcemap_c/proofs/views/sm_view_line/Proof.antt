@@ -1,4 +1,3 @@
--- `sm_view_line` passes the handle to `view_in`, and the result to `put_line`.
 use Rattle.std.specs.Prelude.{option_map, slice_get}
 use Rattle.sourcemap_source_views.specs.Lines.{line_bodies}
 use Rattle.sourcemap_c.specs.Codes.{ReturnsValue}

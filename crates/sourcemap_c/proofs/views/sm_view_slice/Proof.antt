@@ -1,4 +1,3 @@
--- `sm_view_slice` passes the handle to `view_in`, and the result to `put_slice`.
 use Rattle.std.specs.Prelude.{option_map}
 use Rattle.sourcemap_source_views.specs.Sourceview.{view_slice}
 use Rattle.sourcemap_c.specs.Codes.{ReturnsValue}

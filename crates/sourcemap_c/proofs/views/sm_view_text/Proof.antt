@@ -1,4 +1,3 @@
--- `sm_view_text` passes the handle to `view_in`, and the result to `put_source`.
 use Rattle.std.specs.Prelude.{Some, option_map}
 use Rattle.sourcemap_c.specs.Codes.{ReturnsValue}
 use Rattle.sourcemap_c.proofs.Lending.{views, lends_0}

@@ -1,4 +1,3 @@
--- `sm_bytes_text` passes the handle to `Handle::get`, and the result to `put_held`.
 use Rattle.std.specs.Prelude.{Some, option_map}
 use Rattle.sourcemap_c.specs.Codes.{ReturnsValue}
 use Rattle.sourcemap_c.specs.Kinds.{bytes_in}
