@@ -29,6 +29,9 @@ OUT_OF_MEMORY = re.compile(
     rb'^[Ee]rror: .*(OutOfMemory|AllocError|AllocFailed|out of memory)|: OutOfMemory\s*\Z|^ *left: "out of memory"$'
     rb'|(Err\(|: Ok\(")[^\n]*(OutOfMemory|AllocError|AllocFailed|out of memory)[^\n]*\)\s*\Z', re.MULTILINE)
 
+# what the kit adds to the message of a test that returned an error
+RETURNED = re.compile(rb'\nthe test failed: its result gives status 1\s*\Z')
+
 MAP = ('{"version":3,"sources":["coolstuff.js"],"names":["x","alert"],'
        '"mappings":"AAAA,GAAIA,GAAI,EACR,IAAIA,GAAK,EAAG,CACVC,MAAM"}')
 FULL = ('{"version":3,"file":"out.js","sourceRoot":"/r","sources":["/a/x.js","b.js",null],"sourcesContent":["x\\n",null,"z"],'
@@ -118,7 +121,7 @@ def run(command, folder, given):
 def is_test_well(way, ending, usual):
     call, how, _ = way
     if call == 'allocation':
-        text = ending.output + ending.errors
+        text = RETURNED.sub(b'', ending.output + ending.errors)
         return ending == usual or ending.status in (101, ABORTED) and bool(OUT_OF_MEMORY.search(text))
     if how in ('fails', 'ends'):
         return ending.status in ENDED

@@ -484,14 +484,19 @@ fn adjusted_maps_are_written(rt: HostRuntime) -> Checked {
 }
 
 // Whether an adjustment is refused and leaves the map unchanged.
-fn is_refused(map: &mut SourceMap, before: &SourceMap, by: &SourceMap) -> bool {
-    let outcome = adjust_again(map, before, by);
-    matches!(outcome, Err(Error::IncompatibleSourceMap)) && *map == *before
+fn is_refused(map: &mut SourceMap, before: &SourceMap, by: &SourceMap) -> Result<bool> {
+    match adjust_again(map, before, by) {
+        Err(Error::OutOfMemory) => Err(Error::OutOfMemory),
+        outcome => {
+            let is_kept = *map == *before;
+            Ok(is_kept && matches!(outcome, Err(Error::IncompatibleSourceMap)))
+        }
+    }
 }
 
 fn is_refused_by_last(alloc: Global, map: &mut SourceMap, before: &SourceMap) -> Result<bool> {
     let by = adjustment(alloc, &LAST)?;
-    Ok(is_refused(map, before, &*by))
+    is_refused(map, before, &*by)
 }
 
 fn is_refused_at(alloc: Global, map: &mut SourceMap) -> Result<bool> {
