@@ -1,5 +1,5 @@
 // Arrays and objects of up to 128 levels, and strings that begin with 0 to 99 letters `a`.
-use crate::answers::{answer, kit_answer};
+use crate::answers::{answer, check_long, kit_answer};
 use serde_json::Result;
 use sourcemap_test_support::checks::{Checked, check};
 use std::alloc::Global;
@@ -36,14 +36,14 @@ fn values_are_read_up_to_127_levels_deep(rt: HostRuntime) -> Checked {
     for row in LEVELS.iter() {
         let text = nest(rt.alloc(), row)?;
         let got = answer(rt.alloc(), text.as_bytes());
-        check(text.as_str(), got, text.as_str())?;
+        check_long(text.as_str(), got, text.as_str())?;
     }
     for row in TOO_MANY.iter() {
         let text = nest(rt.alloc(), row)?;
         let got = answer(rt.alloc(), text.as_bytes());
-        check(text.as_str(), got, "none")?;
+        check_long(text.as_str(), got, "none")?;
         let got = kit_answer(rt.alloc(), text.as_bytes());
-        check(text.as_str(), got, "none")?;
+        check_long(text.as_str(), got, "none")?;
     }
     Ok(())
 }

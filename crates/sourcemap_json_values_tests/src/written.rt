@@ -1,4 +1,5 @@
 // Values written as compact JSON.
+use crate::answers::check_long;
 use serde_json::{Result, Value};
 use sourcemap_json_write::writing::value_to_vec;
 use sourcemap_test_support::checks::{Checked, check};
@@ -84,7 +85,7 @@ fn pair(alloc: Global, first: Value, second: Value) -> StdResult<Value, AllocErr
 
 // Checks how a value is written: alone, and next to a long string.
 fn check_written(alloc: Global, value: Value, want: &str) -> Checked {
-    check(want, compact_text(alloc, &value), want)?;
+    check_long(want, compact_text(alloc, &value), want)?;
     let mut long = String::new(alloc);
     for _ in 0..4096 {
         long.push('x')?;
@@ -94,7 +95,7 @@ fn check_written(alloc: Global, value: Value, want: &str) -> Checked {
         wanted.push_str(part)?;
     }
     let answer = compact_text(alloc, &pair(alloc, value, Value::String(long))?);
-    check(want, answer, wanted.as_str())
+    check_long(want, answer, wanted.as_str())
 }
 
 // Returns `around`, then `len` times `run`, then `between`, then again `len` times `run`, then
