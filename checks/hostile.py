@@ -236,7 +236,7 @@ def _(size):
                     'mappings': 'AAAA,' + 'CCAA,' * (size - 1) + 'C'})
 
 
-@kind('contents without sources, copied and printed', 100_000, COPIES, 110)
+@kind('contents without sources, copied and printed', 100_000, COPIES, 90)
 def _(size):
     return text_of({'version': 3, 'sources': [], 'sourcesContent': [''] * size, 'names': [], 'mappings': ''})
 
@@ -256,7 +256,7 @@ def _(size):
     return b'{"version":3,"sources":[],"names":[],"mappings":"","x":[' + b'{"":0},' * size + b'{"":0}]}'
 
 
-@kind('nested objects in a key that nothing reads', 1_000, DECODES, 180)
+@kind('nested objects in a key that nothing reads', 1_000, DECODES, 185)
 def _(size):
     nested = b'{"":' * 125 + b'0' + b'}' * 125
     return b'{"version":3,"sources":[],"names":[],"mappings":"","x":[' + (nested + b',') * size + b'0]}'
@@ -369,7 +369,7 @@ def _(size):
 
 
 # all prefixes have a long common start with the one source
-@kind('prefixes times their length', 1_000, of_calls('strip'), 2, by_square)
+@kind('prefixes times their length', 1_000, of_calls('strip'), 1, by_square)
 def _(size):
     start = b'p' * size
     return b' '.join(start + b'%d' % number for number in range(size)) + b'\n' + start + b'/\n'
@@ -476,7 +476,7 @@ def _(size):
     return b'{"version":3,"sections":[' + b'{"offset":{"line":0,"column":0}},' * size + b'{"offset":{"line":0,"column":0}}]}'
 
 
-@kind('sections with an empty map', 50_000, VALUES, 170)
+@kind('sections with an empty map', 50_000, VALUES, 130)
 def _(size):
     section = b'{"offset":{"line":0,"column":0},"map":{"mappings":""}}'
     return b'{"version":3,"sections":[' + (section + b',') * size + section + b']}'
@@ -495,7 +495,7 @@ def _(size):
 
 
 # each index flattens the ones inside of it
-@kind('a map in ten to forty indexes', 10, of_bench('flatten 1') + of_calls('flatten-and-rewrite'), 24, lambda size, given, written: size * given)
+@kind('a map in ten to forty indexes', 10, of_bench('flatten 1') + of_calls('flatten-and-rewrite'), 2, lambda size, given, written: size * given)
 def _(size):
     return within_indexes(50_000, size)
 
