@@ -16,8 +16,8 @@
 # `--millis all` leaves no call out.
 #
 # The last line is `N passed, M failed`, and counts runs. The exit status is 1 if a run failed, or if none
-# passed. If a program is not built or cannot be started, or if no C compiler works, this counts as a failed
-# run.
+# passed. If a program is not built, is older than its sources or cannot be started, or if no C compiler
+# works, this counts as a failed run.
 #
 # Needs a C compiler (CC, or else cc, gcc or clang) and Python 3.8.
 set -euo pipefail

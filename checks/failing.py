@@ -84,7 +84,7 @@ Ending = collections.namedtuple('Ending', 'status output errors')
 
 
 class Unswept(Exception):
-    """A program did not start, ended before its calls could fail, or listed no tests."""
+    """A program is older than its sources, did not start, ended before its calls could fail, or listed no tests."""
 
 
 class Failing:
@@ -220,10 +220,28 @@ def tests_of(program):
     return tests
 
 
+def listed_crates():
+    """The crates of crates.txt in their order, each with those that it names. Those of the kit name none."""
+    lines = [line for line in (CRATES.parent / 'crates.txt').read_text().splitlines() if ':' in line and line[0] != '#']
+    return {head.split()[0]: named.split() for head, _, named in (line.partition(':') for line in lines)}
+
+
 def crates_with_tests():
-    listed = [line.partition(':')[0].split()[0] for line in (CRATES.parent / 'crates.txt').read_text().splitlines()
-              if ':' in line and not line.startswith('#')]
-    return [name for name in listed if any('#[test]' in file.read_text() for file in (CRATES / name).glob('src/**/*.rt'))]
+    return [name for name in listed_crates()
+            if any('#[test]' in file.read_text() for file in (CRATES / name).glob('src/**/*.rt'))]
+
+
+def newer_source(name, program):
+    """A source of the crate, or of one below it, that changed after the program was built, or None."""
+    listed, known, waiting = listed_crates(), set(), [name]
+    built = program.stat().st_mtime
+    while waiting:
+        crate = waiting.pop()
+        if crate not in known:
+            known.add(crate)
+            waiting += listed.get(crate, [])
+    sources = (file for crate in sorted(known) for file in (CRATES / crate).glob('src/**/*.rt'))
+    return next((file for file in sources if file.stat().st_mtime > built), None)
 
 
 def program_of(name):
@@ -252,6 +270,9 @@ def sweep_run(failing, runs, way):
 def steps_of(name, work):
     """The sweeps of a crate's tests, or of the program."""
     program = str(program_of(name))
+    changed = newer_source(name, program_of(name))
+    if changed:
+        raise Unswept(f'older than {changed.relative_to(CRATES)}')
     if name == TOOL:
         every = [Runs(program, work, case, at) for at, case in enumerate(CASES)]
         return [(f'{TOOL} {runs.case.words}', sweep_run, runs, way) for runs in every for way in WAYS_OF_RUNS]
