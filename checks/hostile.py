@@ -251,12 +251,12 @@ def _(size):
     return text_of({**{f'{number}': 0 for number in range(size)}, 'version': 3, 'sources': [], 'names': [], 'mappings': ''})
 
 
-@kind('objects in a key that nothing reads', 100_000, DECODES, 140)
+@kind('objects in a key that nothing reads', 100_000, DECODES, 16)
 def _(size):
     return b'{"version":3,"sources":[],"names":[],"mappings":"","x":[' + b'{"":0},' * size + b'{"":0}]}'
 
 
-@kind('nested objects in a key that nothing reads', 1_000, DECODES, 185)
+@kind('nested objects in a key that nothing reads', 1_000, DECODES, 16)
 def _(size):
     nested = b'{"":' * 125 + b'0' + b'}' * 125
     return b'{"version":3,"sources":[],"names":[],"mappings":"","x":[' + (nested + b',') * size + b'0]}'

@@ -1,6 +1,6 @@
 -- The lexemes and the tokens of a text, by the first byte of the text.
 use Rattle.std.proofs.Common.{◌≡◌, ◌≢◌, ◌+◌, ◌<◌, ℕ, Bool, true, false, cond, ◌==◌, List, [], ◌∷◌, ◌++◌, Some, ⊎_elim}
-use Rattle.std.proofs.Common.{◌⊎◌, drop, refl, sym, ap, ◌∙◌, arith}
+use Rattle.std.proofs.Common.{drop, refl, sym, ap, ◌∙◌, arith}
 use Rattle.std.proofs.lemmas.List.{drop-drop}
 use Rattle.std.proofs.lemmas.Bool.Decides.{nat_tests}
 use Rattle.std.proofs.lemmas.Bool.{true≢false, false≢true, eqb-true, or_cases, cases_Bool}

@@ -1,4 +1,7 @@
 mod Heads
+pub mod KeptLemmas
+mod KeptReading
+mod ExactLemmas
 mod Lexemes
 mod Numerals
 mod Tokens

@@ -1,16 +1,14 @@
 -- Lists of tokens that begin with a value, with items or with members: a lemma for each step of the reader.
-use Rattle.std.proofs.Common.{◌≡◌, ℕ, ◌-◌, ◌<◌, ◌≤◌, List, [], ◌∷◌, ◌++◌, length, Some, None, option_map}
-use Rattle.std.proofs.Common.{option_and_then, Vec, BTreeMap, String, Global, refl, sym, ap, ◌∙◌}
+use Rattle.std.proofs.Common.{◌≡◌, ℕ, ◌-◌, ◌<◌, ◌≤◌, List, [], ◌∷◌, length, Some, None, option_map}
+use Rattle.std.proofs.Common.{option_and_then, refl, ap, ◌∙◌}
 use Rattle.json.specs.Token.{Token}
 use Rattle.json.specs.Json as json
+use Rattle.json.specs.Lex.{tokens}
 use Rattle.json.specs.Json.{parse_map, after_end_array, read_key}
 use Rattle.json.proofs.Grammar.{left, value_is, value-begin_array, value-begin_object, items_end, items_more}
 use Rattle.json.proofs.Grammar.{members_end, members_more, skip_value-shorter}
 use Rattle.serde_json.specs.Data.{Data, array, object, Items, no_items, item, Members, put}
-use Rattle.serde_json.specs.Read.{of_json, of_items, of_members}
-use Rattle.serde_json.specs.View.{view, items_view, members_view}
-use Rattle.serde_json.specs.declared.value.Value.{Value, Array, Object}
-use Rattle.serde_json.proofs.Views.{view-Array, view-Object}
+use Rattle.serde_json.specs.Read.{of_json, of_items, of_members, max_depth, read}
 use Rattle.sourcemap_json_read.specs.Values.{BeginsWithValue, BeginsWithItems, BeginsWithMembers}
 
 -- ---- values
@@ -19,24 +17,29 @@ pub one_token : (depth : ℕ) (t : Token) (j : json.Json) (d : Data) (old new : 
     → json.value depth (t ∷ new) ≡ Some (j, new) → of_json j ≡ Some d → BeginsWithValue depth old d new
 one_token depth t j d old new first is seen = (j, ap (json.value depth) first ∙ is, seen)
 
-pub whole_array : (depth : ℕ) (v : Vec Value Global) (old rest new : List Token) → 0 < depth
-    → old ≡ Token.begin_array ∷ rest → BeginsWithItems (depth - 1) (length rest) rest (items_view v.items) new
-    → BeginsWithValue depth old (view (Array v)) new
-whole_array depth v old rest new some opened h = (
+pub whole_array : (depth : ℕ) (ds : Items) (old rest new : List Token) → 0 < depth → old ≡ Token.begin_array ∷ rest
+    → BeginsWithItems (depth - 1) (length rest) rest ds new → BeginsWithValue depth old (array ds) new
+whole_array depth ds old rest new some opened h = (
   json.array h.0,
   ap (json.value depth) opened ∙ value-begin_array depth rest some ∙ ap (parse_map json.array) h.1,
-  ap (option_map array) h.2 ∙ ap Some (sym (view-Array v)),
+  ap (option_map array) h.2,
 )
 
-pub whole_object : (depth : ℕ) (m : BTreeMap (String Global) Value) (old rest new : List Token) → 0 < depth
+pub whole_object : (depth : ℕ) (ms : Members) (old rest new : List Token) → 0 < depth
     → old ≡ Token.begin_object ∷ rest
-    → BeginsWithMembers (depth - 1) (length rest) rest Members.no_members (members_view m.entries) new
-    → BeginsWithValue depth old (view (Object m)) new
-whole_object depth m old rest new some opened h = (
+    → BeginsWithMembers (depth - 1) (length rest) rest Members.no_members ms new
+    → BeginsWithValue depth old (object ms) new
+whole_object depth ms old rest new some opened h = (
   json.object h.0,
   ap (json.value depth) opened ∙ value-begin_object depth rest some ∙ ap (parse_map json.object) h.1,
-  ap (option_map object) h.2 ∙ ap Some (sym (view-Object m)),
+  ap (option_map object) h.2,
 )
+
+pub whole_text : (text : List ℕ) (d : Data) (rest : List Token) → BeginsWithValue max_depth (tokens text) d rest
+    → rest ≡ [] → read text ≡ Some d
+whole_text text d rest h ended =
+    ap (λ o. option_and_then of_json (option_and_then (λ p. json.if_last p.0 p.1) o)) h.1
+    ∙ ap (λ ts. option_and_then of_json (json.if_last h.0 ts)) ended ∙ h.2
 
 pub value_shorter : (depth : ℕ) (d : Data) (old new : List Token) → BeginsWithValue depth old d new
     → length new < length old
@@ -73,20 +76,6 @@ pub no_more_items : (depth most : ℕ) (old new : List Token) → length old ≤
     → BeginsWithItems depth most old no_items new
 no_more_items depth most old new enough closed =
     (json.no_items, items_end (json.value depth) most old new enough (ap after_end_array closed), refl)
-
--- the views of the given values, as items, followed by the items `ds`
-abbrev pub in_front : List Value → Items → Items
-in_front [] ds = ds
-in_front (v ∷ vs) ds = item (view v) (in_front vs ds)
-
-pub in_front-no_items : (vs : List Value) → in_front vs no_items ≡ items_view vs
-in_front-no_items [] = refl
-in_front-no_items (v ∷ vs) = ap (item (view v)) (in_front-no_items vs)
-
-pub in_front-item : (vs : List Value) (v : Value) (ds : Items)
-    → in_front vs (item (view v) ds) ≡ in_front (vs ++ v ∷ []) ds
-in_front-item [] v ds = refl
-in_front-item (w ∷ vs) v ds = ap (item (view w)) (in_front-item vs v ds)
 
 -- ---- members
 

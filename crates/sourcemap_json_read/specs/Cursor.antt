@@ -1,5 +1,6 @@
 -- Steps along the tokens of a JSON text.
-use Rattle.std.specs.Prelude.{◌≡◌, ℕ, ◌+◌, true, List, [], ◌∷◌, Some, drop, string_bytes, refl}
+use Rattle.std.specs.Prelude.{◌≡◌, ℕ, ◌+◌, true, IsTrue, List, [], ◌∷◌, Some, drop, string_bytes, refl}
+use Rattle.std.specs.Prelude as prelude
 use Rattle.std.specs.Coded.{Coded, code_by, coded×, coded_list, coded_ℕ}
 use Rattle.json.specs.Token as token
 use Rattle.json.specs.Lex as grammar
@@ -25,20 +26,22 @@ remaining_code = code_by (List token.Token × List ℕ) (coded× token.tokens_co
   r.bytes,
 )) (λ p. record { tokens = p.0; bytes = p.1 }) (λ _. refl)
 
--- the step is the first token of `old`, and `new` has the tokens after it. If the step is `End`, `old` and `new` have
--- no tokens, and `new` has no bytes
-abbrev pub Takes : Remaining → Step → Remaining → Type 0
-Takes old BeginObject new = old.tokens ≡ token.begin_object ∷ new.tokens
-Takes old EndObject new = old.tokens ≡ token.end_object ∷ new.tokens
-Takes old BeginArray new = old.tokens ≡ token.begin_array ∷ new.tokens
-Takes old EndArray new = old.tokens ≡ token.end_array ∷ new.tokens
-Takes old (Key s) new = old.tokens ≡ token.key (string_bytes s) ∷ new.tokens
-Takes old (Text s) new = old.tokens ≡ token.string (string_bytes s) ∷ new.tokens
-Takes old (Number n) new =
+-- the step is the first token of `old`, and `new` has the tokens after it. The step has the text of a key or a string
+-- if `keeps` is true. If the step is `End`, `old` and `new` have no tokens, and `new` has no bytes
+abbrev pub Takes : prelude.Bool → Remaining → Step → Remaining → Type 0
+Takes keeps old BeginObject new = old.tokens ≡ token.begin_object ∷ new.tokens
+Takes keeps old EndObject new = old.tokens ≡ token.end_object ∷ new.tokens
+Takes keeps old BeginArray new = old.tokens ≡ token.begin_array ∷ new.tokens
+Takes keeps old EndArray new = old.tokens ≡ token.end_array ∷ new.tokens
+Takes keeps old (Key s) new =
+    (text : List ℕ) × (old.tokens ≡ token.key text ∷ new.tokens) × (IsTrue keeps → text ≡ string_bytes s)
+Takes keeps old (Text s) new =
+    (text : List ℕ) × (old.tokens ≡ token.string text ∷ new.tokens) × (IsTrue keeps → text ≡ string_bytes s)
+Takes keeps old (Number n) new =
     (digits : List ℕ) × (old.tokens ≡ token.number digits ∷ new.tokens) × (number_of digits ≡ Some (number_view n))
-Takes old (Bool b) new = old.tokens ≡ token.boolean b ∷ new.tokens
-Takes old Null new = old.tokens ≡ token.null ∷ new.tokens
-Takes old End new = (old.tokens ≡ []) × (new.tokens ≡ []) × (new.bytes ≡ [])
+Takes keeps old (Bool b) new = old.tokens ≡ token.boolean b ∷ new.tokens
+Takes keeps old Null new = old.tokens ≡ token.null ∷ new.tokens
+Takes keeps old End new = (old.tokens ≡ []) × (new.tokens ≡ []) × (new.bytes ≡ [])
 
 abbrev pub grammar_state : State → grammar.Place
 grammar_state Fresh = grammar.fresh
@@ -54,8 +57,8 @@ abbrev pub remaining_from : List ℕ → Position → Remaining
 remaining_from text position = record { tokens = tokens_from text position; bytes = drop position.at text }
 
 -- the step moves from one position of a text to another
-abbrev pub IsStep : List ℕ → Position → Step → Position → Type 0
-IsStep text position step after = Takes (remaining_from text position) step (remaining_from text after)
+abbrev pub IsStep : prelude.Bool → List ℕ → Position → Step → Position → Type 0
+IsStep keeps text position step after = Takes keeps (remaining_from text position) step (remaining_from text after)
 
 -- an opening bracket is allowed at `position`, and `after` is the position after its one byte
 abbrev pub Opens : Position → Position → Type 0

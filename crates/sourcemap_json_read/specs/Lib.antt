@@ -3,3 +3,4 @@ pub mod Cursor
 pub mod Runs
 pub mod Strings
 pub mod Values
+pub mod Kept

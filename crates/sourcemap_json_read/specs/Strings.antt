@@ -1,5 +1,5 @@
 -- Parts of JSON strings, and the bytes that they decode to.
-use Rattle.std.specs.Prelude.{◌≡◌, ℕ, ◌+◌, ◌<◌, List, ◌++◌, drop, get_or, Some}
+use Rattle.std.specs.Prelude.{◌≡◌, ℕ, ◌+◌, ◌<◌, List, ◌++◌, drop, get_or, Bool, IsTrue, Some}
 use Rattle.std.specs.Str.{IsUtf8}
 use Rattle.json.specs.Ascii as ascii
 use Rattle.json.specs.Text.{code_unit, content, plain, prepend, short_escape}
@@ -8,6 +8,11 @@ use Rattle.json.specs.Lex.{lex, in_string}
 -- If the text from `at` on is UTF-8, so is the text from `from` on.
 abbrev pub IsUtf8UpTo : List ℕ → ℕ → ℕ → Type 0
 IsUtf8UpTo text from at = IsUtf8 (drop at text) → IsUtf8 (drop from text)
+
+-- The rest of a string decodes to `found`, if `keeps` is true. If not, it decodes to some bytes.
+abbrev pub DecodesTo : Bool → List ℕ → List ℕ → Type 0
+DecodesTo keeps rest found =
+    (decoded : List ℕ) × (content plain rest ≡ Some decoded) × (IsTrue keeps → decoded ≡ found)
 
 -- `before` and `after` begin within a string. Each is decoded up to the closing quote: `before` gives `decoded`,
 -- followed by the bytes that `after` gives; or both are invalid. The tokens, commas and colons after the closing quote

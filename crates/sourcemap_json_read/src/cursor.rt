@@ -1,7 +1,7 @@
 //! A cursor over the tokens of a JSON text. It returns each string decoded, as a `String`. It
 //! supports the tokens that source maps are written with, and stops with `Unsupported` at any other
 //! token. It does not check that the tokens make a value: for `[}` it returns both brackets.
-ghost use Rattle.std.specs.Prelude.{◌≡◌, ◌<◌, ◌+◌, ◌^◌, IfOk, drop, length};
+ghost use Rattle.std.specs.Prelude.{◌≡◌, ◌<◌, ◌+◌, ◌^◌, Bool, IfOk, drop, length};
 ghost use Rattle.std.specs.Str.{IsUtf8};
 ghost use Rattle.json.specs.Ascii.{quote};
 ghost use Rattle.json.specs.Lex.{may_begin, may_close, tokens};
@@ -110,13 +110,14 @@ impl<'a> Cursor<'a> {
         })
     }
 
-    /// Reads the next token, and moves the cursor after it.
-    pub(crate) fn next(&mut self, alloc: Global) -> Result<Step, Stop>
-        ensures takes { IfOk result (λ step. Takes self.old step self.new) }
+    /// Reads the next token, and moves the cursor after it. If `keeps` is false, the text of a key
+    /// or a string is only checked, and the step has an empty text.
+    pub(crate) fn next(&mut self, alloc: Global, keeps: bool) -> Result<Step, Stop>
+        ensures takes { IfOk result (λ step. Takes keeps self.old step self.new) }
         ensures utf8 { IfOk result (λ _. IsUtf8 self.new.bytes → IsUtf8 self.old.bytes) }
     {
         let position = skip_comma(self.text, self.position);
-        let (step, after) = read_step(alloc, self.text, position, &mut self.scratch)?;
+        let (step, after) = read_step(alloc, self.text, position, &mut self.scratch, keeps)?;
         // Assigns each field separately. To assign the whole `Position` takes longer, because this
         // also copies its padding.
         self.position.at = after.at;
@@ -167,12 +168,13 @@ fn read_step(
     text: &[u8],
     position: Position,
     scratch: &mut Vec<u8>,
+    keeps: bool,
 ) -> Result<(Step, Position), Stop>
-    ensures is_step { IfOk result (λ taken. IsStep text.now position taken.0 taken.1) }
+    ensures is_step { IfOk result (λ taken. IsStep keeps text.now position taken.0 taken.1) }
     ensures utf8 { IfOk result (λ taken. IsUtf8UpTo text.now position.at taken.1.at) }
 {
     match byte_at(text, position.at) {
-        b'"' => read_string_step(alloc, text, position, scratch),
+        b'"' => read_string_step(alloc, text, position, scratch, keeps),
         b'{' => Ok((Step::BeginObject, after_open(position)?)),
         b'[' => Ok((Step::BeginArray, after_open(position)?)),
         b'}' => Ok((Step::EndObject, after_close(position)?)),
@@ -221,7 +223,7 @@ fn after_close(position: Position) -> Result<Position, Stop>
 // `Unsupported`.
 #[inline(always)]
 fn read_end_step(text: &[u8], position: Position) -> Result<(Step, Position), Stop>
-    ensures is_step { IfOk result (λ taken. IsStep text.now position taken.0 taken.1) }
+    ensures is_step { IfOk result (λ taken. (keeps : Bool) → IsStep keeps text.now position taken.0 taken.1) }
     ensures utf8 { IfOk result (λ taken. IsUtf8UpTo text.now position.at taken.1.at) }
 {
     if position.at >= text.len() && position.state.may_close() {
@@ -237,15 +239,16 @@ fn read_string_step(
     text: &[u8],
     position: Position,
     scratch: &mut Vec<u8>,
+    keeps: bool,
 ) -> Result<(Step, Position), Stop>
     requires { head (drop position.at text.now) ≡ quote }
-    ensures is_step { IfOk result (λ taken. IsStep text.now position taken.0 taken.1) }
+    ensures is_step { IfOk result (λ taken. IsStep keeps text.now position taken.0 taken.1) }
     ensures utf8 { IfOk result (λ taken. IsUtf8UpTo text.now position.at taken.1.at) }
 {
     if !position.state.may_begin() {
         return Err(Stop::Unsupported);
     }
-    let (found, end) = read_string(alloc, text, position.at + 1, scratch)?;
+    let (found, end) = read_string(alloc, text, position.at + 1, scratch, keeps)?;
     let at = skip_space(text, end);
     if byte_at(text, at) == b':' {
         let after = Position {
@@ -279,7 +282,7 @@ fn after_word(text: &[u8], position: Position, word: &[u8]) -> Result<Position, 
 
 #[inline(always)]
 fn read_number_step(text: &[u8], position: Position) -> Result<(Step, Position), Stop>
-    ensures is_step { IfOk result (λ taken. IsStep text.now position taken.0 taken.1) }
+    ensures is_step { IfOk result (λ taken. (keeps : Bool) → IsStep keeps text.now position taken.0 taken.1) }
     ensures utf8 { IfOk result (λ taken. IsUtf8UpTo text.now position.at taken.1.at) }
 {
     if !position.state.may_begin() {

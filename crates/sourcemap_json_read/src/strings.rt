@@ -1,9 +1,9 @@
 //! One JSON string, decoded to a `String`.
-ghost use Rattle.std.specs.Prelude.{◌≡◌, ◌+◌, ◌^◌, ◌<◌, ◌≤◌, length, take, drop, Some, IfOk, IfSome, string_bytes};
+ghost use Rattle.std.specs.Prelude.{◌≡◌, ◌+◌, ◌^◌, ◌<◌, ◌≤◌, length, take, drop, Some, IsTrue, IfOk, IfSome, string_bytes};
 ghost use Rattle.std.specs.Str.{IsUtf8};
 ghost use Rattle.json.specs.Text.{content, plain};
 ghost use Rattle.json.specs.Lex.{lex, in_string, between};
-ghost use Rattle.sourcemap_json_read.specs.Strings.{IsReadUpTo, IsUtf8UpTo, IsDecodedBetween};
+ghost use Rattle.sourcemap_json_read.specs.Strings.{DecodesTo, IsReadUpTo, IsUtf8UpTo, IsDecodedBetween};
 
 use crate::blocks::ZEROS;
 use crate::bytes::byte_at;
@@ -16,18 +16,20 @@ use std::alloc::{AllocError, Global};
 use std::str::from_utf8_unchecked;
 
 /// Decodes the string whose first byte after the opening quote is at `start`. Also returns the
-/// index after the closing quote. A string with escapes or characters past ASCII is first decoded
-/// into `scratch`, over the old bytes of `scratch`. The error is `Unsupported` if the string is
-/// invalid, or if the decoded bytes are not UTF-8. Any other error is out of memory.
+/// index after the closing quote. If `keeps` is false, the string is only checked, and what is
+/// returned of it is empty. A string with escapes or characters past ASCII is first decoded into
+/// `scratch`, over the old bytes of `scratch`. The error is `Unsupported` if the string is invalid,
+/// or if the decoded bytes are not UTF-8. Any other error is out of memory.
 pub(crate) fn read_string(
     alloc: Global,
     text: &[u8],
     start: usize,
     scratch: &mut Vec<u8>,
+    keeps: bool,
 ) -> Result<(String, usize), Stop>
     requires { start ≤ length text.now }
     ensures content { IfOk result
-        (λ found. content plain (drop start text.now) ≡ Some (string_bytes found.0)) }
+        (λ found. DecodesTo keeps (drop start text.now) (string_bytes found.0)) }
     ensures after { IfOk result
         (λ found. lex in_string (drop start text.now) ≡ lex between (drop found.1 text.now)) }
     ensures utf8 { IfOk result (λ found. IsUtf8UpTo text.now start found.1) }
@@ -35,9 +37,21 @@ pub(crate) fn read_string(
     let run = bare_run(text, start);
     let stop = start + run.len();
     if byte_at(text, stop) == b'"' {
-        return Ok((String::from_str(alloc, run)?, stop + 1));
+        return Ok((kept_string(alloc, run, keeps)?, stop + 1));
     }
-    read_escaped(alloc, text, start, scratch)
+    read_escaped(alloc, text, start, scratch, keeps)
+}
+
+/// A copy of `text`, or an empty string if `keeps` is false.
+#[inline(always)]
+pub(crate) fn kept_string(alloc: Global, text: &str, keeps: bool) -> Result<String, AllocError>
+    ensures { IfOk result (λ found. IsTrue keeps → text.now ≡ string_bytes found) }
+{
+    if keeps {
+        String::from_str(alloc, text)
+    } else {
+        Ok(String::new(alloc))
+    }
 }
 
 /// Decodes a string with escapes or characters past ASCII. The error is `Unsupported` if the string
@@ -48,10 +62,11 @@ fn read_escaped(
     text: &[u8],
     start: usize,
     scratch: &mut Vec<u8>,
+    keeps: bool,
 ) -> Result<(String, usize), Stop>
     requires { start ≤ length text.now }
     ensures content { IfOk result
-        (λ found. content plain (drop start text.now) ≡ Some (string_bytes found.0)) }
+        (λ found. DecodesTo keeps (drop start text.now) (string_bytes found.0)) }
     ensures after { IfOk result
         (λ found. lex in_string (drop start text.now) ≡ lex between (drop found.1 text.now)) }
     ensures utf8 { IfOk result (λ found. IsUtf8UpTo text.now start found.1) }
@@ -60,7 +75,7 @@ fn read_escaped(
     let Ok(decoded) = from_utf8(&scratch[..len]) else {
         return Err(Stop::Unsupported);
     };
-    Ok((String::from_str(alloc, decoded)?, end))
+    Ok((kept_string(alloc, decoded, keeps)?, end))
 }
 
 /// Decodes the string whose first byte after the opening quote is at `start`. Stores the decoded

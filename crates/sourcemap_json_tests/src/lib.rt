@@ -1,5 +1,5 @@
 //! Tests of junk headers, data URLs, records, references and the detection of source maps. The
-//! tests call the public functions of `sourcemap_json`.
+//! tests call the public functions of `sourcemap_json`, and `read_record` of `sourcemap_records`.
 #![tactic(auto)]
 
 #[cfg(test)]
@@ -12,3 +12,5 @@ mod headers;
 mod records;
 #[cfg(test)]
 mod references;
+#[cfg(test)]
+mod unknown_keys;

@@ -1,11 +1,13 @@
 // The value that a reader returns, as compact JSON. If the reader refuses the text, the result is
 // `none`. The only error is out of memory.
-use serde_json::{Category, Result, Value};
-use sourcemap_json_read::values::value_from_slice;
+use crate::letters::Letters;
+use serde_json::{Category, Error, Result, Value};
+use sourcemap_json_read::kept::{ReadError, kept_from_slice};
 use sourcemap_test_support::checks::{Checked, check};
-use std::alloc::Global;
+use std::alloc::{AllocError, Global};
 
-fn compact_text(alloc: Global, answer: Result<Value>) -> Result<String> {
+/// The value as compact JSON, or `none` instead of an error that is not out of memory.
+pub fn compact_text(alloc: Global, answer: Result<Value>) -> Result<String> {
     match answer {
         Ok(value) => Ok(value.to_string(alloc)?),
         Err(error) if error.classify() == Category::Memory => Err(error),
@@ -13,9 +15,19 @@ fn compact_text(alloc: Global, answer: Result<Value>) -> Result<String> {
     }
 }
 
+/// What `sourcemap_json_read` keeps at this level of the value of these bytes, as compact JSON, or
+/// `none`.
+pub fn kept_answer(alloc: Global, bytes: &[u8], level: Letters) -> Result<String> {
+    match kept_from_slice(alloc, bytes, level) {
+        Ok(value) => Ok(value.to_string(alloc)?),
+        Err(ReadError::OutOfMemory) => Err(Error::from(AllocError)),
+        Err(ReadError::Invalid) => Ok(String::from_str(alloc, "none")?),
+    }
+}
+
 /// What `sourcemap_json_read` reads from these bytes, as compact JSON, or `none`.
 pub fn answer(alloc: Global, bytes: &[u8]) -> Result<String> {
-    compact_text(alloc, value_from_slice(alloc, bytes))
+    kept_answer(alloc, bytes, Letters::Whole)
 }
 
 /// What the kit's `serde_json` reads from these bytes, as compact JSON, or `none`.

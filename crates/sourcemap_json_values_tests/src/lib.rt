@@ -9,6 +9,9 @@ mod blocks;
 #[cfg(test)]
 mod bytes;
 #[cfg(test)]
+mod kept;
+mod letters;
+#[cfg(test)]
 mod long_strings;
 #[cfg(test)]
 mod mutations;

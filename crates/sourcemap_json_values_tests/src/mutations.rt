@@ -1,6 +1,8 @@
 // JSON texts in which up to two bytes are overwritten. `sourcemap_json_read` and the kit's
-// `serde_json` must read each such text as the same value, or both must refuse the text.
+// `serde_json` must read each such text as the same value, or both must refuse the text. The same
+// must be kept of it.
 use crate::answers::{answer, kit_answer};
+use crate::kept::{copied_text, kept_text};
 use serde_json::Result;
 use sourcemap_test_support::checks::{Checked, check};
 use std::alloc::Global;
@@ -44,6 +46,8 @@ fn changed_texts_are_read_as_the_kit_reads_them(rt: HostRuntime) -> Checked {
             let want = kit_answer(rt.alloc(), bytes.as_slice())?;
             let got = answer(rt.alloc(), bytes.as_slice());
             check(text, got, want.as_str())?;
+            let want = copied_text(rt.alloc(), bytes.as_slice())?;
+            check(text, kept_text(rt.alloc(), bytes.as_slice()), want.as_str())?;
         }
     }
     Ok(())

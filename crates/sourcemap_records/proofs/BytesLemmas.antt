@@ -18,7 +18,7 @@ use Rattle.sourcemap_records.specs.Bytes.{IsJson, HoldJson, IsHeaderError, HoldN
 
 -- Bytes have at most one JSON value and at most one error, but never a value and an error.
 
-json_once : (bytes : List ℕ) (d e : Data) → HoldJson bytes d → HoldJson bytes e → d ≡ e
+pub json_once : (bytes : List ℕ) (d e : Data) → HoldJson bytes d → HoldJson bytes e → d ≡ e
 json_once bytes d e p q = let same : p.0 ≡ q.0 = cc in let again : read p.0 ≡ Some e = rw same q.2.1 in cc
 
 json_or_none : (found : Option (List ℕ)) (d : Data) (e : Error)

@@ -4,5 +4,6 @@ mod DetectionLemmas
 pub mod FieldLemmas
 pub mod FromJsonLemmas
 pub mod JsontypesLemmas
+mod KeptLemmas
 pub mod KeysLemmas
 pub mod ReadBackLemmas

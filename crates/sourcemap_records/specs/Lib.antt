@@ -3,3 +3,4 @@ pub mod Detection
 pub mod Field
 pub mod Jsontypes
 pub mod Keys
+pub mod Levels

@@ -5,8 +5,9 @@ ghost use Rattle.serde_json.specs.View.{view};
 ghost use Rattle.sourcemap_errors.specs.declared.errors.Error.TheVariants.{OutOfMemory};
 ghost use Rattle.sourcemap_records.specs.Detection.{AreMap, has_map_keys, is_map};
 
-use crate::bytes::{read_all, read_json};
+use crate::bytes::{read_all, read_kept};
 use crate::jsontypes::MinimalRawSourceMap;
+use crate::levels::RecordLevel;
 use serde_json::Value;
 use sourcemap_errors::errors::{Error, Result};
 use std::alloc::Global;
@@ -53,7 +54,7 @@ pub fn is_sourcemap_slice(alloc: Global, bytes: &[u8]) -> Result<bool>
     ensures answer { IfOk result (λ is. IsTrue is ↔ AreMap bytes.now) }
     ensures err { IsOkUnless result OutOfMemory }
 {
-    match read_json(alloc, bytes) {
+    match read_kept(alloc, bytes, RecordLevel::Minimal) {
         Ok(value) => Ok(value_is_map(&value)),
         Err(error) => false_unless_memory(error),
     }

@@ -2,10 +2,12 @@
 use crate::copy::copy_map;
 use crate::field::{Field, has, number_at};
 use crate::from_json::read_map;
+use crate::levels::RecordLevel;
 use crate::to_json::write_map;
 use serde_json::Value;
 use sourcemap_errors::errors::{Error, JsonFault, Result};
 pub use sourcemap_headers::debug_id::DebugId;
+use sourcemap_json_read::kept::kept_copy;
 use std::alloc::Global;
 
 /// The generated position at which a section of an index map starts. Lines and columns count from
@@ -162,11 +164,13 @@ impl RawSourceMap {
     /// Returns the same error if a key has a value of the wrong type or an invalid debug id. A
     /// number must be a `u32`, except as `file` or as an item of the record's `names`: these may be
     /// any JSON value. A section without `offset`, an offset without `line` or `column`, and scopes
-    /// without `names` or `mappings` give this error too. Any other error is `OutOfMemory`.
+    /// without `names` or `mappings` give this error too. Any other error is `OutOfMemory`. Values
+    /// at unknown keys are not copied.
     pub fn from_value(alloc: Global, value: &Value) -> Result<RawSourceMap>
         ensures { Gives tree result (due (record_of (view value.now))) }
     {
-        RawSourceMap::from_owned(alloc, value.clone()?)
+        let kept = kept_copy(alloc, value, RecordLevel::Record)?;
+        RawSourceMap::from_owned(alloc, kept)
     }
 
     /// Returns what `from_value` returns, but consumes the value and moves its strings.

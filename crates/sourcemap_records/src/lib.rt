@@ -11,4 +11,5 @@ mod field_types;
 mod from_json;
 pub mod jsontypes;
 mod keys;
+mod levels;
 mod to_json;

@@ -12,4 +12,4 @@ returns-then-may_close-clause-is_step c =
     let may : may_close (grammar_state position.state) ≡ true = cc in
     let none : tokens_from d position ≡ [] =
     ends (grammar_state position.state) (drop position.at d) (drop_all position.at d (omega arith)) may in
-    (none, none, drop_all position.at d (omega arith))
+    λ keeps. (none, none, drop_all position.at d (omega arith))

@@ -13,7 +13,7 @@ use Rattle.std.proofs.lemmas.Str.{IsUtf8-from_ascii}
 use Rattle.sourcemap_json_read.proofs.cursor.read_number_step.Goals as goal
 
 pub returns-clause-is_step : goal.returns-clause-is_step
-returns-clause-is_step c =
+returns-clause-is_step c = λ keeps.
     let n = c.in_ok-value.value in
     let fits : n < 2 ^ 64 = omega arith in
     let may : may_begin (grammar_state c.args.position.state) ≡ true = cc in (

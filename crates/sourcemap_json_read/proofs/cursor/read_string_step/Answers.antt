@@ -12,13 +12,14 @@ pub returns-then-byte_at-eq58-clause-is_step : goal.returns-then-byte_at-eq58-cl
 returns-then-byte_at-eq58-clause-is_step c =
     let d = c.args.text.now in
     let position = c.args.position in
-    let is : IsStringAt d position _ c.skip_space-at.result = record {
+    let decoded = c.in_ok-found.ensures.content in
+    let is : IsStringAt d position decoded.0 c.skip_space-at.result = record {
       opens = c.requires;
       may = cc;
-      found = c.in_ok-found.ensures.content;
+      found = decoded.1;
       after = c.skip_space-at.ensures.same ∙ sym c.in_ok-found.ensures.after;
     } in
-    key_at d position _ c.skip_space-at.result is (grind arith)
+    (decoded.0, key_at d position decoded.0 c.skip_space-at.result is (grind arith), decoded.2)
 
 pub returns-then-byte_at-eq58-clause-utf8 : goal.returns-then-byte_at-eq58-clause-utf8
 returns-then-byte_at-eq58-clause-utf8 c =
@@ -34,13 +35,17 @@ pub returns-clause-is_step : goal.returns-clause-is_step
 returns-clause-is_step c =
     let d = c.args.text.now in
     let position = c.args.position in
-    let is : IsStringAt d position _ c.skip_space-at.result = record {
+    let decoded = c.in_ok-found.ensures.content in
+    let is : IsStringAt d position decoded.0 c.skip_space-at.result = record {
       opens = c.requires;
       may = cc;
-      found = c.in_ok-found.ensures.content;
+      found = decoded.1;
       after = c.skip_space-at.ensures.same ∙ sym c.in_ok-found.ensures.after;
-    } in
-    string_at d position _ c.skip_space-at.result is c.skip_space-at.ensures.passed (grind arith)
+    } in (
+      decoded.0,
+      string_at d position decoded.0 c.skip_space-at.result is c.skip_space-at.ensures.passed (grind arith),
+      decoded.2,
+    )
 
 pub returns-clause-utf8 : goal.returns-clause-utf8
 returns-clause-utf8 c =

@@ -1,5 +1,4 @@
-use Rattle.std.proofs.Common.{◌≡◌, ◌+◌, length, get_or, Some, string_bytes, sym, rules, arith, ap, ◌∙◌}
-use Rattle.std.proofs.lemmas.Grind.{common_steps}
+use Rattle.std.proofs.Common.{◌≡◌, ◌+◌, length, get_or}
 use Rattle.sourcemap_json_read.proofs.StringLemmas.{quote_ends}
 use Rattle.sourcemap_json_read.proofs.Utf8Lemmas.{utf8_on}
 use Rattle.sourcemap_json_read.proofs.strings.read_string.Goals as goal
@@ -9,10 +8,11 @@ returns-then-byte_at-eq34-clause-content c =
     let text = c.args.text.now in
     let run = c.bare_run-run in
     let end = c.args.start + length run.result.now in
-    let quoted : get_or text end 32 ≡ 34 = cc in
-    let owned : string_bytes c.in_ok-from_str.field-0 ≡ run.result.now =
-    first_of (search rules, grind (arith, common_steps)) in
-    (quote_ends text run.result.now c.args.start end run.ensures.decodes quoted).0 ∙ ap Some (sym owned)
+    let quoted : get_or text end 32 ≡ 34 = cc in (
+      run.result.now,
+      (quote_ends text run.result.now c.args.start end run.ensures.decodes quoted).0,
+      c.in_ok-kept_string.ensures,
+    )
 
 pub returns-then-byte_at-eq34-clause-after : goal.returns-then-byte_at-eq34-clause-after
 returns-then-byte_at-eq34-clause-after c =

@@ -1,12 +1,13 @@
--- The record of the bytes is the record of their JSON value.
+-- The record of the bytes is read from what is kept of their JSON value.
 use Rattle.std.proofs.lemmas.Result.{err_from_is_err_and}
 use Rattle.serde_json.specs.View.{view}
 use Rattle.sourcemap_records.specs.Jsontypes.{tree}
-use Rattle.sourcemap_records.proofs.BytesLemmas.{record_of_json, no_json}
+use Rattle.sourcemap_records.proofs.BytesLemmas.{no_json}
+use Rattle.sourcemap_records.proofs.KeptLemmas.{record_of_kept}
 use Rattle.sourcemap_records.proofs.bytes.read_record_owned.Goals as goal
 
 pub returns : goal.returns
-returns c = record_of_json c.args.bytes.items (view c.in_ok-value.value) c.in_ok-value.ensures tree c.from_owned.result
+returns c = record_of_kept tree c.from_owned.result c.args.bytes.items (view c.in_ok-value.value) c.in_ok-value.ensures
     c.from_owned.ensures
 
 pub returns-in_err-value : goal.returns-in_err-value

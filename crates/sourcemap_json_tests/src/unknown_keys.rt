@@ -1,0 +1,235 @@
+// Records and detection of texts with keys that no record reads. Their values are checked as JSON,
+// and nothing else is done with them.
+use serde_json::Value;
+use sourcemap_errors::errors::{Error, JsonFault, Result};
+use sourcemap_json::detector::is_sourcemap_slice;
+use sourcemap_json::jsontypes::RawSourceMap;
+use sourcemap_records::bytes::read_record;
+use sourcemap_test_support::checks::{Checked, check, check_that};
+use std::alloc::Global;
+
+// A label, a text, and what its record is written as.
+static READ: [(&str, &str, &str); 11] = [
+    (
+        "each kind of JSON value",
+        concat!(
+            r#"{"a":null,"b":true,"c":false,"d":1,"e":-1,"f":1.5,"g":-0.0e+2,"#,
+            r#""h":18446744073709551616,"i":"\"}\ud83d\ude00","j":[],"k":{},"version":3}"#,
+        ),
+        r#"{"sources":null,"version":3}"#,
+    ),
+    (
+        "nested values, with brackets in strings",
+        r#" { "x" : { "y" : [ { "z" : [ 1 , "]}" , { } ] } , [ [ ] ] ] } , "mappings" : "A" } "#,
+        r#"{"mappings":"A","sources":null,"version":null}"#,
+    ),
+    (
+        "known keys inside unknown ones",
+        r#"{"x":{"version":3,"mappings":"A","sections":[]},"y":[{"sources":["a"],"file":"f"}]}"#,
+        r#"{"sources":null,"version":null}"#,
+    ),
+    (
+        "keys that come twice: the last value counts",
+        r#"{"x":1,"version":1,"x":{"version":2},"mappings":"A","version":3,"mappings":"B","x":[]}"#,
+        r#"{"mappings":"B","sources":null,"version":3}"#,
+    ),
+    (
+        "a value of a wrong type before the last",
+        r#"{"version":{"version":1},"sources":[{"x":"a"}],"sources":["b"],"version":3}"#,
+        r#"{"sources":["b"],"version":3}"#,
+    ),
+    (
+        "a null after a value",
+        r#"{"mappings":"A","x":"","mappings":null}"#,
+        r#"{"sources":null,"version":null}"#,
+    ),
+    (
+        "escapes in keys",
+        r#"{"m\u0061ppings":"A","versio\u006e":3,"\u0078":{"\\":"\""},"version\u0000":4}"#,
+        r#"{"mappings":"A","sources":null,"version":3}"#,
+    ),
+    (
+        "parts of known keys",
+        r#"{"versio":1,"versions":2,"Version":3,"":4,"sourcesContents":[5],"debugID":"6"}"#,
+        r#"{"sources":null,"version":null}"#,
+    ),
+    (
+        "a section, its offset and its map",
+        concat!(
+            r#"{"sections":[{"x":{"map":1},"offset":{"line":1,"x":[{}],"column":2},"version":9,"#,
+            r#""map":{"x":{"sections":[{}]},"version":3,"mappings":"A","offset":0}}]}"#,
+        ),
+        concat!(
+            r#"{"sections":[{"map":{"mappings":"A","sources":null,"version":3},"#,
+            r#""offset":{"column":2,"line":1},"url":null}],"sources":null,"version":null}"#,
+        ),
+    ),
+    (
+        "scopes",
+        r#"{"x_facebook_sources":[[{"x":{"names":1},"names":["f"],"mappings":"AAA","version":{}}]]}"#,
+        r#"{"sources":null,"version":null,"x_facebook_sources":[[{"mappings":"AAA","names":["f"]}]]}"#,
+    ),
+    (
+        "file and names are kept whole",
+        r#"{"file":{"x":[{"y":1}],"":null},"names":[{"b":{"a":[{"x":"c"}]}}]}"#,
+        concat!(
+            r#"{"file":{"":null,"x":[{"y":1}]},"names":[{"b":{"a":[{"x":"c"}]}}],"#,
+            r#""sources":null,"version":null}"#,
+        ),
+    ),
+];
+
+fn written(alloc: Global, record: RawSourceMap) -> Result<String> {
+    Ok(record.into_value(alloc)?.to_string(alloc)?)
+}
+
+fn read_bytes(alloc: Global, bytes: &[u8]) -> Result<String> {
+    written(alloc, read_record(alloc, bytes)?)
+}
+
+fn read_value(alloc: Global, text: &str) -> Result<String> {
+    let value = Value::from_str(alloc, text)?;
+    written(alloc, RawSourceMap::from_value(alloc, &value)?)
+}
+
+#[test]
+fn unknown_keys_are_ignored(rt: HostRuntime) -> Checked {
+    for (about, text, want) in READ.iter() {
+        check(about, read_bytes(rt.alloc(), text.as_bytes()), want)?;
+        check(about, read_value(rt.alloc(), text), want)?;
+    }
+    Ok(())
+}
+
+// The text of the key `x` in an object that would be a map.
+fn with_key(alloc: Global, x: &[u8]) -> Result<Vec<u8>> {
+    let mut text = Vec::new(alloc);
+    text.extend_from_slice(br#"{"sections":[],"x":"#)?;
+    text.extend_from_slice(x)?;
+    text.extend_from_slice(b"}")?;
+    Ok(text)
+}
+
+// What reading and detecting say of bytes.
+fn answers(alloc: Global, bytes: &[u8]) -> Result<String> {
+    let is_map = is_sourcemap_slice(alloc, bytes)?;
+    match read_record(alloc, bytes) {
+        Ok(_) => Ok(format!(in alloc; "record, {is_map}")?),
+        Err(Error::BadJson(JsonFault::Parse)) => Ok(format!(in alloc; "no JSON, {is_map}")?),
+        Err(Error::BadJson(JsonFault::Shape)) => Ok(format!(in alloc; "no record, {is_map}")?),
+        Err(error) => Err(error),
+    }
+}
+
+fn answers_with_key(alloc: Global, x: &[u8]) -> Result<String> {
+    let text = with_key(alloc, x)?;
+    answers(alloc, text.as_slice())
+}
+
+// A label, and a value of a key that nothing reads, which is not JSON.
+static FAULTY: [(&str, &[u8]); 20] = [
+    ("no value", b""),
+    ("a part of a word", b"tru"),
+    ("more than a word", b"nulll"),
+    ("a zero before a digit", b"01"),
+    ("a point without digits", b"1."),
+    ("a plus", b"+1"),
+    ("a number too large for a float", b"[1e400]"),
+    ("a comma at the end", b"[1,]"),
+    ("no comma", b"[1 2]"),
+    ("an array without end", b"["),
+    ("an end alone", b"]"),
+    ("a key alone", b"{\"a\"}"),
+    ("a key without a value", b"{\"a\":}"),
+    ("a comma after a member", b"{\"a\":1,}"),
+    ("a key without quotes", b"{a:1}"),
+    ("an escape that is none", b"\"\\x\""),
+    ("half of a pair", b"\"\\ud83d\""),
+    ("a line end in a string", b"\"\n\""),
+    ("a string that is not UTF-8", b"\"\xff\""),
+    ("a key that is not UTF-8", b"{\"\xc3(\":1}"),
+];
+
+#[test]
+fn unknown_keys_are_checked(rt: HostRuntime) -> Checked {
+    let got = answers_with_key(rt.alloc(), b"[{\"a\":1e308}]");
+    check("a value", got, "record, true")?;
+    for (about, x) in FAULTY.iter() {
+        check(about, answers_with_key(rt.alloc(), x), "no JSON, false")?;
+    }
+    Ok(())
+}
+
+// As many times `open` as there are levels, then a 0, then as many times `close`.
+fn nested(alloc: Global, open: &str, close: &str, levels: usize) -> Result<Vec<u8>> {
+    let mut text = Vec::new(alloc);
+    for _ in 0..levels {
+        text.extend_from_slice(open.as_bytes())?;
+    }
+    text.extend_from_slice(b"0")?;
+    for _ in 0..levels {
+        text.extend_from_slice(close.as_bytes())?;
+    }
+    Ok(text)
+}
+
+fn answers_nested(alloc: Global, open: &str, close: &str, levels: usize) -> Result<String> {
+    let x = nested(alloc, open, close, levels)?;
+    answers_with_key(alloc, x.as_slice())
+}
+
+// The object around the key is a level too.
+#[test]
+fn unknown_keys_nest_to_127_levels(rt: HostRuntime) -> Checked {
+    let alloc = rt.alloc();
+    for (open, close) in [("[", "]"), ("{\"\":", "}")] {
+        check(
+            open,
+            answers_nested(alloc, open, close, 126),
+            "record, true",
+        )?;
+        check(
+            open,
+            answers_nested(alloc, open, close, 127),
+            "no JSON, false",
+        )?;
+    }
+    Ok(())
+}
+
+// Texts with a value of a wrong type at a known key, and whether they are detected as maps.
+static WRONG_TYPES: [(&str, &str); 7] = [
+    (
+        r#"{"version":{"version":3},"sections":[]}"#,
+        "no record, false",
+    ),
+    (
+        r#"{"sources":[{"sources":"a"}],"sections":[]}"#,
+        "no record, true",
+    ),
+    (r#"{"mappings":{"x":"A"},"sections":[]}"#, "no record, true"),
+    (
+        r#"{"sections":{"offset":{"line":1,"column":2}}}"#,
+        "no record, true",
+    ),
+    (
+        r#"{"sections":[{"x":{"offset":{"line":1,"column":2}}}]}"#,
+        "no record, true",
+    ),
+    (
+        r#"{"sections":[{"offset":[{"line":1,"column":2}]}]}"#,
+        "no record, true",
+    ),
+    (
+        r#"{"x":{"version":3},"x_facebook_sources":[{"names":[],"mappings":""}]}"#,
+        "no record, false",
+    ),
+];
+
+#[test]
+fn wrong_types_are_refused(rt: HostRuntime) -> Checked {
+    for (text, want) in WRONG_TYPES.iter() {
+        check(text, answers(rt.alloc(), text.as_bytes()), want)?;
+    }
+    Ok(())
+}
