@@ -7,6 +7,7 @@ pub mod EncodeLemmas
 pub mod FamilyLemmas
 pub mod FlattenLemmas
 pub mod KindLemmas
+pub mod LeavesLemmas
 pub mod LookupLemmas
 pub mod ReadLemmas
 pub mod RowsLemmas

@@ -6,6 +6,7 @@ pub mod Equality
 pub mod Family
 pub mod Flatten
 pub mod Index
+pub mod Leaves
 pub mod Lookup
 pub mod Names
 pub mod Rows

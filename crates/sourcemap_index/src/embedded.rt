@@ -8,7 +8,7 @@ ghost use Rattle.sourcemap_index.specs.Embedded.{EmbeddedAnswer};
 use crate::decode::decode_data_url;
 use crate::family::DecodedMap;
 use sourcemap_errors::errors::Result;
-use sourcemap_references::detector::SourceMapRef;
+use sourcemap_references::detector::{SourceMapRef, is_data_url};
 use std::alloc::Global;
 
 /// A reference that may contain its map, as a data URL.
@@ -40,7 +40,7 @@ fn embedded_map(alloc: Global, url: &str) -> Result<Option<DecodedMap>>
     ensures answer { IsAnswer (option_map map_tree) (EmbeddedAnswer url.now) result }
     ensures well_formed { IfOk result (λ found. IfSome found (λ m. IsWellFormed (map_tree m))) }
 {
-    if !url.as_bytes().starts_with(b"data:") {
+    if !is_data_url(url) {
         return Ok(None);
     }
     match decode_data_url(alloc, url) {

@@ -9,12 +9,14 @@ ghost use Rattle.sourcemap_index_model.specs.MapTree.{index_tree, sections_from}
 ghost use Rattle.sourcemap_index_model.specs.WellFormed.{HasTokensInOrder, IsWellFormed};
 ghost use Rattle.sourcemap_index_flatten.specs.Gathering.{Gathers, RefusesFor};
 ghost use Rattle.sourcemap_index.specs.Family.{index_value, map_tree, section_value};
+ghost use Rattle.sourcemap_index.specs.Leaves.{AreAdded, HasComplete, IsComplete, leaves, section_leaves};
 ghost use Rattle.sourcemap_index.specs.Flatten.{AnswersLess, Gathered, IsSectionInOrder, IsFlatOf, MeansFlatLess, RewriteAnswer, SaysFlatLess, map_added, section_added};
 
 use crate::family::{DecodedMap, SourceMapIndex, SourceMapSection};
-use sourcemap_errors::errors::Result;
-use sourcemap_index_flatten::errors::unresolved_error;
+use sourcemap_errors::errors::{Error, Result};
+use sourcemap_index_flatten::errors::{past_the_end, unresolved_error};
 use sourcemap_index_flatten::gathering::{FlatMap, Gathering};
+use sourcemap_index_flatten::positions::absolute_position;
 use sourcemap_map_regular::map::SourceMap;
 use sourcemap_map_regular::rewrite::RewriteOptions;
 use std::alloc::Global;
@@ -50,8 +52,9 @@ impl SourceMapIndex {
 
     /// Flattens the index map as `flatten` does, and rewrites the flat map as `SourceMap::rewrite`
     /// does. With `load_local_source_contents`, contents that the rewritten map lacks are read from
-    /// files. A source is skipped if it resolves to no file path, or if its file cannot be read or
-    /// is not UTF-8. A very long source may also be skipped (see `RewriteOptions`).
+    /// files. A source is skipped if it resolves to no file path, or if its file is not a regular
+    /// file, cannot be read or is not UTF-8. A very long source may also be skipped (see
+    /// `RewriteOptions`).
     ///
     /// If `flatten` fails, its error is returned. Otherwise the error is `Io` of kind
     /// `InvalidInput` if `load_local_source_contents` is true but neither `base_path` nor
@@ -88,8 +91,26 @@ impl SourceMapIndex {
         flat.rewrite(rt, options)
     }
 
-    #[cycle(flatten)]
+    // The concatenation of all maps in the index map. One walk makes it. Where the walk meets an
+    // error, the levels are flattened one after the other, since the first error is that of the
+    // innermost level.
     fn gather_all(&self) -> Result<FlatMap<'_>>
+        ensures ok { IfOk result
+            (IsFlatOf (pieces_after [] (sections_from (index_value self.now).sections))) }
+        ensures in_order { IfOk result (λ _. HasTokensInOrder (index_tree (index_value self.now))) }
+        ensures refused { IfErr result
+            (RefusesFor (pieces_after [] (sections_from (index_value self.now).sections))) }
+    {
+        match self.gather_at_once() {
+            Ok(flat) => Ok(flat),
+            Err(Error::OutOfMemory) => Err(Error::OutOfMemory),
+            Err(_) => self.gather_by_level(),
+        }
+    }
+
+    // Adds the map of each section. If it is an index map, this is flattened first.
+    #[cycle(flatten)]
+    fn gather_by_level(&self) -> Result<FlatMap<'_>>
         ensures ok { IfOk result
             (IsFlatOf (pieces_after [] (sections_from (index_value self.now).sections))) }
         ensures in_order { IfOk result (λ _. HasTokensInOrder (index_tree (index_value self.now))) }
@@ -101,6 +122,32 @@ impl SourceMapIndex {
             section.gather(&mut gathering)?;
         }
         gathering.finish()
+    }
+
+    // Adds each regular map and each Hermes map in the index map, at every level, directly to one
+    // concatenation. An error other than `OutOfMemory` need not be the error of `flatten`.
+    fn gather_at_once(&self) -> Result<FlatMap<'_>>
+        ensures ok { IfOk result
+            (IsFlatOf (pieces_after [] (sections_from (index_value self.now).sections))) }
+        ensures in_order { IfOk result (λ _. HasTokensInOrder (index_tree (index_value self.now))) }
+    {
+        let mut gathering = Gathering::with_capacity(self.alloc, self.token_capacity())?;
+        self.gather_leaves(&mut gathering, 0, 0)?;
+        gathering.finish()
+    }
+
+    // Adds the regular maps and the Hermes maps of the index map, which starts at `line` and `col`.
+    #[cycle(leaves)]
+    fn gather_leaves<'a>(&'a self, gathering: &mut Gathering<'a>, line: u32, col: u32) -> Result<()>
+        ensures ok { (before : List Piece) → Gathers before gathering.old
+            → OnOk result (AreAdded before (line, col)
+            (leaves (index_tree (index_value self.now))) gathering.new) }
+        ensures complete { OnOk result (IsComplete (index_tree (index_value self.now))) }
+    {
+        for section in &self.sections {
+            section.gather_leaves(gathering, line, col)?;
+        }
+        Ok(())
     }
 
     // The number of tokens in the maps of all sections, without those in nested index maps. It is
@@ -130,6 +177,25 @@ impl SourceMapSection {
         match &self.map {
             None => Err(unresolved_error(alloc, self.get_url())),
             Some(map) => map.gather(gathering, alloc, line, col),
+        }
+    }
+
+    // Adds the maps of the section as `SourceMapIndex::gather_leaves` does. The index map of the
+    // section starts at `line` and `col`.
+    #[cycle(leaves)]
+    fn gather_leaves<'a>(&'a self, gathering: &mut Gathering<'a>, line: u32, col: u32) -> Result<()>
+        ensures ok { (before : List Piece) → Gathers before gathering.old
+            → OnOk result (AreAdded before (line, col)
+            (section_leaves (section_value self.now)) gathering.new) }
+        ensures complete { OnOk result (HasComplete (section_value self.now).map) }
+    {
+        let alloc = self.alloc;
+        match &self.map {
+            None => Err(unresolved_error(alloc, self.get_url())),
+            Some(map) => match absolute_position(line, col, self.offset) {
+                None => Err(past_the_end(alloc)),
+                Some((line, col)) => map.gather_leaves(gathering, alloc, line, col),
+            },
         }
     }
 }
@@ -166,9 +232,29 @@ impl DecodedMap {
             DecodedMap::Regular(map) => gathering.add(alloc, line, col, &map.lists()),
             DecodedMap::Hermes(map) => gathering.add(alloc, line, col, &map.lists()),
             DecodedMap::Index(index) => {
-                let flat = index.gather_all()?;
+                let flat = index.gather_by_level()?;
                 gathering.add_flat(alloc, line, col, &flat)
             }
+        }
+    }
+
+    // Adds the map, or the maps in it if it is an index map. It starts at `line` and `col`.
+    #[cycle(leaves)]
+    fn gather_leaves<'a>(
+        &'a self,
+        gathering: &mut Gathering<'a>,
+        alloc: Global,
+        line: u32,
+        col: u32,
+    ) -> Result<()>
+        ensures ok { (before : List Piece) → Gathers before gathering.old
+            → OnOk result (AreAdded before (line, col) (leaves (map_tree self.now)) gathering.new) }
+        ensures complete { OnOk result (IsComplete (map_tree self.now)) }
+    {
+        match self {
+            DecodedMap::Regular(map) => gathering.add(alloc, line, col, &map.lists()),
+            DecodedMap::Hermes(map) => gathering.add(alloc, line, col, &map.lists()),
+            DecodedMap::Index(index) => index.gather_leaves(gathering, line, col),
         }
     }
 }

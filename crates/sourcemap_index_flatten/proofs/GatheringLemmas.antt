@@ -14,7 +14,7 @@ use Rattle.sourcemap_tokens.specs.Tokens.{destination}
 use Rattle.sourcemap_tokens.specs.declared.tokens.RawToken.{RawToken}
 use Rattle.sourcemap_map_conversions.specs.FromRecord.{rising}
 use Rattle.sourcemap_map_rewrite.specs.Kept.{kept_once, number_in}
-use Rattle.sourcemap_map_rewrite.specs.Numbering.{IsListedIfAny}
+use Rattle.sourcemap_map_rewrite.proofs.NumberingLemmas.{IsListedIfAny}
 use Rattle.sourcemap_tokens.proofs.AllLemmas.{All-at}
 use Rattle.sourcemap_map_regular.specs.Map.{MapValue, resolved_sources, source_of, name_of, contents_of}
 use Rattle.sourcemap_index_model.specs.Flat.{Piece, sources_in, names_in, source_entries, token_in, ignored_in, passes_the_end, with_piece}

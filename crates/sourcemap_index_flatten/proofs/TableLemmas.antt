@@ -12,9 +12,9 @@ use Rattle.sourcemap_interning.specs.Interner.{id_of, with_text, AreDistinct}
 use Rattle.sourcemap_tokens.specs.Search.{find_last}
 use Rattle.sourcemap_interning.proofs.InternerLemmas.{id_of-last, slice_get-id_of}
 use Rattle.sourcemap_map_rewrite.specs.Kept.{kept_once, number_in}
-use Rattle.sourcemap_map_rewrite.specs.Numbering.{IsListedIfAny}
 use Rattle.sourcemap_interning.proofs.ItemLemmas.{slice_get-set_same, slice_get-set_other}
-use Rattle.sourcemap_map_rewrite.proofs.NumberingLemmas.{option_or-None, id_of-fold, id_of-added, distinct-kept_once}
+use Rattle.sourcemap_map_rewrite.proofs.NumberingLemmas.{IsListedIfAny, option_or-None, id_of-fold, id_of-added}
+use Rattle.sourcemap_map_rewrite.proofs.NumberingLemmas.{distinct-kept_once}
 use Rattle.sourcemap_index_flatten.specs.Table.{TextEntry, texts_entered, contents_entered, entries_kept, numbers_among, are_too_many, with_entry, entry_value, entry_values, IsTable, IsEntered, AreEntered}
 use Rattle.sourcemap_index_flatten.specs.declared.table.Entry.{Entry}
 use Rattle.sourcemap_index_flatten.specs.declared.table.Table.{Table}
@@ -77,7 +77,7 @@ length-with_text texts text = by_case (id_of text texts) refl
     by_case None e = rw e (let more = length_push texts text in omega arith)
     by_case (Some n) e = rw e (omega arith)
 
-length-fold : (texts us : List (List ℕ)) → length texts ≤ length (fold with_text texts us)
+pub length-fold : (texts us : List (List ℕ)) → length texts ≤ length (fold with_text texts us)
 length-fold texts [] = omega arith
 length-fold texts (u ∷ us) =
     let here = length-with_text texts u in
@@ -130,7 +130,7 @@ and_false true = refl
 and_false false = refl
 
 -- a text that was not entered has no contents
-contents-none : (all : List TextEntry) (text : List ℕ) → id_of text (texts_entered all) ≡ None
+pub contents-none : (all : List TextEntry) (text : List ℕ) → id_of text (texts_entered all) ≡ None
     → (entered : List TextEntry) → AllByRecursion (IsAmong all) entered → contents_entered entered text ≡ None
 contents-none all text new entered among = ap (option_and_then (λ (e : TextEntry). e.1)) (none entered among)
   where

@@ -7,6 +7,7 @@ use Rattle.sourcemap_errors.specs.Answer.{UnlessMemory}
 use Rattle.sourcemap_map_conversions.specs.FromRecord.{rising}
 use Rattle.sourcemap_map_regular.specs.Map.{MapValue}
 use Rattle.sourcemap_index_model.specs.Flat.{Piece, source_entries, token_in, ignored_in, with_piece}
+use Rattle.sourcemap_index_model.specs.FlatList.{absolute_position}
 use Rattle.sourcemap_index_flatten.specs.Errors.{GivesReason}
 use Rattle.sourcemap_index_flatten.specs.Table.{TextEntry, IsTable, entry_values, entries_kept}
 use Rattle.sourcemap_index_flatten.specs.declared.gathering.Gathering.{Gathering}
@@ -29,6 +30,10 @@ all_moved_tokens pieces = flat_map (λ piece. map (token_in pieces piece) piece.
 
 abbrev pub all_ignored_ids : List Piece → List ℕ
 all_ignored_ids pieces = rising (flat_map (ignored_in pieces) pieces)
+
+-- the piece, in an index map that itself starts at `offset`
+abbrev pub moved_piece : ℕ × ℕ → Piece → Piece
+moved_piece offset piece = (absolute_position offset piece.0, piece.1)
 
 -- exactly these pieces were added, in this order
 pub record Gathers (pieces : List Piece) (g : Gathering) : Type 0 where

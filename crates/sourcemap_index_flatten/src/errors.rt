@@ -23,7 +23,9 @@ pub(crate) fn too_many(alloc: Global) -> Error
     refusal(alloc, "too many sources or names")
 }
 
-pub(crate) fn past_the_end(alloc: Global) -> Error
+/// Returns `CannotFlatten` for a generated position whose line or column is above 4294967295. Returns
+/// `OutOfMemory` if the error text cannot be allocated.
+pub fn past_the_end(alloc: Global) -> Error
     ensures { Refuses (codes "a position passes 4294967295") result }
 {
     refusal(alloc, "a position passes 4294967295")

@@ -6,4 +6,5 @@ mod entries;
 pub mod errors;
 pub mod gathering;
 mod moving;
+pub mod positions;
 mod table;

@@ -1,17 +1,15 @@
 //! Moves tokens by the offset of their map, and gives them the source ids and name ids of the
 //! flattened map.
-ghost use Rattle.std.specs.Prelude.{◌≡◌, ◌++◌, if◌then◌else◌, Some, None, IfErr, IfOk, OnOk, IsOkUnless, codes, map, unwrap_or, slice_get, fold, false};
+ghost use Rattle.std.specs.Prelude.{◌≡◌, ◌++◌, IfErr, IfOk, OnOk, IsOkUnless, codes, map, unwrap_or, slice_get, fold, false};
 ghost use Rattle.std.specs.List.{list_any};
 ghost use Rattle.std.specs.BTreeSet.{insert_key};
 ghost use Rattle.std.specs.Ordering.{nat_cmp};
-ghost use Rattle.sourcemap_tokens.specs.Tokens.{destination};
 ghost use Rattle.sourcemap_errors.specs.declared.errors.Error.TheVariants.{OutOfMemory};
-ghost use Rattle.sourcemap_index_model.specs.Flat.{passes_the_end};
-ghost use Rattle.sourcemap_index_model.specs.FlatList.{absolute_position};
 ghost use Rattle.sourcemap_index_flatten.specs.Errors.{RefusesBy};
 ghost use Rattle.sourcemap_index_flatten.specs.Moving.{IsMoved, AreMoved, moved_by, new_number, ignored_numbers, is_past_end};
 
 use crate::errors::past_the_end;
+use crate::positions::absolute_position;
 use sourcemap_errors::errors::Result;
 use sourcemap_tokens::tokens::{NO_ID, RawToken};
 use std::alloc::Global;
@@ -37,26 +35,12 @@ fn new_number(numbers: &[u32], id: u32) -> u32
     }
 }
 
-// The generated position of the token in the flattened map. `None` if its line or column is above
-// 4294967295.
-fn absolute_position(line: u32, col: u32, token: RawToken) -> Option<(u32, u32)>
-    ensures { result ≡ (if passes_the_end (absolute_position (line, col) (destination token)) then None
-        else Some (absolute_position (line, col) (destination token))) }
-{
-    let raised_line = token.dst_line.checked_add(line)?;
-    if token.dst_line != 0 {
-        return Some((raised_line, token.dst_col));
-    }
-    let raised_col = token.dst_col.checked_add(col)?;
-    Some((raised_line, raised_col))
-}
-
 fn move_token(alloc: Global, token: RawToken, to: Move<'_>) -> Result<RawToken>
     ensures ok { IfOk result (IsMoved to.entry token) }
     ensures refused { IfErr result (RefusesBy (is_past_end to.entry token)
         (codes "a position passes 4294967295")) }
 {
-    match absolute_position(to.line, to.column, token) {
+    match absolute_position(to.line, to.column, (token.dst_line, token.dst_col)) {
         None => Err(past_the_end(alloc)),
         Some((line, col)) => Ok(RawToken {
             dst_line: line,

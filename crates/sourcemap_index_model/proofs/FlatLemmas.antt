@@ -17,9 +17,8 @@ use Rattle.sourcemap_map_parts.proofs.SourcesLemmas.{map-resolved_against_nothin
 use Rattle.sourcemap_map_parts.specs.Sources.{resolved}
 use Rattle.sourcemap_map_regular.specs.Map.{MapValue, Meaning, meaning as meaning_regular, resolved_sources, source_of, name_of, meaning_of, IsWellFormed as IsWellFormedRegular}
 use Rattle.sourcemap_map_regular.specs.Rewrite.{token_meanings}
-use Rattle.sourcemap_map_rewrite.proofs.NumberingLemmas.{used-kept, slice_get-number_in}
+use Rattle.sourcemap_map_rewrite.proofs.NumberingLemmas.{IsListedIfAny, used-kept, slice_get-number_in}
 use Rattle.sourcemap_map_rewrite.specs.Kept.{present, kept_once, number_in}
-use Rattle.sourcemap_map_rewrite.specs.Numbering.{IsListedIfAny}
 use Rattle.sourcemap_index_model.specs.Flat.{Piece, sources_in, names_in, token_in, merged, passes_the_end, with_piece, on_ok, flat, pieces_after, SaysFlat, AnswersLike}
 use Rattle.sourcemap_index_model.specs.FlatList.{absolute_position, absolute_entry, flat_list, flat_lists, IsOrderly}
 use Rattle.sourcemap_index_model.specs.MapTree.{LeafMap, regular, hermes, held, MapTree, leaf, index, IndexParts, MapSections, no_sections, hollow, filled, offset_of, InEachSection}

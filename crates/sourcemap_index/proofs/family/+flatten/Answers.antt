@@ -47,8 +47,8 @@ DecodedMap::gather-returns-in_ok-flat-in-Index-clause-ok t c = λ before g.
     ∙ index_added v before (c.args.line, c.args.col) made.0 made.1))
     (c.add_flat.ensures.ok before made.0 v.parts.file g made.2))
 
-pub SourceMapIndex::gather_all-gather-requires : goal.SourceMapIndex::gather_all-gather-requires
-SourceMapIndex::gather_all-gather-requires t c =
+pub SourceMapIndex::gather_by_level-gather-requires : goal.SourceMapIndex::gather_by_level-gather-requires
+SourceMapIndex::gather_by_level-gather-requires t c =
     let v : IndexValue = index_value c.args.self.now in
     let items = c.deref-section-items.result.now in
     let same : map section_value items ≡ v.sections =
@@ -60,8 +60,8 @@ SourceMapIndex::gather_all-gather-requires t c =
     c.section-item.is) in
     (omega (arith, less), tt)
 
-pub SourceMapIndex::gather_all-loop-section-preserved : goal.SourceMapIndex::gather_all-loop-section-preserved
-SourceMapIndex::gather_all-loop-section-preserved t c =
+pub SourceMapIndex::gather_by_level-loop-section-preserved : goal.SourceMapIndex::gather_by_level-loop-section-preserved
+SourceMapIndex::gather_by_level-loop-section-preserved t c =
     let items = c.deref-section-items.result.now in
     let i = c.loop-section.section-index in
     let item = c.section-item.result in
@@ -77,9 +77,9 @@ SourceMapIndex::gather_all-loop-section-preserved t c =
           c.loop-section.invariant.in_order (c.in_ok-gather.ensures.in_order, tt));
     }
 
-pub SourceMapIndex::gather_all-returns-in_err-gather-clause-refused :
-    goal.SourceMapIndex::gather_all-returns-in_err-gather-clause-refused
-SourceMapIndex::gather_all-returns-in_err-gather-clause-refused t c =
+pub SourceMapIndex::gather_by_level-returns-in_err-gather-clause-refused :
+    goal.SourceMapIndex::gather_by_level-returns-in_err-gather-clause-refused
+SourceMapIndex::gather_by_level-returns-in_err-gather-clause-refused t c =
     let items = c.deref-section-items.result.now in
     let i = c.loop-section.section-index in
     let item = c.section-item.result in
@@ -95,8 +95,8 @@ SourceMapIndex::gather_all-returns-in_err-gather-clause-refused t c =
     (item-next items i item c.loop-section-test.true c.section-item.is) c.loop-section.invariant.so_far)
     c.in_err-gather.ensures.refused))
 
-pub SourceMapIndex::gather_all-returns-clause-ok : goal.SourceMapIndex::gather_all-returns-clause-ok
-SourceMapIndex::gather_all-returns-clause-ok t c =
+pub SourceMapIndex::gather_by_level-returns-clause-ok : goal.SourceMapIndex::gather_by_level-returns-clause-ok
+SourceMapIndex::gather_by_level-returns-clause-ok t c =
     let items = c.deref-section-items.result.now in
     let all : List MapSection = map section_value items in
     let same : all ≡ (index_value c.args.self.now).sections =
@@ -111,9 +111,9 @@ SourceMapIndex::gather_all-returns-clause-ok t c =
       h,
     )) (c.finish.ensures.ok so_far.0 so_far.2)
 
-pub SourceMapIndex::gather_all-returns-clause-in_order :
-    goal.SourceMapIndex::gather_all-returns-clause-in_order
-SourceMapIndex::gather_all-returns-clause-in_order t c =
+pub SourceMapIndex::gather_by_level-returns-clause-in_order :
+    goal.SourceMapIndex::gather_by_level-returns-clause-in_order
+SourceMapIndex::gather_by_level-returns-clause-in_order t c =
     let items = c.deref-section-items.result.now in
     let same : map section_value items ≡ (index_value c.args.self.now).sections =
     ap (map section_value) c.deref-section-items.ensures.value
