@@ -257,10 +257,12 @@ ASKED = {
     'whether `{"sections":["\\ud800"]}` is a map': Asked(reference_question('map', '{"sections":["\\ud800"]}'), '[false,false]', '[true,true]'),
     'whether `[null,null,null,null,null,[],null,null]` is a map': Asked(
         reference_question('map', '[null,null,null,null,null,[],null,null]'), '[false,false]', '[true,true]'),
-    'contents loaded of the source `gone` from the folder `/`: their count': Asked(
+    'contents loaded of the source `gone` from `/`: their count': Asked(
         reference_question('load', '/', None, [['gone', None]]), '[0,null]', '[1,null]'),
-    'contents loaded of the source `dev/null` from `/`, with the base path `gone/..`': Asked(
-        reference_question('load', '/', 'gone/..', [['dev/null', None]]), '[1,""]', '[1,null]'),
+    'contents loaded of the source `proc/sys/kernel/ostype` from `/`, with the base path `gone/..`': Asked(
+        reference_question('load', '/', 'gone/..', [['proc/sys/kernel/ostype', None]]), '[1,"Linux\\n"]', '[1,null]'),
+    'contents loaded of the source `dev/null` from `/`': Asked(
+        reference_question('load', '/', None, [['dev/null', None]]), '[0,null]', '[1,""]'),
     'contents to be read from files, by the options of a rewriting, without `current_dir`': Asked(
         question_of('contents', named_record('AAAA')), 'invalid input parameter', 'none'),
     'what the paths `/a`, `C:/a`, `/a/b` have in common': Asked(

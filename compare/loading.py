@@ -21,6 +21,7 @@ reference are `dots`, `colon`, `url`, `old url` and `new url`, as references.py 
 
 - count: the reference counts the sources that resolve to a path, even if no file can be read there
 - bytes: a source may resolve to a path that is not UTF-8
+- devices: a file need not be regular
 """
 import argparse, os, pathlib, random, tempfile
 from comparing import reference_program
@@ -40,7 +41,7 @@ SOURCES = [
     *FILES, *FOLDERS, *LINKS, 'gone.js', './a.js', 'sub/../a.js', 'gone/../a.js', 'way/../d.js', '../work/a.js', '../../../../../../../../etc/hostname', 'a%20b.js',
     '%C3%BC.js', '100%25.js', 'q%3Fx.js', 'h%23x.js', '%2541.js', 'a.js?v=1', 'a.js#f', '', '.', '..', '/', 'A.JS', 'a.js/', 'sub', '%ff.js', './c:', 'c:', 'c|',
     '{}/a.js', 'file://{}/a.js', 'FILE://localhost{}/a.js', 'file://host{}/a.js', 'http://localhost{}/a.js', 'x:{}/a.js', 'http://x.com/a.js', 'webpack:///a.js',
-    'data:text/plain,x', 'file:a.js', 'file:////{}/a.js', ' a.js ', 'a\tb.js', 'x:a.js', '//a.js', '\\a.js', 'back%5Cslash.js', 'sub\\a.js', '%00',
+    'data:text/plain,x', 'file:a.js', 'file:////{}/a.js', ' a.js ', 'a\tb.js', 'x:a.js', '//a.js', '\\a.js', 'back%5Cslash.js', 'sub\\a.js', '%00', '/dev/null',
 ]
 BASES = [None, '', '.', 'sub', 'sub/', './sub/deep', '..', '../other', 'gone/..', 'way', 'way/..', 'way/../sub', 'sub/../../work', '{}', '{}/sub', '/', 'a b', 'ü']
 
@@ -80,9 +81,12 @@ def path_from(folder, source, ways):
         return None
 
 
-def text_at(path):
-    """The text of a file, None if it cannot be read or is not UTF-8. The path has one character for each byte."""
+def text_at(path, ways):
+    """The text of a file, None if it is not regular, cannot be read or is not UTF-8. The path has one character for each
+    byte."""
     try:
+        if 'devices' not in ways and not os.path.isfile(path.encode('latin-1')):
+            return None
         with open(path.encode('latin-1'), 'rb') as file:
             return file.read().decode()
     except (OSError, ValueError):
@@ -101,13 +105,13 @@ def due(question, ways):
         return 'InvalidInput' if word == 'rewrite' else ['InvalidInput', *contents.values()]
     for source in [source for source, text in contents.items() if text is None]:
         path = path_from(folder, source, ways)
-        contents[source] = path and text_at(path)
+        contents[source] = path and text_at(path, ways)
         count += path is not None if 'count' in ways else contents[source] is not None
     return [count, *contents.values()] if word == 'load' else [[source, text] for source, text in contents.items()]
 
 
 # the departures that the reference may have
-WAYS = ['count', 'dots', 'colon', 'bytes', 'url', 'old url', 'new url']
+WAYS = ['count', 'dots', 'colon', 'bytes', 'devices', 'url', 'old url', 'new url']
 
 
 def main():

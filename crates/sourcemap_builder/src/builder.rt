@@ -256,10 +256,10 @@ impl SourceMapBuilder {
     /// with escapes decoded, is the path of the file: `a%20b.js?c` is the file `a b.js` in the
     /// folder. A `base_path` that is not absolute is joined to `current_dir`. Without a `base_path`
     /// the folder is `current_dir`. `sourceRoot` is not used. A source is skipped if it does not
-    /// resolve to the path of a file, or if its file does not exist, cannot be read or is not
-    /// UTF-8. A source may also be skipped if the URL of the folder, before `..` is resolved, and
-    /// the source together have 2^28 bytes or more. On success, the list of contents has one item
-    /// for each source.
+    /// resolve to the path of a file, or if its file does not exist, is not a regular file, cannot
+    /// be read or is not UTF-8. A source may also be skipped if the URL of the folder, before `..`
+    /// is resolved, and the source together have 2^28 bytes or more. On success, the list of
+    /// contents has one item for each source.
     ///
     /// The error is `Io` of kind `InvalidInput` if neither `base_path` nor `current_dir` is
     /// absolute. Then the builder is unchanged. Any other error is `OutOfMemory`. Then contents

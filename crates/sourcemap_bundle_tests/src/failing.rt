@@ -53,7 +53,6 @@ impl Disk<'_> {
                 left,
                 kind: self.kind,
             },
-            size: None,
         })
     }
 }

@@ -1,4 +1,5 @@
-// Loading of contents when files cannot be opened or read, or have wrong metadata or none.
+// Loading of contents when files cannot be opened or read, are not regular, or have wrong metadata or
+// none.
 use crate::folders::count_or_error;
 use sourcemap::{Result, SourceMapBuilder};
 use sourcemap_test_support::checks::{Checked, check};
@@ -11,31 +12,25 @@ use std::io;
 use std::io::ErrorKind;
 use std::rt::Files;
 
-// A fake file system of six files: `/a.js`; `/late.js`, which fails after its first byte;
-// `/never.js`, which cannot be opened; `/strange.js`, without metadata; `/grown.js`, whose metadata
-// report too few bytes; and `/cut.js`, whose metadata report too many.
+// A fake file system. Its metadata name too small a size for `/grown.js` and `/unnamed.js`, and too
+// large a size for `/cut.js` and `/huge.js`. `/folder.js` and `/link.js` are not regular files,
+// though a read returns bytes. Metadata are missing for `/strange.js`, and fail with `kind` for
+// `/refused.js`. `/late.js` fails with `kind` after its first byte. All other files of the rows below
+// cannot be opened, and the error has this kind.
 #[derive(Drop)]
 struct Broken {
-    // the kind of each error of opening or reading a file
     kind: ErrorKind,
 }
 
 // Returns a file with these bytes. Reads return one byte each. If `fails` is true, every read after
-// the last byte fails with `kind`. Otherwise no read fails. The size in the metadata is `size`. If
-// `size` is `None`, a request for the metadata fails with `Unsupported`.
-fn file(
-    bytes: &'static [u8],
-    fails: bool,
-    kind: ErrorKind,
-    size: Option<u64>,
-) -> FakeFile<'static> {
+// the last byte fails with `kind`. Otherwise no read fails.
+fn file(bytes: &'static [u8], fails: bool, kind: ErrorKind) -> FakeFile<'static> {
     FakeFile {
         reader: NarrowReader {
             rest: bytes,
             left: if fails { Some(bytes.len()) } else { None },
             kind,
         },
-        size,
     }
 }
 
@@ -47,11 +42,12 @@ impl Files for Broken {
     fn open_file(&self, how: &OpenOptions, path: &str) -> io::Result<FakeFile<'static>> {
         how.check()?;
         match path {
-            "/a.js" => Ok(file(b"xx", false, self.kind, Some(2))),
-            "/grown.js" => Ok(file(b"xxxxx", false, self.kind, Some(1))),
-            "/cut.js" => Ok(file(b"x", false, self.kind, Some(5))),
-            "/late.js" => Ok(file(b"x", true, self.kind, Some(1))),
-            "/strange.js" => Ok(file(b"xxx", false, self.kind, None)),
+            "/a.js" => Ok(file(b"xx", false, self.kind)),
+            "/grown.js" => Ok(file(b"xxxxx", false, self.kind)),
+            "/strange.js" | "/unnamed.js" => Ok(file(b"xxx", false, self.kind)),
+            "/cut.js" | "/huge.js" | "/refused.js" => Ok(file(b"x", false, self.kind)),
+            "/folder.js" | "/link.js" => Ok(file(b"x", false, self.kind)),
+            "/late.js" => Ok(file(b"x", true, self.kind)),
             _ => Err(io::Error::from(self.kind)),
         }
     }
@@ -60,8 +56,18 @@ impl Files for Broken {
         unsupported_error()
     }
 
-    fn metadata(&self, _path: &str) -> io::Result<Metadata> {
-        unsupported_error()
+    fn metadata(&self, path: &str) -> io::Result<Metadata> {
+        match path {
+            "/a.js" => Ok(Metadata::of_file(2)),
+            "/grown.js" | "/late.js" | "/never.js" => Ok(Metadata::of_file(1)),
+            "/unnamed.js" => Ok(Metadata::of_file(0)),
+            "/cut.js" => Ok(Metadata::of_file(5)),
+            "/huge.js" => Ok(Metadata::of_file(u64::MAX)),
+            "/folder.js" => Ok(Metadata::of_dir()),
+            "/link.js" => Ok(Metadata::of_symlink(1)),
+            "/refused.js" => Err(io::Error::from(self.kind)),
+            _ => unsupported_error(),
+        }
     }
 
     fn symlink_metadata(&self, _path: &str) -> io::Result<Metadata> {
@@ -106,10 +112,10 @@ fn load_failing(alloc: Global, kind: ErrorKind, sources: &[&str]) -> Result<Stri
     Ok(out)
 }
 
-// Each row: an error kind, the sources, and the wanted text. Opening `never.js` fails with this
-// kind. So does a read of `late.js` after its first byte. The wanted text begins with the number of
-// loaded files, or with the text of the error. The contents of each source follow, or `none`.
-static ROWS: [(ErrorKind, &[&str], &str); 6] = [
+// Each row: the error kind of the file system, the sources, and the wanted text. The wanted text
+// begins with the number of loaded files, or with the text of the error. The contents of each source
+// follow, or `none`.
+static ROWS: [(ErrorKind, &[&str], &str); 9] = [
     (
         ErrorKind::Other,
         &["a.js", "late.js", "never.js", "strange.js"],
@@ -117,10 +123,19 @@ static ROWS: [(ErrorKind, &[&str], &str); 6] = [
     ),
     (
         ErrorKind::PermissionDenied,
-        &["never.js", "a.js"],
-        "1 none [xx]",
+        &["never.js", "a.js", "refused.js"],
+        "2 none [xx] [x]",
     ),
-    (ErrorKind::Other, &["grown.js", "cut.js"], "2 [xxxxx] [x]"),
+    (
+        ErrorKind::Other,
+        &["grown.js", "cut.js", "unnamed.js", "huge.js"],
+        "4 [xxxxx] [x] [xxx] [x]",
+    ),
+    (
+        ErrorKind::Other,
+        &["folder.js", "a.js", "link.js"],
+        "1 none [xx] none",
+    ),
     (
         ErrorKind::OutOfMemory,
         &["a.js", "late.js", "strange.js"],
@@ -130,6 +145,16 @@ static ROWS: [(ErrorKind, &[&str], &str); 6] = [
         ErrorKind::OutOfMemory,
         &["a.js", "never.js", "strange.js"],
         "out of memory [xx] none none",
+    ),
+    (
+        ErrorKind::OutOfMemory,
+        &["a.js", "refused.js", "strange.js"],
+        "out of memory [xx] none none",
+    ),
+    (
+        ErrorKind::OutOfMemory,
+        &["folder.js", "huge.js"],
+        "1 none [x]",
     ),
     (
         ErrorKind::OutOfMemory,

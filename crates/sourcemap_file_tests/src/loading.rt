@@ -4,8 +4,9 @@ use sourcemap::{Result, SourceMapBuilder};
 use sourcemap_test_support::checks::{Checked, check};
 use sourcemap_test_support::results::push_optional;
 use std::alloc::Global;
-use std::fs;
+use std::os::fd::AsRawFd;
 use std::rt::Files;
+use std::{fs, io};
 
 // Returns a builder with these sources. `@` at the start of a source stands for `folder`. The first
 // source gets the contents `contents`, or no contents if `contents` is `None`.
@@ -82,7 +83,7 @@ fn answer<F: Files>(rt: &F, alloc: Global, folder: &str, row: &Row) -> Result<St
     )
 }
 
-static ROWS: [Row; 20] = [
+static ROWS: [Row; 21] = [
     Row {
         about: "a file, one that is not UTF-8, and one that is not there",
         sources: &["a.js", "b.js", "gone.js"],
@@ -180,6 +181,14 @@ static ROWS: [Row; 20] = [
         want: "0 none none none none 0",
     },
     Row {
+        about: "devices: one without an end, and one without bytes",
+        sources: &["/dev/zero", "/dev/null"],
+        contents: None,
+        current: "@",
+        base: None,
+        want: "0 none none 0",
+    },
+    Row {
         about: "a link, and one that leads nowhere",
         sources: &["link.js", "lost.js"],
         contents: None,
@@ -272,6 +281,16 @@ fn contents_are_loaded(rt: HostRuntime) -> Checked {
     check("a source that was changed", got, "1 [x] 0")?;
     fs::remove_dir_all(&rt, "contents_are_loaded")?;
     Ok(())
+}
+
+// Whoever reads a pipe that is open for writing and empty waits.
+#[test]
+fn a_pipe_is_skipped(rt: HostRuntime) -> Checked {
+    let (reader, _writer) = io::pipe(&rt)?;
+    let path = format!(in rt.alloc(); "/proc/self/fd/{}", reader.as_raw_fd())?;
+    let mut builder = builder(rt.alloc(), "", &[path.as_str()], None)?;
+    let answer = load_text(&rt, rt.alloc(), &mut builder, "/", None, 1);
+    check("a pipe", answer, "0 none 0")
 }
 
 // Loads `long.js`. Returns the number of loaded files, the length of the contents in bytes, and

@@ -13,9 +13,10 @@ use Rattle.sourcemap_interning.proofs.InternerLemmas.{slice_get-id_of}
 use Rattle.sourcemap_tokens.proofs.SearchLemmas.{closest-change, index-closest}
 use Rattle.sourcemap_map_parts.specs.Sources.{resolved}
 use Rattle.sourcemap_map_rewrite.specs.FirstIds.{first_of}
-use Rattle.sourcemap_map_rewrite.specs.Numbering.{IsListedIfAny, texts_in_use}
+use Rattle.sourcemap_map_rewrite.specs.Numbering.{texts_in_use}
 use Rattle.sourcemap_map_rewrite.specs.declared.options.RewriteOptions.{RewriteOptions}
 use Rattle.sourcemap_map_rewrite.proofs.FirstIdsLemmas.{first_names}
+use Rattle.sourcemap_map_rewrite.proofs.NumberingLemmas.{IsListedIfAny}
 use Rattle.sourcemap_map_regular.specs.Map.{MapValue, IsWellFormed as IsWellFormedRegular, resolved_sources, source_of}
 use Rattle.sourcemap_map_regular.specs.Map.{lookup, column_after, distance}
 use Rattle.sourcemap_map_regular.specs.Rewrite.{Removal, removal_of, used_sources, number_in, first_ids, renumbered}

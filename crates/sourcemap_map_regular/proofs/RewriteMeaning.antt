@@ -17,13 +17,12 @@ use Rattle.sourcemap_texts.specs.Prefixes.{without_prefix}
 use Rattle.sourcemap_map_regular.specs.Map.{MapValue, Meaning, IsWellFormed, resolved_sources, source_of, name_of}
 use Rattle.sourcemap_map_regular.specs.Map.{meaning, meaning_of, MeansTheSame, distance, column_after}
 use Rattle.sourcemap_map_parts.specs.Sources.{resolved}
-use Rattle.sourcemap_map_rewrite.specs.Numbering.{IsListedIfAny}
 use Rattle.sourcemap_map_rewrite.specs.declared.options.RewriteOptions.{RewriteOptions}
 use Rattle.sourcemap_map_regular.specs.Rewrite.{Removal, removal_of, number_in, used_sources, used_names, kept_names}
 use Rattle.sourcemap_map_regular.specs.Rewrite.{cuts, renumbered, rewritten, without_removed, all_prefixes}
 use Rattle.sourcemap_map_regular.specs.Rewrite.{LeavesMeaning, MeansLess, Rewrites, SameButContents, TokensMeanLess}
 use Rattle.sourcemap_map_parts.proofs.SourcesLemmas.{map-resolved_against_nothing}
-use Rattle.sourcemap_map_rewrite.proofs.NumberingLemmas.{used-kept, slice_get-number_in}
+use Rattle.sourcemap_map_rewrite.proofs.NumberingLemmas.{IsListedIfAny, used-kept, slice_get-number_in}
 use Rattle.sourcemap_map_regular.proofs.MapLemmas.{of_item, meaning-item}
 use Rattle.sourcemap_map_regular.proofs.RewriteLemmas.{few_used_sources, few_used_names, but_contents}
 

@@ -33,9 +33,9 @@ impl SourceMap {
     /// a file. If contents are not kept, these are all new sources. To find the file, a source is
     /// resolved against the URL of a folder, before any prefix is removed. The folder is
     /// `base_path` if this path is absolute, otherwise `current_dir` and `base_path` joined by `/`.
-    /// A source is skipped if it resolves to no file path, or if its file cannot be read or is not
-    /// UTF-8. A source may also be skipped if the source and the URL of the folder together are
-    /// very long (see `RewriteOptions`).
+    /// A source is skipped if it resolves to no file path, or if its file is not a regular file,
+    /// cannot be read or is not UTF-8. A source may also be skipped if the source and the URL of
+    /// the folder together are very long (see `RewriteOptions`).
     ///
     /// If contents are to be loaded and neither `base_path` nor `current_dir` is absolute, the
     /// error is `Io` of kind `InvalidInput`. The only other error is `OutOfMemory`.

@@ -16,10 +16,10 @@ use Rattle.sourcemap_tokens.specs.declared.tokens.RawToken.{RawToken}
 use Rattle.sourcemap_tokens.proofs.AllLemmas.{All-append, All-at, All-unmapped}
 use Rattle.sourcemap_map_rewrite.specs.FirstIds.{names_text, first_of, firsts_of}
 use Rattle.sourcemap_map_rewrite.specs.Kept.{present}
-use Rattle.sourcemap_map_rewrite.specs.Numbering.{IsListedIfAny, first_some, texts_in_use, AreSeen}
+use Rattle.sourcemap_map_rewrite.specs.Numbering.{first_some, texts_in_use, AreSeen}
 use Rattle.sourcemap_map_rewrite.specs.Rewritten.{first_ids_used}
 use Rattle.sourcemap_map_rewrite.specs.declared.numbering.NewNumbers.{NewNumbers}
-use Rattle.sourcemap_map_rewrite.proofs.NumberingLemmas.{distinct-texts_in_use, used-kept}
+use Rattle.sourcemap_map_rewrite.proofs.NumberingLemmas.{IsListedIfAny, distinct-texts_in_use, used-kept}
 
 -- Numbers that name a text.
 

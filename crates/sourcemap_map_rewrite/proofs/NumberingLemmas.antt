@@ -16,8 +16,8 @@ use Rattle.sourcemap_interning.specs.Interner.{id_of, with_text, AreDistinct}
 use Rattle.sourcemap_tokens.proofs.AllLemmas.{All-append, All-at, All-weaker}
 use Rattle.sourcemap_interning.proofs.InternerLemmas.{AreDistinct-append, id_of-append, id_of-last, slice_get-id_of}
 use Rattle.sourcemap_map_rewrite.specs.Kept.{present, kept_once, number_in}
-use Rattle.sourcemap_map_rewrite.specs.Numbering.{with_text_if, first_some, IsListedIfAny, texts_in_use, seen_texts}
-use Rattle.sourcemap_map_rewrite.specs.Numbering.{IsSeen, IsSeenOrNot, NumbersMore, IsNumbering, Assigns}
+use Rattle.sourcemap_map_rewrite.specs.Numbering.{with_text_if, first_some, texts_in_use, seen_texts, IsSeen}
+use Rattle.sourcemap_map_rewrite.specs.Numbering.{IsSeenOrNot, NumbersMore, IsNumbering, Assigns}
 use Rattle.sourcemap_map_rewrite.specs.declared.numbering.Numbering.{Numbering}
 use Rattle.sourcemap_tokens.proofs.SearchLemmas.{cases_Option}
 
@@ -28,6 +28,11 @@ option_or-None (Some x) = refl
 option_or-assoc : {A : Type 0} (a b c : Option A) → option_or a (option_or b c) ≡ option_or (option_or a b) c
 option_or-assoc None b c = refl
 option_or-assoc (Some x) b c = refl
+
+-- if there is a text, it is one of these texts
+abbrev pub IsListedIfAny : List (List ℕ) → Option (List ℕ) → Type 0
+IsListedIfAny texts None = Unit {0}
+IsListedIfAny texts (Some text) = (n : ℕ) × (id_of text texts ≡ Some n)
 
 -- Deduplicated texts.
 

@@ -9,11 +9,11 @@ use Rattle.std.proofs.lemmas.List.{length-map, length-take-le, append-nil}
 use Rattle.sourcemap_tokens.proofs.AllLemmas.{All-unmapped}
 use Rattle.sourcemap_tokens.specs.declared.tokens.RawToken.{RawToken}
 use Rattle.sourcemap_tokens.specs.Tokens.{AreInOrder, destination, position_cmp}
-use Rattle.sourcemap_map_rewrite.specs.Numbering.{with_text_if, first_some, IsListedIfAny, texts_in_use, seen_texts}
+use Rattle.sourcemap_map_rewrite.specs.Numbering.{with_text_if, first_some, texts_in_use, seen_texts}
 use Rattle.sourcemap_map_rewrite.specs.Numbering.{NumbersMore, AreSeen, numbered_by, numbered_with}
 use Rattle.sourcemap_map_rewrite.specs.declared.numbering.NewNumbers.{NewNumbers}
-use Rattle.sourcemap_map_rewrite.proofs.NumberingLemmas.{texts_in_use-push, used-kept, first_some-push}
-use Rattle.sourcemap_map_rewrite.proofs.NumberingLemmas.{number_in-with_text_if}
+use Rattle.sourcemap_map_rewrite.proofs.NumberingLemmas.{IsListedIfAny, texts_in_use-push, used-kept}
+use Rattle.sourcemap_map_rewrite.proofs.NumberingLemmas.{first_some-push, number_in-with_text_if}
 
 module _ (S N : List (List ℕ)) where
   pub AreSeen-none : (s n : NewNumbers) → s.order.items ≡ [] → n.order.items ≡ [] → AreSeen S N [] s n

@@ -19,11 +19,6 @@ abbrev pub first_some : {X Y : Type 0} → (X → Option Y) → List X → Optio
 first_some f [] = None
 first_some f (x ∷ xs) = option_or (f x) (first_some f xs)
 
--- if there is a text, it is one of these texts
-abbrev pub IsListedIfAny : List (List ℕ) → Option (List ℕ) → Type 0
-IsListedIfAny texts None = Unit {0}
-IsListedIfAny texts (Some text) = (n : ℕ) × (id_of text texts ≡ Some n)
-
 -- the texts at these indices, each once, in the order of first use
 abbrev pub texts_in_use : List (List ℕ) → List ℕ → List (List ℕ)
 texts_in_use texts ids = kept_once (present (map (slice_get texts) ids))

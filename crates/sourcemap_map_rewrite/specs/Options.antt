@@ -29,9 +29,7 @@ pub record IsDefault (options : RewriteOptions) : Type 0 where
 abbrev pub no_removal : Removal
 no_removal = record { with_names = true; with_contents = true; prefixes = [] }
 
--- the folder of the sources. A `base_path` or a `current_dir` that is `None` counts as the empty string. If `base_path`
--- is absolute, `base_path` is the folder. Otherwise, if `current_dir` is absolute, the folder is one path:
--- `current_dir` and `base_path`, joined by `/`. The result is `None` if neither `base_path` nor `current_dir` is
--- absolute
+-- the folder of the sources: `base_path`, joined to `current_dir`; one that is missing counts as empty; `None` if the
+-- joined path is not absolute
 abbrev pub options_folder : RewriteOptions → Option (List ℕ)
 options_folder options = folder_of (unwrap_or (option_copied options.current_dir) []) (option_copied options.base_path)

@@ -11,11 +11,12 @@ pub struct RewriteOptions<'a> {
     /// true, contents are loaded only for sources without contents, otherwise for all used sources.
     /// To find the file of a source, `rewrite` resolves the source against `sourceRoot`, and then
     /// against the URL of the folder (see `base_path`). Prefixes are stripped later. A source is
-    /// skipped if it resolves to no file path, or if its file cannot be read or is not UTF-8. A
-    /// source may also be skipped if the source, resolved against `sourceRoot`, and the URL of the
-    /// folder together have 2^28 bytes or more. The size of this URL is the size before `..` is
-    /// resolved. If this option is true and neither `base_path` nor `current_dir` starts with `/`,
-    /// the error is `Io` of kind `InvalidInput`. The only other error is `OutOfMemory`.
+    /// skipped if it resolves to no file path, or if its file is not a regular file, cannot be read
+    /// or is not UTF-8. A source may also be skipped if the source, resolved against `sourceRoot`,
+    /// and the URL of the folder together have 2^28 bytes or more. The size of this URL is the size
+    /// before `..` is resolved. If this option is true and neither `base_path` nor `current_dir`
+    /// starts with `/`, the error is `Io` of kind `InvalidInput`. The only other error is
+    /// `OutOfMemory`.
     pub load_local_source_contents: bool,
     /// The folder of the sources. A `base_path` that starts with `/` is the folder. Otherwise, if
     /// `current_dir` starts with `/`, the folder is one path: `current_dir` and `base_path`, joined

@@ -1,13 +1,15 @@
 -- The effect of loading: items that are set one by one, and the number of new ones.
-use Rattle.std.proofs.Common.{◌≡◌, ◌≢◌, ℕ, zero, suc, ◌+◌, ◌≤◌, ◌<◌, Bool, true, false, ◌&&◌, if◌then◌else◌, List, []}
-use Rattle.std.proofs.Common.{◌∷◌, length, refl, ap, sym, ◌∙◌, subst, arith, ◌⊎◌, inl, inr, Option, Some, None, IsSome}
-use Rattle.std.proofs.Common.{IfSome, Result, Ok, Err, is_none, is_some, get_or, add-one, slice_get, slice_set}
-use Rattle.std.proofs.Common.{option_and_then, option_map, map}
+use Rattle.std.proofs.Common.{◌≡◌, ◌≢◌, ℕ, zero, suc, ◌+◌, ◌-◌, ◌≤◌, ◌<◌, ◌==◌, Bool, true, false, ◌&&◌, ◌||◌}
+use Rattle.std.proofs.Common.{if◌then◌else◌, List, [], ◌∷◌, ◌++◌, length, refl, ap, sym, ◌∙◌, subst, arith, ◌⊎◌, inl, inr}
+use Rattle.std.proofs.Common.{Option, Some, None, IsSome, IfSome, Result, Ok, Err, is_none, is_some, get_or, add-one}
+use Rattle.std.proofs.Common.{slice_get, slice_index, slice_set, option_and_then, option_map, map}
 use Rattle.std.specs.Bool.{MatchBool}
+use Rattle.std.specs.Path.{IsRelative, path_join, slash, with_separator}
 use Rattle.std.specs.Result.{result_ok}
-use Rattle.std.proofs.lemmas.Bool.{cases_eq}
+use Rattle.std.proofs.lemmas.Bool.{cases_eq, eqb-true, eq-eqb}
 use Rattle.std.proofs.lemmas.List.{length-set}
 use Rattle.std.proofs.lemmas.Option.{slice_get-get_or, slice_get-map}
+use Rattle.std.proofs.lemmas.Paths.{path_join_absolute, path_join_relative}
 use Rattle.url.specs.Parts.{Parts}
 use Rattle.sourcemap_tokens.specs.Items.{item_at}
 use Rattle.url.specs.Parser.{and_then, parse_url}
@@ -147,6 +149,30 @@ module _ (before after : List (Option (List ℕ))) (id loaded : ℕ) (old new : 
       (subst P (sym (agree text)) (from_file (sym was ∙ none) some))) where
         was : item_at before id ≡ old
         was = sym (is.later id (omega arith)) ∙ held
+
+-- a joined path is absolute if the path that is joined is, or the path that it is joined to
+pub join_at_root : (base path : List ℕ)
+    → starts_at_root (path_join base path) ≡ starts_at_root path || starts_at_root base
+join_at_root base path = by_case (starts_at_root path) refl
+  where
+    after : (base : List ℕ) → starts_at_root path ≡ false
+        → starts_at_root (with_separator base ++ path) ≡ starts_at_root base
+    after [] relative = relative
+    after (byte ∷ bytes) relative =
+        by_end (length (byte ∷ bytes) == 0 || slice_index (byte ∷ bytes) (length (byte ∷ bytes) - 1) == slash) where
+          by_end : (ends : Bool)
+              → starts_at_root ((if ends then byte ∷ bytes else (byte ∷ bytes) ++ slash ∷ []) ++ path)
+              ≡ starts_at_root (byte ∷ bytes)
+          by_end true = refl
+          by_end false = refl
+
+    by_case : (absolute : Bool) → starts_at_root path ≡ absolute
+        → starts_at_root (path_join base path) ≡ absolute || starts_at_root base
+    by_case true is = ap starts_at_root (path_join_absolute base path (eqb-true (slice_index path 0) slash is)) ∙ is
+    by_case false is =
+        let relative : IsRelative path =
+        λ e. (let no : true ≡ false = sym (eq-eqb (slice_index path 0) slash e) ∙ is in cc) in
+        ap starts_at_root (path_join_relative base path relative) ∙ after base is
 
 -- the URL of a folder resolves sources to the same files as the path of the folder
 pub same_files : (folder : List ℕ) (base : Parts) → PathUrl folder true (Ok (Some base)) → (source : List ℕ)

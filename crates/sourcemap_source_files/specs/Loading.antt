@@ -1,20 +1,19 @@
 -- Contents of sources, loaded from files: the folder, the paths of the files, and what may change.
-use Rattle.std.specs.Prelude.{◌≡◌, ℕ, zero, suc, ◌+◌, true, ◌&&◌, if◌then◌else◌, List, [], ◌++◌, length, codes}
+use Rattle.std.specs.Prelude.{◌≡◌, ℕ, zero, suc, ◌+◌, true, ◌&&◌, if◌then◌else◌, List, [], length}
 use Rattle.std.specs.Prelude.{slice_get, Option, Some, None, is_none, is_some, IsSome, option_and_then, unwrap_or}
 use Rattle.std.specs.IoError.{error_kind}
+use Rattle.std.specs.Path.{path_join}
 use Rattle.std.specs.declared.io.ErrorKind.TheVariants.{InvalidInput}
 use Rattle.sourcemap_errors.specs.declared.errors.Error.{Error}
 use Rattle.sourcemap_errors.specs.declared.errors.Error.TheVariants.{Io}
 use Rattle.sourcemap_tokens.specs.Items.{item_at}
 use Rattle.sourcemap_file_urls.specs.Places.{starts_at_root, resolved_file_path}
 
--- the folder against which sources are resolved: the base path if it is absolute, otherwise the base path joined to the
--- current directory; a missing base path counts as empty; `None` if neither path is absolute
+-- the folder against which sources are resolved: the base path, joined to the current directory; a missing base path
+-- counts as empty; `None` if the joined path is not absolute
 abbrev pub folder_of : (current : List ℕ) (base : Option (List ℕ)) → Option (List ℕ)
 folder_of current base =
-    let path = unwrap_or base [] in
-    if starts_at_root path then Some path
-    else (if starts_at_root current then Some (current ++ codes "/" ++ path) else None)
+    let folder = path_join current (unwrap_or base []) in if starts_at_root folder then Some folder else None
 
 -- the path of a source's file. `source` is an entry of the list of sources. The entry is resolved against the `file`
 -- URL of `folder`. The result is the path of the resolved URL, with escapes decoded. The result is `None` if `folder`

@@ -13,14 +13,11 @@ pub fn unsupported_error<T>() -> io::Result<T>
     Err(io::Error::from(ErrorKind::Unsupported))
 }
 
-/// A file that can only be read. All operations other than `read` and `metadata` fail with the kind
-/// `Unsupported`.
+/// A file that can only be read. All operations other than `read` fail with the kind `Unsupported`.
 #[derive(Drop)]
 pub struct FakeFile<'a> {
     /// Each read of the file returns the result of one read of this reader.
     pub reader: NarrowReader<'a>,
-    /// The size in the metadata of the file. With `None`, reading the metadata is an error.
-    pub size: Option<u64>,
 }
 
 impl Read for FakeFile<'_> {
@@ -47,10 +44,7 @@ impl Seek for FakeFile<'_> {
 
 impl OpenFile for FakeFile<'_> {
     fn metadata(&self) -> io::Result<Metadata> {
-        match self.size {
-            Some(size) => Ok(Metadata::of_file(size)),
-            None => unsupported_error(),
-        }
+        unsupported_error()
     }
 
     fn set_len(&self, _size: u64) -> io::Result<()> {

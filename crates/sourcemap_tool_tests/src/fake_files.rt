@@ -54,7 +54,6 @@ impl<'a> Files for FakeFiles<'a> {
                 left: self.left,
                 kind: self.kind,
             },
-            size: None,
         })
     }
 
