@@ -59,7 +59,8 @@ class Module:
         self.definitions, self.names, self.public, self.modules = {}, {}, {}, {}
         self.read(without_comments(file.read_text(), '--').splitlines())
 
-    def read(self, lines):
+    def read(self, lines, above=0):
+        """Reads lines, before which the file has `above` others."""
         at = 0
         while at < len(lines):
             end = at + 1
@@ -69,9 +70,12 @@ class Module:
             if re.match(r'(pub )?use ', chunk[0]):
                 self.add_import('\n'.join(chunk))
             elif re.fullmatch(r'(abbrev )?mutual', chunk[0].strip()):
-                self.add_block(chunk[1:], at + 1)
+                self.add_block(chunk[1:], above + at + 1)
+            elif chunk[0].startswith('module _ '):
+                # definitions that share their first arguments, two columns further in
+                self.read([line[2:] for line in chunk[1:]], above + at + 1)
             elif chunk[0].strip() and not chunk[0].startswith('pub mod '):
-                self.add(chunk, at)
+                self.add(chunk, above + at)
             at = end
 
     def add_import(self, text):
@@ -241,6 +245,8 @@ class Source:
         head = without_generics(head)
         if 'where' in head:
             head = head[:head.index('where')]
+        if self.word(at) == 'trait' and ':' in head:
+            head = head[:head.index(':')]
         trait = head[:head.index('for')] if 'for' in head else []
         item = Item(self.word(at), last_name(head[len(trait):]), self.place(at), None, last_name(trait), is_public)
         self.items.append(item)

@@ -26,6 +26,7 @@ pub mod Types
 pub use Rattle.sourcemap_map_regular.specs.Token
 pub use Rattle.sourcemap_map_regular.specs.TokenOrder
 pub use Rattle.sourcemap_map_regular.specs.Iterators
+pub use Rattle.sourcemap_map_regular.specs.Lists
 pub use Rattle.sourcemap_map_regular.specs.Adjust
 pub mod Equality
 pub mod RegularDecoder

@@ -1,7 +1,7 @@
 //! Laws: statements that follow from the definitions that contracts cite. A function that calls a
 //! law can use the statement of the law in its own proof. At run time the call does nothing.
 
-pub use sourcemap_bundle_split::laws::module_means_what_flat_means;
+pub use sourcemap_bundle_split::laws::{module_maps_are_well_formed, module_means_what_flat_means};
 pub use sourcemap_core::laws::{
     binary_digits_are_fewest, bits_are_determined, closest_tokens_stay,
     composed_tokens_stay_within, lines_make_their_text, mappings_determine_one_answer,

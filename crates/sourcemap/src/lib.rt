@@ -16,7 +16,7 @@ pub use detector::{
 };
 pub use hermes::SourceMapHermes;
 pub use sourcemap_core::utils::make_relative_path;
-pub use sourcemap_core::{compose, errors, js_identifiers, utils, vlq};
+pub use sourcemap_core::{compose, errors, js_identifiers, places, utils, vlq};
 pub use sourcemap_errors::errors::{Error, Result};
 pub use sourcemap_maps::builder::SourceMapBuilder;
 pub use sourcemap_maps::{builder, encoder, sourceview};

@@ -3,7 +3,7 @@
 pub use sourcemap_index::family::{DecodedMap, SourceMapIndex, SourceMapSection};
 pub use sourcemap_index::section::SourceMapSectionIter;
 pub use sourcemap_maps::types::{
-    IgnoreListIter, NameIter, RewriteOptions, SourceContentsIter, SourceIter, SourceMap, Token,
-    TokenIter,
+    IgnoreListIter, MapLists, NameIter, RewriteOptions, SourceContentsIter, SourceIter, SourceMap,
+    Token, TokenIter,
 };
 pub use sourcemap_tokens::tokens::RawToken;

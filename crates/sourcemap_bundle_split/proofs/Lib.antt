@@ -7,3 +7,4 @@ pub mod MovedLemmas
 pub mod NumberLemmas
 pub mod SplitLemmas
 pub mod TableLemmas
+pub mod WellFormedLemmas

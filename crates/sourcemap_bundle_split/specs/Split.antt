@@ -1,15 +1,16 @@
 -- Split bundles, and the items that their iterators return. An item is the name, the text and the map of a module, or
 -- an error.
 use Rattle.std.specs.Prelude.{◌≡◌, ◌≤◌, ℕ, ◌&&◌, if◌then◌else◌, List, [], ◌∷◌, ◌++◌, codes, length, map, filter_map}
-use Rattle.std.specs.Prelude.{slice_get, Option, Some, None, is_some, MatchOption, Result, Ok, Err, string_bytes}
+use Rattle.std.specs.Prelude.{slice_get, Option, Some, None, is_some, MatchOption, Result, Ok, Err, IfOk, string_bytes}
 use Rattle.std.specs.Fmt.{decimal}
+use Rattle.std.specs.List.{AllByRecursion}
 use Rattle.std.specs.Str.{is_utf8}
 use Rattle.std.specs.declared.alloc.Global.{Global}
 use Rattle.std.specs.declared.string.String.{String}
 use Rattle.sourcemap_errors.specs.Answer.{Gives}
 use Rattle.sourcemap_errors.specs.declared.errors.Error.{Error}
 use Rattle.sourcemap_errors.specs.declared.errors.Error.TheVariants.{InvalidRamBundleEntry, NotARamBundle}
-use Rattle.sourcemap_map_regular.specs.Map.{MapValue, meaning}
+use Rattle.sourcemap_map_regular.specs.Map.{IsWellFormed, MapValue, meaning}
 use Rattle.sourcemap_index_model.specs.Decode.{Then}
 use Rattle.sourcemap_index_model.specs.Flat.{FlatAnswer}
 use Rattle.sourcemap_index_model.specs.MapTree.{IndexValue, index_tree}
@@ -93,6 +94,10 @@ Splits i modules answer =
 pub record HasFewTexts (flat : MapValue) : Type 0 where
   pub sources : length flat.sources ≤ 4294967295
   pub names : length flat.names ≤ 4294967295
+
+-- the map of each item that is no error is well-formed
+abbrev pub HaveWellFormedMaps : List (Result ModuleParts Error) → Type 0
+HaveWellFormedMaps dues = AllByRecursion (λ due. IfOk due (λ parts. IsWellFormed parts.map)) dues
 
 -- A call of `next` changes an iterator from `s` to `t`. `rest` lists the items that an iterator has still to return.
 -- The call returns the first item of `rest s`, or the error `OutOfMemory` instead of this item. In both cases `rest t`

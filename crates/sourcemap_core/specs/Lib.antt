@@ -11,6 +11,7 @@ pub use Rattle.sourcemap_compose.specs.Stretches
 pub use Rattle.sourcemap_compose.specs.Composition
 pub use Rattle.sourcemap_compose.specs.Moved
 pub use Rattle.sourcemap_line_index.specs.LineIndex
+pub use Rattle.sourcemap_line_index.specs.Probe
 pub use Rattle.sourcemap_line_index.specs.TokenList
 pub use Rattle.sourcemap_mappings.specs.Segment
 pub use Rattle.sourcemap_mappings.specs.Read as Mappings

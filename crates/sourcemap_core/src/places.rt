@@ -1,3 +1,3 @@
 //! Absolute paths of files as URLs, and back.
 
-pub use sourcemap_file_urls::places::{path_url, url_path};
+pub use sourcemap_file_urls::places::{ESCAPED, path_url, url_path};

@@ -1,10 +1,16 @@
-pub use Rattle.sourcemap_records.specs.Detection
+pub use Rattle.sourcemap_errors.specs.Answer
+pub use Rattle.sourcemap_errors.specs.Due
+pub use Rattle.sourcemap_errors.specs.Errors
 pub use Rattle.sourcemap_headers.specs.DataUrl
 pub use Rattle.sourcemap_headers.specs.DebugId
 pub use Rattle.sourcemap_headers.specs.Header
 pub use Rattle.sourcemap_headers.specs.HeaderReader
+pub use Rattle.sourcemap_records.specs.Bytes
+pub use Rattle.sourcemap_records.specs.Detection
 pub use Rattle.sourcemap_records.specs.Field
 pub use Rattle.sourcemap_records.specs.Jsontypes
+pub use Rattle.sourcemap_file_urls.specs.Places
+pub use Rattle.sourcemap_file_urls.specs.Urls
 pub use Rattle.sourcemap_references.specs.Reference
 pub use Rattle.sourcemap_references.specs.References
 pub use Rattle.sourcemap_references.specs.Resolution

@@ -4,6 +4,8 @@
 
 pub mod decoder;
 pub mod detector;
+pub mod laws;
 
+pub use sourcemap_errors::errors;
 pub use sourcemap_headers::data_url;
 pub use sourcemap_records::jsontypes;

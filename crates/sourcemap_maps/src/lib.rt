@@ -4,5 +4,9 @@
 pub mod builder;
 pub mod decoder;
 pub mod encoder;
+pub mod laws;
 pub mod sourceview;
 pub mod types;
+
+pub use sourcemap_core::{compose, errors};
+pub use sourcemap_records::jsontypes;

@@ -3,6 +3,8 @@
 pub use sourcemap_map_regular::iterators::{
     IgnoreListIter, NameIter, SourceContentsIter, SourceIter, TokenIter,
 };
+pub use sourcemap_map_regular::lists::MapLists;
 pub use sourcemap_map_regular::map::SourceMap;
 pub use sourcemap_map_regular::token::Token;
 pub use sourcemap_map_rewrite::options::RewriteOptions;
+pub use sourcemap_tokens::tokens::RawToken;

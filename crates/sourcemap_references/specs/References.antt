@@ -1,7 +1,7 @@
 -- The reference and the URL in a `SourceMapRef`, and the results of a search for a reference.
-use Rattle.std.specs.Prelude.{◌≡◌, ℕ, List, Option, None, Some, Result, Ok, Err, IfSome, option_map, string_bytes}
+use Rattle.std.specs.Prelude.{◌≡◌, ◌≢◌, ℕ, List, Option, None, Some, Result, Ok, Err, IfSome, option_map, string_bytes}
 use Rattle.std.specs.IoError.{error_kind}
-use Rattle.std.specs.declared.io.ErrorKind.TheVariants.{InvalidData}
+use Rattle.std.specs.declared.io.ErrorKind.TheVariants.{InvalidData, Interrupted}
 use Rattle.sourcemap_errors.specs.Answer.{UnlessMemory}
 use Rattle.sourcemap_errors.specs.Errors.{FromIo}
 use Rattle.sourcemap_errors.specs.declared.errors.Error.{Error}
@@ -32,9 +32,10 @@ abbrev pub Locates : Result (Option SourceMapRef) Error → Option (Option Refer
 Locates (Ok found) due = due ≡ Some (option_map reference found)
 Locates (Err e) due = UnlessMemory e ((due ≡ None) × IsInvalidData e)
 
--- an error of a read, or of a search in a reader: `OutOfMemory`, or `Io` of any kind except `OutOfMemory`
+-- an error of a read, or of a search in a reader: `OutOfMemory`, or `Io` of any kind except `OutOfMemory` and
+-- `Interrupted`, since interrupted reads are retried
 abbrev pub IsReadError : Error → Type 0
-IsReadError (Io cause) = FromIo cause (Io cause)
+IsReadError (Io cause) = FromIo cause (Io cause) × (error_kind cause ≢ Interrupted)
 IsReadError e = UnlessMemory e ⊥
 
 -- what a search in a reader returns. If `known` has the bytes of the reader, an `Ok` has the `first_reference` of these

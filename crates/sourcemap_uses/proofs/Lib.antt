@@ -1,9 +1,14 @@
 pub mod BuildingLemmas
+pub mod ComposingLemmas
 pub mod DataUrlsLemmas
 pub mod FindingLemmas
 pub mod FlatteningLemmas
 pub mod LinkingLemmas
 pub mod MergingLemmas
+pub mod RecordsLemmas
 pub mod RefusalLemmas
+pub mod RegularLemmas
 pub mod RewritingLemmas
 pub mod SplittingLemmas
+pub mod TracingLemmas
+pub mod ValuesLemmas

@@ -1,20 +1,23 @@
 -- Rewriting that removes names and contents, and rewriting with default options.
 use Rattle.std.proofs.Common.{◌≡◌, ◌∙◌, refl, sym, ap, subst, ℕ, ◌<◌, List, [], ◌∷◌, map, length, false, Option, Some}
-use Rattle.std.proofs.Common.{None, option_map, Result, Ok, Err, IfOk, IsOkUnless}
+use Rattle.std.proofs.Common.{None, option_map, Result, Ok, Err, IfErr, IfOk, IfSome, IsOkUnless, inl, inr}
 use Rattle.sourcemap.specs.Answer.{Gives, IsAnswer, UnlessMemory}
+use Rattle.sourcemap.specs.AnyMap.{AnswersLess, MeansFlatLess, RewriteAnswer}
 use Rattle.sourcemap.specs.Due.{Gives-given}
 use Rattle.sourcemap.specs.Encoder.{ReadsBack, Restores}
+use Rattle.sourcemap.specs.Flat.{FlatAnswer}
 use Rattle.sourcemap.specs.Prefixes.{without_prefix}
 use Rattle.sourcemap.specs.Reading.{BytesHaveResult, RegularDecodes}
 use Rattle.sourcemap.specs.Rewrite.{IsDefault, LacksFolder, MeansLess, no_removal, removal_of, rewritten, Removal}
 use Rattle.sourcemap.specs.Rewrite.{without_removed, used_sources, Gives-rewritten, Rewrites, lacks_none}
 use Rattle.sourcemap.specs.Rewrite.{without_loading}
+use Rattle.sourcemap.specs.Trees.{MapTree, meaning as meaning_of}
 use Rattle.sourcemap.specs.Types.{MapValue, Meaning, contents_of, meaning}
 use Rattle.sourcemap.specs.declared.errors.Error.{Error}
 use Rattle.sourcemap.specs.declared.errors.Error.TheVariants.{OutOfMemory}
 use Rattle.sourcemap.specs.declared.types.RewriteOptions.{RewriteOptions}
 use Rattle.sourcemap_uses.proofs.RefusalLemmas.{memory_alone, unless_memory}
-use Rattle.sourcemap_uses.specs.Publishing.{Publishes, without_name}
+use Rattle.sourcemap_uses.specs.Publishing.{IsBareFlat, Publishes, without_name}
 
 -- removes names and source contents; the sources keep their prefixes
 abbrev no_details : Removal
@@ -73,6 +76,52 @@ published_as m bare bytes text decodes is less (back, reads, restored) = (
         ∙ ap (λ m. contents_of m id) is;
   },
 )
+
+-- a flat map that was rewritten without names and contents
+module _ (options : RewriteOptions) (t : MapTree) (names : options.with_names ≡ false)
+    (contents : options.with_source_contents ≡ false) (no_files : options.load_local_source_contents ≡ false)
+    (prefixes : options.strip_prefixes.now ≡ []) where
+  bare_flat : (bare : MapValue) → RewriteAnswer options t (Ok bare) → MeansFlatLess (removal_of options) t bare
+      → IsBareFlat t bare
+  bare_flat bare (inl (whole, flat_is, rewrites)) (flat, means_of, less) =
+      let is = bare_due options whole bare names contents no_files prefixes rewrites in (
+        flat,
+        means_of,
+        record {
+          meaning = means_but_names flat bare (but_details options flat bare names contents prefixes less);
+          names = ap (λ m. m.names) is;
+          contents = λ id small. ap (λ m. contents_of m id) is;
+        },
+      )
+  bare_flat bare (inr nothing) means = absurd nothing
+
+  pub flat_bare : (r : Result MapValue Error) → IsAnswer (λ m. m) (RewriteAnswer options t) r
+      → IfOk r (MeansFlatLess (removal_of options) t) → IfOk r (IsBareFlat t)
+  flat_bare (Ok bare) answered means = bare_flat bare answered means
+  flat_bare (Err e) answered means = tt
+
+  bare_at : (whole new : MapValue) (p : ℕ × ℕ) (says : Option Meaning)
+      → IfSome says (λ says. meaning new p ≡ Some (without_removed no_details whole says))
+      → IfSome says (λ says. meaning new p ≡ Some (without_name says))
+  bare_at whole new p None same = tt
+  bare_at whole new p (Some says) same = same ∙ ap Some (but_the_name whole says)
+
+  pub flat_answers : (bare : MapValue) → AnswersLess (removal_of options) t bare → (p : ℕ × ℕ)
+      → IfSome (meaning_of t p) (λ says. meaning bare p ≡ Some (without_name says))
+  flat_answers bare less p =
+      let bare_less = subst (λ removal. AnswersLess removal t bare) (details options names contents prefixes) less in
+      bare_at bare_less.0 bare p (meaning_of t p) (bare_less.2 p)
+
+  by_step : (e : Error) → RewriteAnswer options t (Err e) → FlatAnswer t (Err e)
+  by_step e (inl (whole, flat_is, lacks)) = absurd (lacks_none options e no_files lacks)
+  by_step e (inr refused) = refused
+
+  -- the only errors are those of flattening and out of memory
+  pub flat_refused : (r : Result MapValue Error) → IsAnswer (λ m. m) (RewriteAnswer options t) r
+      → IfErr r (λ e. UnlessMemory e (FlatAnswer t (Err e)))
+  flat_refused (Ok bare) answered = tt
+  flat_refused (Err e) answered =
+      unless_memory e (RewriteAnswer options t (Err e)) (FlatAnswer t (Err e)) (by_step e) answered
 
 -- if the options load no contents, the only error of `rewrite` is out of memory
 pub bare_refused : (options : RewriteOptions) (e : Error) (P : Type 0) → options.load_local_source_contents ≡ false

@@ -1,16 +1,21 @@
 -- The first module of a split bundle, and the meaning of its map.
 use Rattle.std.proofs.Common.{◌≡◌, ◌∙◌, refl, sym, ap, ℕ, List, [], ◌∷◌, ◌&&◌, Bool, true, false, is_some, Result, Ok}
-use Rattle.std.proofs.Common.{Err, IfOk, IsOkUnless, String, string_bytes, inl, inr, map}
+use Rattle.std.proofs.Common.{Err, IfErr, IfOk, IfSome, IsOkUnless, Option, Some, None, String, string_bytes, inl, inr}
+use Rattle.std.proofs.Common.{map, subst}
 use Rattle.std.specs.Str.{is_utf8}
 use Rattle.std.specs.declared.alloc.Global.{Global}
+use Rattle.std.specs.declared.vec.Vec.{Vec}
 use Rattle.sourcemap.specs.Answer.{IsAnswer, UnlessMemory}
 use Rattle.sourcemap.specs.BundleModules.{ModuleValue}
-use Rattle.sourcemap.specs.Split.{ModuleParts, SplitValue, Splits, due_of, dues_in, parts_at, parts_on, with_offsets}
+use Rattle.sourcemap.specs.Encoder.{ReadsBack, Restores}
+use Rattle.sourcemap.specs.Reading.{BytesHaveResult, RegularDecodes}
+use Rattle.sourcemap.specs.Split.{HaveWellFormedMaps, ModuleParts, SplitValue, Splits, due_of, dues_in, parts_at}
+use Rattle.sourcemap.specs.Split.{parts_on, with_offsets}
 use Rattle.sourcemap.specs.Trees.{IndexValue}
-use Rattle.sourcemap.specs.Types.{MapValue, meaning}
+use Rattle.sourcemap.specs.Types.{IsWellFormed, MapValue, meaning}
 use Rattle.sourcemap.specs.declared.errors.Error.{Error}
 use Rattle.sourcemap.specs.declared.errors.Error.TheVariants.{OutOfMemory}
-use Rattle.sourcemap_uses.specs.Splitting.{IsFirstModule, TracesFirst, first_text, printed}
+use Rattle.sourcemap_uses.specs.Splitting.{IsFirstModule, IsFirstRefused, StoresFirst, TracesFirst, first_text, printed}
 use Rattle.sourcemap_uses.proofs.RefusalLemmas.{unless_memory}
 
 module _ (i : IndexValue) (modules : List (Result ModuleValue Error)) (split : SplitValue) (flat : MapValue)
@@ -80,3 +85,23 @@ module _ (i : IndexValue) (modules : List (Result ModuleValue Error)) (p : ℕ �
   text_traced due others parts (Ok text) is gives same memory =
       rw same (first_traced (Ok parts ∷ others) (is ∙ ap (λ d. d ∷ others) gives))
   text_traced due others parts (Err e) is gives same memory = rw memory tt
+
+module _ (i : IndexValue) (modules : List (Result ModuleValue Error)) (split : SplitValue)
+    (splits : Splits i modules (Ok split)) (due : Result ModuleParts Error) (others : List (Result ModuleParts Error))
+    (is : dues_in split ≡ due ∷ others) where
+  -- the text of the first item's map reads back
+  pub first_stored : (parts : ModuleParts) → due ≡ Ok parts → HaveWellFormedMaps (dues_in split)
+      → (r : Result (Option (Vec ℕ Global)) Error)
+      → IfOk r (λ text. IfSome text (λ text. IsWellFormed parts.map
+      → ReadsBack (BytesHaveResult RegularDecodes text.items) (Restores parts.map)))
+      → IfOk r (λ text. IfSome text (λ text. StoresFirst i modules text.items))
+  first_stored parts gives well (Ok (Some text)) reads =
+      let first : dues_in split ≡ Ok parts ∷ others = is ∙ ap (λ d. d ∷ others) gives in
+      let all : HaveWellFormedMaps (Ok parts ∷ others) = subst HaveWellFormedMaps first well in
+      (split, parts, others, splits, first, reads all.0)
+  first_stored parts gives well (Ok None) reads = tt
+  first_stored parts gives well (Err e) reads = tt
+
+  pub first_refused : (e : Error) → UnlessMemory e (due ≡ Err e) → UnlessMemory e (IsFirstRefused i modules e)
+  first_refused e = unless_memory e (due ≡ Err e) (IsFirstRefused i modules e)
+      (λ same. inr (split, others, splits, is ∙ ap (λ d. d ∷ others) same))

@@ -1,6 +1,8 @@
 -- Maps without names and source contents.
 use Rattle.std.specs.Prelude.{◌≡◌, ℕ, ◌<◌, List, [], length, None, option_map, Ok}
+use Rattle.sourcemap.specs.Flat.{flat}
 use Rattle.sourcemap.specs.Reading.{BytesHaveResult, RegularDecodes}
+use Rattle.sourcemap.specs.Trees.{MapTree}
 use Rattle.sourcemap.specs.Types.{MapValue, Meaning, meaning, contents_of}
 
 abbrev pub without_name : Meaning → Meaning
@@ -19,3 +21,7 @@ abbrev pub Publishes : (old new : List ℕ) → Type 0
 Publishes old new =
     (m n : MapValue) × BytesHaveResult RegularDecodes old (Ok m) × BytesHaveResult RegularDecodes new (Ok n)
     × IsBare m n
+
+-- `t` can be flattened, and `IsBare` holds of the flat map and the new map
+abbrev pub IsBareFlat : MapTree → (new : MapValue) → Type 0
+IsBareFlat t new = (whole : MapValue) × (flat t ≡ Ok whole) × IsBare whole new

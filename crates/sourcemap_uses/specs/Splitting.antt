@@ -1,9 +1,11 @@
 -- The lookup of a position in the map of a bundle's first module, and in the flattened index map.
-use Rattle.std.specs.Prelude.{◌≡◌, ℕ, true, List, [], ◌∷◌, filter_map, Option, Some, None, Result, Ok, Err}
+use Rattle.std.specs.Prelude.{◌≡◌, ◌⊎◌, ℕ, true, List, [], ◌∷◌, filter_map, Option, Some, None, Result, Ok, Err}
 use Rattle.sourcemap.specs.BundleModules.{ModuleValue}
 use Rattle.sourcemap.specs.Flat.{flat as flat_of}
 use Rattle.sourcemap.specs.ModuleMap.{end_of, is_in}
-use Rattle.sourcemap.specs.Split.{ModuleParts, Splits, dues_in, with_first_line}
+use Rattle.sourcemap.specs.Encoder.{ReadsBack, Restores}
+use Rattle.sourcemap.specs.Reading.{BytesHaveResult, RegularDecodes}
+use Rattle.sourcemap.specs.Split.{ModuleParts, SplitValue, Splits, dues_in, with_first_line}
 use Rattle.sourcemap.specs.Token.{token_text}
 use Rattle.sourcemap.specs.Tokens.{destination, position_cmp}
 use Rattle.sourcemap.specs.TreeDecoder.{Then}
@@ -49,3 +51,17 @@ pub record IsInModule (flat : MapValue) (found : ModuleValue) (first : ℕ) (p :
   pub inside : is_in first (end_of first found.text) p ≡ true
   pub closest : closest_item destination position_cmp flat.tokens p ≡ Some token
   pub within : is_in first (end_of first found.text) (destination token) ≡ true
+
+-- the bundle can be split, its first item is no error, and `text` decodes to a map that restores the map of this item
+abbrev pub StoresFirst : IndexValue → List (Result ModuleValue Error) → (text : List ℕ) → Type 0
+StoresFirst i modules text =
+    (split : SplitValue) × (parts : ModuleParts) × (others : List (Result ModuleParts Error))
+    × Splits i modules (Ok split) × (dues_in split ≡ Ok parts ∷ others)
+    × ReadsBack (BytesHaveResult RegularDecodes text) (Restores parts.map)
+
+-- the error of splitting the bundle, or the error that is its first item
+abbrev pub IsFirstRefused : IndexValue → List (Result ModuleValue Error) → Error → Type 0
+IsFirstRefused i modules e =
+    Splits i modules (Err e)
+    ⊎ ((split : SplitValue) × (others : List (Result ModuleParts Error))
+    × Splits i modules (Ok split) × (dues_in split ≡ Err e ∷ others))

@@ -1,13 +1,19 @@
 //! Positions in the modules of a RAM bundle.
-ghost use Rattle.std.specs.Prelude.{◌≡◌, ℕ, ◌+◌, IfOk, IsOkUnless, string_bytes};
-ghost use Rattle.sourcemap.specs.Answer.{IsAnswer};
+ghost use Rattle.std.specs.Prelude.{◌≡◌, ℕ, ◌+◌, IfErr, IfOk, IfSome, IsOkUnless, string_bytes};
+ghost use Rattle.sourcemap.specs.Answer.{IsAnswer, UnlessMemory};
 ghost use Rattle.sourcemap.specs.AnyMap.{index_value};
 ghost use Rattle.sourcemap.specs.BundleModules.{ModuleValue, modules_of};
-ghost use Rattle.sourcemap.specs.Types.{MapValue, meaning};
+ghost use Rattle.sourcemap.specs.Encoder.{ReadsBack, Restores};
+ghost use Rattle.sourcemap.specs.Reading.{BytesHaveResult, RegularDecodes};
+ghost use Rattle.sourcemap.specs.Trees.{IsWellFormed, index_tree};
+ghost use Rattle.sourcemap.specs.Types.{IsWellFormed as IsWellFormedRegular, MapValue, meaning};
 ghost use Rattle.sourcemap.specs.declared.errors.Error.TheVariants.{OutOfMemory};
-ghost use Rattle.sourcemap_uses.specs.Splitting.{IsFirstModule, IsInModule, TracesFirst, printed};
+ghost use Rattle.sourcemap_uses.specs.Splitting.{IsFirstModule, IsInModule, IsFirstRefused, StoresFirst, TracesFirst, printed};
 
-use sourcemap::laws::module_means_what_flat_means;
+use sourcemap::encoder::encode_to_vec;
+use sourcemap::laws::{
+    module_maps_are_well_formed, module_means_what_flat_means, written_maps_read_back,
+};
 use sourcemap::ram_bundle::{RamBundle, split_ram_bundle};
 use sourcemap::{Result, SourceMap, SourceMapIndex};
 use std::alloc::Global;
@@ -60,4 +66,42 @@ fn text_at(alloc: Global, map: &SourceMap, line: u32, col: u32) -> Result<String
         None => Ok(String::new(alloc)),
         Some(token) => Ok(token.to_string(alloc)?),
     }
+}
+
+/// Encodes the map of the first module of a bundle. If the index map is well-formed, as every
+/// decoded map is, the bytes decode to a map with the meanings of the module's map. Returns `None`
+/// if there is no module. A module whose offset in `x_facebook_offsets` is null is skipped, unless
+/// reading the module from the bundle fails.
+///
+/// Returns the error if `split_ram_bundle` fails, or if the first item of its iterator is an error.
+/// Any other error is `OutOfMemory`.
+pub fn store_first_module<'a>(
+    alloc: Global,
+    bundle: &'a RamBundle<'a>,
+    map: &SourceMapIndex,
+) -> Result<Option<Vec<u8>>>
+    ensures reads_back { IsWellFormed (index_tree (index_value map.now)) → IfOk result (λ text.
+        IfSome text
+        (λ text. StoresFirst (index_value map.now) (modules_of bundle.now) text.items)) }
+    ensures error { IfErr result (λ e. UnlessMemory e
+        (IsFirstRefused (index_value map.now) (modules_of bundle.now) e)) }
+{
+    module_maps_are_well_formed();
+    let mut modules = split_ram_bundle(alloc, bundle, map)?;
+    match modules.next() {
+        None => Ok(None),
+        Some(Err(refused)) => Err(refused),
+        Some(Ok((_, _, map))) => stored(alloc, &map),
+    }
+}
+
+fn stored(alloc: Global, map: &SourceMap) -> Result<Option<Vec<u8>>>
+    ensures text { IfOk result (λ text. IfSome text (λ text. IsWellFormedRegular map.now
+        → ReadsBack (BytesHaveResult RegularDecodes text.items) (Restores map.now))) }
+    ensures memory { IsOkUnless result OutOfMemory }
+{
+    written_maps_read_back();
+    // prover: clauses of a call after `?`
+    let text = encode_to_vec(alloc, map)?;
+    Ok(Some(text))
 }

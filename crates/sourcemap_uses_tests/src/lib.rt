@@ -2,4 +2,8 @@
 #![tactic(auto)]
 
 #[cfg(test)]
+mod facades;
+#[cfg(test)]
+mod stored;
+#[cfg(test)]
 mod uses;

@@ -24,7 +24,7 @@ use sourcemap_uses::publishing::publish;
 use sourcemap_uses::quick::quick_lookup;
 use sourcemap_uses::saving::save;
 use sourcemap_uses::shrinking::{lookup_once_shrunk, shrink};
-use sourcemap_uses::splitting::trace_first_module;
+use sourcemap_uses::splitting::{store_first_module, trace_first_module};
 use std::alloc::Global;
 use std::rt::Files;
 
@@ -551,11 +551,15 @@ const BUNDLE_MAP: &str = concat!(
     r#""mappings":";;;;;AAAA,EAAE;AAAA"}}],"x_facebook_offsets":[5]}"#,
 );
 
-fn trace_position(alloc: Global, line: u32, col: u32) -> Result<String> {
-    let map = box_result(
+fn bundle_map(alloc: Global) -> Result<Box<SourceMapIndex>> {
+    box_result(
         alloc,
         SourceMapIndex::from_slice(alloc, BUNDLE_MAP.as_bytes()),
-    )?;
+    )
+}
+
+fn trace_position(alloc: Global, line: u32, col: u32) -> Result<String> {
+    let map = bundle_map(alloc)?;
     let bundle = RamBundle::parse_indexed_from_slice(INDEXED_BUNDLE)?;
     trace_first_module(alloc, &bundle, &*map, line, col)
 }
@@ -564,4 +568,17 @@ fn trace_position(alloc: Global, line: u32, col: u32) -> Result<String> {
 fn a_position_in_a_module_is_traced(rt: HostRuntime) -> Checked {
     check("column 1", trace_position(rt.alloc(), 0, 1), "a.js:0:0")?;
     check("column 3", trace_position(rt.alloc(), 0, 3), "a.js:0:2")
+}
+
+fn stored_position(alloc: Global, line: u32, col: u32) -> Result<String> {
+    let map = bundle_map(alloc)?;
+    let bundle = RamBundle::parse_indexed_from_slice(INDEXED_BUNDLE)?;
+    let text = store_first_module(alloc, &bundle, &*map)?.unwrap_or(Vec::new(alloc));
+    text_or_empty(alloc, lookup_text(alloc, text.as_slice(), line, col))
+}
+
+#[test]
+fn the_map_of_a_module_is_stored(rt: HostRuntime) -> Checked {
+    check("column 1", stored_position(rt.alloc(), 0, 1), "a.js:0:0")?;
+    check("column 3", stored_position(rt.alloc(), 0, 3), "a.js:0:2")
 }
