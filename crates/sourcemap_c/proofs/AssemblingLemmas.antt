@@ -6,7 +6,7 @@ use Rattle.sourcemap_c_handles.specs.declared.errors.ErrorReport.{ErrorReport}
 use Rattle.sourcemap_c_handles.specs.declared.errors.Failure.{Failure}
 use Rattle.sourcemap_c_handles.specs.declared.errors.Failure.TheVariants.{Library}
 use Rattle.sourcemap_c_handles.specs.declared.held.Held.{Held}
-use Rattle.sourcemap_c.proofs.CodesLemmas.{reports_positive}
+use Rattle.sourcemap_c_handles.proofs.ErrorsLemmas.{reports_positive}
 use Rattle.sourcemap_c.specs.Assembling.{Empties}
 
 code_of_memory : (code : ℕ) (old new : ErrorReport) → Reports (Library OutOfMemory) code old new → code ≡ 20

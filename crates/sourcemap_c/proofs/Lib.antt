@@ -3,7 +3,6 @@ pub mod OpeningLemmas
 pub mod ReplacingLemmas
 pub mod IgnoreListsLemmas
 pub mod BuildingLemmas
-pub mod SettersLemmas
 pub mod Steps
 pub mod Lending
 pub mod AssemblingLemmas

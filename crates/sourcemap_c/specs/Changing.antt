@@ -1,5 +1,5 @@
 -- Changes of the map in a handle, and their errors.
-use Rattle.std.specs.Prelude.{◌≡◌, ◌<◌, ◌≤◌, ℕ, List, [], length, slice_set, Option, Some, None, IsSomeAnd, Result, Ok, Err}
+use Rattle.std.specs.Prelude.{◌≡◌, ◌<◌, ◌≤◌, ℕ, List, Bool, [], length, slice_set, Option, Some, None, IsSomeAnd, Result, Ok, Err}
 use Rattle.std.specs.BTreeSet.{insert_key}
 use Rattle.std.specs.Option.{option_copied}
 use Rattle.std.specs.Ordering.{nat_cmp}
@@ -16,9 +16,11 @@ use Rattle.sourcemap_index_model.specs.Shift.{HaveRowsLeft, shifted}
 use Rattle.sourcemap_c_handles.specs.declared.errors.Failure.{Failure}
 use Rattle.sourcemap_c_handles.specs.declared.errors.Failure.TheVariants.{Library, Absent, WrongKind, PastLimit}
 use Rattle.sourcemap_c_handles.specs.declared.held.Held.{Held}
-use Rattle.sourcemap_c.specs.Kinds.{tree_in}
+use Rattle.sourcemap_c.specs.Codes.{OrNoText}
+use Rattle.sourcemap_c.specs.Kinds.{IsAsBefore, tree_in}
 use Rattle.sourcemap_c.specs.declared.changing.Change.{Change}
 use Rattle.sourcemap_c.specs.declared.changing.Change.TheVariants.{File, Root, Id, Source, Contents, Ignored, NoNames, Down}
+use Rattle.sourcemap_c.specs.declared.changing.SourceChange.{SourceChange}
 
 abbrev pub with_held : LeafMap → MapValue → LeafMap
 with_held (regular _) m = regular m
@@ -85,6 +87,17 @@ abbrev pub IsAdjustedBy : Option MapTree → MapTree → Result MapTree Failure 
 IsAdjustedBy (Some (leaf (regular adjustment))) t due = IsAdjusted adjustment t due
 IsAdjustedBy _ t due = due ≡ Err WrongKind
 
+-- the map with a change to the source with this id
+abbrev pub with_source_change : ℕ → SourceChange → MapValue → MapValue
+with_source_change id (SourceChange.Text source) = λ m. record m { sources = slice_set m.sources id source.now }
+with_source_change id (SourceChange.Contents contents) = λ m. record m {
+  contents = slice_set (fitted (length m.sources) m.contents) id (option_copied contents);
+}
+with_source_change id SourceChange.Ignored = λ m. record m { ignored = insert_key nat_cmp m.ignored id }
+
+abbrev pub ChangesSource : ℕ → SourceChange → MapTree → Result MapTree Failure → Type 0
+ChangesSource id change = OnSource id (with_source_change id change)
+
 abbrev pub ChangesTo : Change → MapTree → Result MapTree Failure → Type 0
 ChangesTo (File file) = HasFile (option_copied file)
 ChangesTo (Root root) = HasRoot (option_copied root)
@@ -116,3 +129,15 @@ HoldsNew Becomes old new = IsSomeAnd (tree_in old) (λ t. IsSomeAnd (tree_in new
 abbrev pub FailsAs : (MapTree → Result MapTree Failure → Type 0) → Option MapTree → Failure → Type 0
 FailsAs Becomes (Some t) failure = Becomes t (Err failure)
 FailsAs Becomes None failure = failure ≡ WrongKind
+
+-- The contract of a call that changes the map in a handle as `Becomes` says. `Says` is `Does` of a result, or `Answers`
+-- of a code and a report.
+abbrev pub ChangesMap : (Says : Type 0 → (Failure → Type 0) → Type 0 → Type 0)
+    → (MapTree → Result MapTree Failure → Type 0) → (old new : Option Held) → Type 0
+ChangesMap Says Becomes old new = Says (HoldsNew Becomes old new) (FailsAs Becomes (tree_in old)) (IsAsBefore old new)
+
+-- the same for a call that sets a text, which may not be UTF-8
+abbrev pub SetsText : (Says : Type 0 → (Failure → Type 0) → Type 0 → Type 0) → (present : Bool) → (text : List ℕ)
+    → (MapTree → Result MapTree Failure → Type 0) → (old new : Option Held) → Type 0
+SetsText Says present text Becomes old new =
+    Says (HoldsNew Becomes old new) (OrNoText present text (FailsAs Becomes (tree_in old))) (IsAsBefore old new)

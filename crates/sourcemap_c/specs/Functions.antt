@@ -13,9 +13,9 @@ use Rattle.sourcemap_c.specs.Codes.{IsAbsentUnlessOk, ReturnsValue}
 
 -- `held` has a text. If the sections of the map are sorted at every level (`IsInOrder`), this text is the trace of
 -- `positions` (`trace_of`). Without a map, `IsTrace` is false.
-abbrev pub IsTrace : Option MapTree → (positions : List ℕ) → Option (List ℕ) → Type 0
-IsTrace None positions held = ⊥
-IsTrace (Some t) positions held =
+abbrev pub IsTrace : (positions : List ℕ) → Option MapTree → Option (List ℕ) → Type 0
+IsTrace positions None held = ⊥
+IsTrace positions (Some t) held =
     (text : List ℕ) × (held ≡ Some text) × (IsInOrder t → text ≡ trace_of (meaning t) positions)
 
 -- the call returned the code `due`, and wrote nothing

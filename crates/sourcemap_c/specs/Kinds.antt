@@ -1,5 +1,5 @@
 -- Kinds and values of handles.
-use Rattle.std.specs.Prelude.{◌≡◌, ℕ, List, Option, Some, None, option_map}
+use Rattle.std.specs.Prelude.{◌≡◌, ◌⊎◌, ℕ, List, Option, Some, None, option_map}
 use Rattle.std.specs.Borrow.{Bor}
 use Rattle.std.specs.Arc.{arc_value, arc_with_value}
 use Rattle.std.specs.declared.alloc.Global.{Global}
@@ -37,11 +37,13 @@ bytes_in _ = None
 abbrev pub IsSameMap : (old new : Arc DecodedMap Global) → Type 0
 IsSameMap old new = (new ≡ arc_with_value old (arc_value new)) × (map_tree (arc_value new) ≡ map_tree (arc_value old))
 
--- The value of a handle is unchanged. If `old` and `new` are both maps, `IsSameMap` holds for these maps. Otherwise
--- `new` equals `old`.
+abbrev pub AreSameMaps : (old new : Option Held) → Type 0
+AreSameMaps (Some (Map old)) (Some (Map new)) = IsSameMap old new
+AreSameMaps _ _ = ⊥
+
+-- the value of a handle is unchanged, or it is a map before and after, and `IsSameMap` holds for these maps
 abbrev pub IsAsBefore : (old new : Option Held) → Type 0
-IsAsBefore (Some (Map old)) (Some (Map new)) = IsSameMap old new
-IsAsBefore old new = new ≡ old
+IsAsBefore old new = (new ≡ old) ⊎ AreSameMaps old new
 
 abbrev pub tree_kind : MapTree → Kind
 tree_kind (leaf (regular _)) = Kind.Regular

@@ -15,6 +15,7 @@ use Rattle.sourcemap_references.specs.Resolution.{IsLongJoin, UnlessLong, resolv
 use Rattle.sourcemap_references.specs.declared.detector.SourceMapRef.{SourceMapRef}
 use Rattle.sourcemap_c.specs.Codes.{Does, IsNoText, NoError, OfLibrary}
 use Rattle.sourcemap_c.specs.Kinds.{bytes_in}
+use Rattle.sourcemap_c.specs.declared.references.Base.{Base}
 
 -- the handle has the URL of the reference, and `is_legacy` says whether the reference begins with `//@`
 abbrev pub IsReference : Reference → Option Held → Bool → Type 0
@@ -50,6 +51,11 @@ LeadsNowhere url base Due Absent = OfTexts url base Due (Ok None)
 LeadsNowhere url base Due WrongKind = ⊥
 LeadsNowhere url base Due PastLimit = ⊥
 
+-- the contract of a call that resolves the reference `url` against `base`; `Says` is `Does` or `Answers`
+abbrev pub Leads : (Says : Type 0 → (Failure → Type 0) → Type 0 → Type 0) → (url base : List ℕ)
+    → (Result (Option (List ℕ)) Error → Type 0) → (old new : Option Held) → Type 0
+Leads Says url base Due old new = Says (LeadsTo url base Due new) (LeadsNowhere url base Due) (new ≡ old)
+
 -- After success the handle has the resolved text. Otherwise the handle is unchanged. If resolving returned a text, the
 -- only failure is out of memory. If resolving returned `None`, the call fails with `Absent`. If resolving returned an
 -- error, the call fails with this error.
@@ -75,3 +81,7 @@ Resolves base url = UnlessLong (resolved base url) (IsLongJoin base url)
 -- if `url` and the parsed `file` URL together have 2^28 bytes or more. The only error is out of memory.
 abbrev pub ResolvesPath : (path url : List ℕ) → Result (Option (List ℕ)) Error → Type 0
 ResolvesPath path url = UnlessLong (resolved_path path url) (IsLongJoin (url_text path false) url)
+
+abbrev pub ResolvesBy : Base → (base url : List ℕ) → Result (Option (List ℕ)) Error → Type 0
+ResolvesBy Base.Url base url = Resolves base url
+ResolvesBy Base.Path base url = ResolvesPath base url

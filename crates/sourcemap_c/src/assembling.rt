@@ -93,10 +93,8 @@ fn add_section(
         (AreAsBefore (held_in sections.old) (held_in sections.new)) }
     ensures kept { held_in map.new ≡ held_in map.old }
 {
-    match section_of(alloc, start, has_url, url, has_map, map) {
-        Ok(section) => push_in(alloc, sections, section),
-        Err(failure) => Err(failure),
-    }
+    let section = section_of(alloc, start, has_url, url, has_map, map)?;
+    push_in(alloc, sections, section)
 }
 
 fn section_of(
@@ -112,28 +110,9 @@ fn section_of(
         (OrNoText has_url url.now (OfLibraryOrKind NoError (due ≡ None)) failure)) }
     ensures kept { held_in map.new ≡ held_in map.old }
 {
-    match text_if(has_url, url) {
-        Ok(url) => section_with(alloc, start, url, has_map, map),
-        Err(error) => Err(Failure::Library(error)),
-    }
-}
-
-fn section_with(
-    alloc: Global,
-    start: (u32, u32),
-    url: Option<&str>,
-    has_map: bool,
-    map: &mut Handle,
-) -> Outcome<SourceMapSection>
-    ensures made { let due = section_due start (option_copied url.entry) has_map (tree_in (held_in map.old)) in
-        MatchResult result (λ section. due ≡ Some (section_value section))
-        (λ failure. UnlessMemory failure (OfLibraryOrKind NoError (due ≡ None) failure)) }
-    ensures kept { held_in map.new ≡ held_in map.old }
-{
-    match copy_if(has_map, map) {
-        Ok(copy) => Ok(section_made(alloc, start, url, copy)?),
-        Err(failure) => Err(failure),
-    }
+    let url = text_if(has_url, url)?;
+    let copy = copy_if(has_map, map)?;
+    Ok(section_made(alloc, start, url, copy)?)
 }
 
 fn copy_if(given: bool, map: &mut Handle) -> Outcome<Option<DecodedMap>>
@@ -263,7 +242,7 @@ fn finish_sections(
     ensures emptied { Empties result (held_in sections.old) (held_in sections.new) }
     ensures other { list_in (held_in sections.old) ≡ None → held_in sections.new ≡ held_in sections.old }
 {
-    match parts_of(
+    let parts = parts_of(
         alloc,
         has_file,
         file,
@@ -271,10 +250,8 @@ fn finish_sections(
         offsets,
         has_paths,
         paths,
-    ) {
-        Ok(parts) => finish_with(alloc, sections, map, parts),
-        Err(failure) => Err(failure),
-    }
+    )?;
+    finish_with(alloc, sections, map, parts)
 }
 
 fn parts_of(
@@ -306,10 +283,9 @@ fn string_if(alloc: Global, given: bool, text: &[u8]) -> Outcome<Option<String>>
     ensures { MatchResult result (λ copy. option_map string_bytes copy ≡ text_if given text.now)
         (λ failure. UnlessMemory failure (IsNoTextIf given text.now failure)) }
 {
-    match text_if(given, text) {
-        Ok(Some(text)) => Ok(Some(String::from_str(alloc, text)?)),
-        Ok(None) => Ok(None),
-        Err(error) => Err(Failure::Library(error)),
+    match text_if(given, text)? {
+        Some(text) => Ok(Some(String::from_str(alloc, text)?)),
+        None => Ok(None),
     }
 }
 
@@ -343,10 +319,8 @@ fn paths_if(alloc: Global, given: bool, paths: &[&[u8]]) -> Outcome<Option<Vec<S
     if !given {
         return Ok(None);
     }
-    match texts_in(alloc, paths) {
-        Ok(texts) => Ok(Some(copies(alloc, texts.as_slice())?)),
-        Err(error) => Err(Failure::Library(error)),
-    }
+    let texts = texts_in(alloc, paths)?;
+    Ok(Some(copies(alloc, texts.as_slice())?))
 }
 
 fn copies(alloc: Global, texts: &[&str]) -> Result<Vec<String>>

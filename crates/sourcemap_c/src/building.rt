@@ -1,19 +1,21 @@
 //! Builders.
-ghost use Rattle.std.specs.Prelude.{◌≡◌, ◌<◌, ◌≤◌, Err, IfSome, IsSomeAnd, None, Ok, Some, is_some, length, map as list_map, option_map, slice_get, true};
+ghost use Rattle.std.specs.Prelude.{◌≡◌, ◌<◌, ◌≤◌, Err, IfSome, IsSomeAnd, None, Ok, OnErr, OnOk, Some, is_some, length, map as list_map, option_map, slice_get, true};
 ghost use Rattle.std.specs.Borrow.{sem};
 ghost use Rattle.std.specs.List.{All};
 ghost use Rattle.std.specs.Option.{option_copied};
 ghost use Rattle.std.specs.Str.{IsUtf8};
-ghost use Rattle.sourcemap_builder.specs.Builder.{built, empty_builder, with_name, with_source, with_token};
-ghost use Rattle.sourcemap_errors.specs.Answer.{Changes};
+ghost use Rattle.sourcemap_builder.specs.Builder.{built, empty_builder, with_token};
+ghost use Rattle.sourcemap_errors.specs.Answer.{Changes, Gives};
+ghost use Rattle.sourcemap_interning.specs.Interner.{id_for};
 ghost use Rattle.sourcemap_c_handles.specs.Handles.{EndsAsBefore, held_in};
 ghost use Rattle.sourcemap_c_handles.specs.Layout.{raw_token};
 ghost use Rattle.sourcemap_index_model.specs.MapTree.{leaf, regular};
-ghost use Rattle.sourcemap_c.specs.Building.{Adds, AddsAll, AddsNot, AreAdded, FailsStep, HasContents, HasId, HasRoot, HasSource, HoldsStep, Ignores, IsStripped, StepsTo, with_tokens};
+ghost use Rattle.sourcemap_c.specs.Building.{Adds, AddsAll, AddsNot, AddsText, AreAdded, ChangesSource, FailsStep, HasContents, HasId, HasRoot, HasSource, HoldsStep, Ignores, IsStripped, SetsText, Steps, StepsTo, texts_of, with_text, with_tokens};
 ghost use Rattle.sourcemap_c.specs.Codes.{Answers, Does, NoError, OfLibrary, OfLibraryOrKind, OrNoText, ReturnsValue, text_if};
 ghost use Rattle.sourcemap_c.specs.Kinds.{builder_in, tree_in};
 ghost use Rattle.sourcemap_c.specs.Replacing.{OrNoPrefix};
 
+use crate::changing::SourceChange;
 use crate::codes::{WRONG_KIND, id_if, put_text, text_if, text_in};
 use crate::kinds::put_map;
 use crate::replacing::texts_in;
@@ -33,6 +35,13 @@ enum Step<'a> {
     Prefixes(&'a [&'a str]),
     Contents(u32, Option<&'a str>),
     Ignored(u32),
+}
+
+/// The texts of a builder that have ids.
+#[derive(Clone, Copy)]
+enum Texts {
+    Sources,
+    Names,
 }
 
 /// Fills the handle with an empty builder. The name of the generated file is optional.
@@ -55,16 +64,7 @@ fn new_builder(alloc: Global, builder: &mut Handle, has_file: bool, file: &[u8])
     ensures { Does result (builder_in (held_in builder.new) ≡ Some (empty_builder (text_if has_file file.now)))
         (OrNoText has_file file.now (OfLibrary NoError)) (held_in builder.new ≡ held_in builder.old) }
 {
-    match text_if(has_file, file) {
-        Ok(file) => put_builder(alloc, builder, file),
-        Err(error) => Err(Failure::Library(error)),
-    }
-}
-
-fn put_builder(alloc: Global, builder: &mut Handle, file: Option<&str>) -> Outcome<()>
-    ensures { Does result (builder_in (held_in builder.new) ≡ Some (empty_builder (option_copied file.entry)))
-        (OfLibrary NoError) (held_in builder.new ≡ held_in builder.old) }
-{
+    let file = text_if(has_file, file)?;
     let new = SourceMapBuilder::new(alloc, file)?;
     builder.fill(alloc, Held::Builder(new))?;
     Ok(())
@@ -79,24 +79,18 @@ pub extern "C" fn sm_builder_set_source_root(
     text: &[u8],
     error: &mut ErrorReport,
 ) -> u32
-    ensures { Answers result error.old error.new
-        (HoldsStep (HasRoot (text_if present text.now)) (held_in builder.old) (held_in builder.new))
-        (OrNoText present text.now (FailsStep (HasRoot (text_if present text.now)) (builder_in (held_in builder.old))))
-        (held_in builder.new ≡ held_in builder.old) }
+    ensures { SetsText (Answers result error.old error.new) present text.now (HasRoot (text_if present text.now))
+        (held_in builder.old) (held_in builder.new) }
 {
     finish(alloc, set_source_root(alloc, builder, present, text), error)
 }
 
 fn set_source_root(alloc: Global, builder: &mut Handle, present: bool, text: &[u8]) -> Outcome<()>
-    ensures { Does result
-        (HoldsStep (HasRoot (text_if present text.now)) (held_in builder.old) (held_in builder.new))
-        (OrNoText present text.now (FailsStep (HasRoot (text_if present text.now)) (builder_in (held_in builder.old))))
-        (held_in builder.new ≡ held_in builder.old) }
+    ensures { SetsText (Does result) present text.now (HasRoot (text_if present text.now))
+        (held_in builder.old) (held_in builder.new) }
 {
-    match text_if(present, text) {
-        Ok(text) => step_in(alloc, builder, &Step::Root(text)),
-        Err(error) => Err(Failure::Library(error)),
-    }
+    let text = text_if(present, text)?;
+    step_in(alloc, builder, &Step::Root(text))
 }
 
 /// Sets or removes the debug id.
@@ -108,22 +102,11 @@ pub extern "C" fn sm_builder_set_debug_id(
     id: &IdBytes,
     error: &mut ErrorReport,
 ) -> u32
-    ensures { Answers result error.old error.new
-        (HoldsStep (HasId (text_if present id.now.bytes)) (held_in builder.old) (held_in builder.new))
-        (FailsStep (HasId (text_if present id.now.bytes)) (builder_in (held_in builder.old)))
-        (held_in builder.new ≡ held_in builder.old) }
-{
-    finish(alloc, set_id(alloc, builder, present, id), error)
-}
-
-fn set_id(alloc: Global, builder: &mut Handle, present: bool, id: &IdBytes) -> Outcome<()>
-    ensures { Does result
-        (HoldsStep (HasId (text_if present id.now.bytes)) (held_in builder.old) (held_in builder.new))
-        (FailsStep (HasId (text_if present id.now.bytes)) (builder_in (held_in builder.old)))
-        (held_in builder.new ≡ held_in builder.old) }
+    ensures { Steps (Answers result error.old error.new) (HasId (text_if present id.now.bytes))
+        (held_in builder.old) (held_in builder.new) }
 {
     let id = id_if(present, id);
-    step_in(alloc, builder, &Step::Id(id))
+    finish(alloc, step_in(alloc, builder, &Step::Id(id)), error)
 }
 
 /// Adds a source and writes its id.
@@ -135,54 +118,14 @@ pub extern "C" fn sm_builder_add_source(
     id: &mut u32,
     error: &mut ErrorReport,
 ) -> u32
-    ensures { Answers result error.old error.new
-        (Adds (λ b. b.interned) with_source text.now id.new (held_in builder.old) (held_in builder.new))
-        (OrNoText true text.now (AddsNot (λ b. b.interned) text.now (builder_in (held_in builder.old))))
-        ((held_in builder.new ≡ held_in builder.old) × (id.new ≡ id.old)) }
+    ensures { AddsText (Answers result error.old error.new) Texts.Sources text.now
+        (held_in builder.old, id.old) (held_in builder.new, id.new) }
 {
-    finish(alloc, add_source(alloc, builder, text, id), error)
-}
-
-fn add_source(alloc: Global, builder: &mut Handle, text: &[u8], id: &mut u32) -> Outcome<()>
-    ensures { Does result
-        (Adds (λ b. b.interned) with_source text.now id.new (held_in builder.old) (held_in builder.new))
-        (OrNoText true text.now (AddsNot (λ b. b.interned) text.now (builder_in (held_in builder.old))))
-        ((held_in builder.new ≡ held_in builder.old) × (id.new ≡ id.old)) }
-{
-    match text_in(text) {
-        Ok(text) => add_source_of(alloc, builder, text, id),
-        Err(error) => Err(Failure::Library(error)),
-    }
-}
-
-fn add_source_of(alloc: Global, builder: &mut Handle, text: &str, id: &mut u32) -> Outcome<()>
-    ensures { Does result
-        (Adds (λ b. b.interned) with_source text.now id.new (held_in builder.old) (held_in builder.new))
-        (AddsNot (λ b. b.interned) text.now (builder_in (held_in builder.old)))
-        ((held_in builder.new ≡ held_in builder.old) × (id.new ≡ id.old)) }
-{
-    match builder.take(alloc) {
-        Some(mut held) => {
-            let outcome = add_source_to(&mut held, text, id);
-            builder.put(held);
-            outcome
-        }
-        None => Err(Failure::WrongKind),
-    }
-}
-
-fn add_source_to(held: &mut Held, text: &str, id: &mut u32) -> Outcome<()>
-    ensures { Does result (Adds (λ b. b.interned) with_source text.now id.new (Some held.old) (Some held.new))
-        (AddsNot (λ b. b.interned) text.now (builder_in (Some held.old)))
-        ((held.new ≡ held.old) × (id.new ≡ id.old)) }
-{
-    match held {
-        Held::Builder(builder) => {
-            *id = builder.add_source(text)?;
-            Ok(())
-        }
-        _ => Err(Failure::WrongKind),
-    }
+    finish(
+        alloc,
+        add_bytes(alloc, builder, Texts::Sources, text, id),
+        error,
+    )
 }
 
 /// Adds a name and writes its id.
@@ -194,35 +137,37 @@ pub extern "C" fn sm_builder_add_name(
     id: &mut u32,
     error: &mut ErrorReport,
 ) -> u32
-    ensures { Answers result error.old error.new
-        (Adds (λ b. b.names) with_name text.now id.new (held_in builder.old) (held_in builder.new))
-        (OrNoText true text.now (AddsNot (λ b. b.names) text.now (builder_in (held_in builder.old))))
-        ((held_in builder.new ≡ held_in builder.old) × (id.new ≡ id.old)) }
+    ensures { AddsText (Answers result error.old error.new) Texts.Names text.now
+        (held_in builder.old, id.old) (held_in builder.new, id.new) }
 {
-    finish(alloc, add_name(alloc, builder, text, id), error)
+    finish(
+        alloc,
+        add_bytes(alloc, builder, Texts::Names, text, id),
+        error,
+    )
 }
 
-fn add_name(alloc: Global, builder: &mut Handle, text: &[u8], id: &mut u32) -> Outcome<()>
-    ensures { Does result
-        (Adds (λ b. b.names) with_name text.now id.new (held_in builder.old) (held_in builder.new))
-        (OrNoText true text.now (AddsNot (λ b. b.names) text.now (builder_in (held_in builder.old))))
-        ((held_in builder.new ≡ held_in builder.old) × (id.new ≡ id.old)) }
+fn add_bytes(
+    alloc: Global,
+    builder: &mut Handle,
+    to: Texts,
+    text: &[u8],
+    id: &mut u32,
+) -> Outcome<()>
+    ensures { AddsText (Does result) to text.now (held_in builder.old, id.old) (held_in builder.new, id.new) }
 {
-    match text_in(text) {
-        Ok(text) => add_name_of(alloc, builder, text, id),
-        Err(error) => Err(Failure::Library(error)),
-    }
+    let text = text_in(text)?;
+    add_text(alloc, builder, to, text, id)
 }
 
-fn add_name_of(alloc: Global, builder: &mut Handle, text: &str, id: &mut u32) -> Outcome<()>
-    ensures { Does result
-        (Adds (λ b. b.names) with_name text.now id.new (held_in builder.old) (held_in builder.new))
-        (AddsNot (λ b. b.names) text.now (builder_in (held_in builder.old)))
+fn add_text(alloc: Global, builder: &mut Handle, to: Texts, text: &str, id: &mut u32) -> Outcome<()>
+    ensures { Does result (Adds to text.now id.new (held_in builder.old) (held_in builder.new))
+        (AddsNot to text.now (builder_in (held_in builder.old)))
         ((held_in builder.new ≡ held_in builder.old) × (id.new ≡ id.old)) }
 {
     match builder.take(alloc) {
         Some(mut held) => {
-            let outcome = add_name_to(&mut held, text, id);
+            let outcome = add_text_to(&mut held, to, text, id);
             builder.put(held);
             outcome
         }
@@ -230,17 +175,27 @@ fn add_name_of(alloc: Global, builder: &mut Handle, text: &str, id: &mut u32) ->
     }
 }
 
-fn add_name_to(held: &mut Held, text: &str, id: &mut u32) -> Outcome<()>
-    ensures { Does result (Adds (λ b. b.names) with_name text.now id.new (Some held.old) (Some held.new))
-        (AddsNot (λ b. b.names) text.now (builder_in (Some held.old)))
-        ((held.new ≡ held.old) × (id.new ≡ id.old)) }
+fn add_text_to(held: &mut Held, to: Texts, text: &str, id: &mut u32) -> Outcome<()>
+    ensures { Does result (Adds to text.now id.new (Some held.old) (Some held.new))
+        (AddsNot to text.now (builder_in (Some held.old))) ((held.new ≡ held.old) × (id.new ≡ id.old)) }
 {
     match held {
         Held::Builder(builder) => {
-            *id = builder.add_name(text)?;
+            *id = add(builder, to, text)?;
             Ok(())
         }
         _ => Err(Failure::WrongKind),
+    }
+}
+
+fn add(builder: &mut SourceMapBuilder, to: Texts, text: &str) -> Result<u32>
+    ensures id { Gives (λ id. id) result (id_for (texts_of to builder.old) text.now) }
+    ensures ok { OnOk result (builder.new ≡ with_text to builder.old text.now) }
+    ensures err { OnErr result (builder.new ≡ builder.old) }
+{
+    match to {
+        Texts::Sources => builder.add_source(text),
+        Texts::Names => builder.add_name(text),
     }
 }
 
@@ -277,23 +232,18 @@ pub extern "C" fn sm_builder_set_source(
     source: &[u8],
     error: &mut ErrorReport,
 ) -> u32
-    ensures { Answers result error.old error.new
-        (HoldsStep (HasSource id source.now) (held_in builder.old) (held_in builder.new))
-        (OrNoText true source.now (FailsStep (HasSource id source.now) (builder_in (held_in builder.old))))
-        (held_in builder.new ≡ held_in builder.old) }
+    ensures { SetsText (Answers result error.old error.new) true source.now (HasSource id source.now)
+        (held_in builder.old) (held_in builder.new) }
 {
     finish(alloc, set_source(alloc, builder, id, source), error)
 }
 
 fn set_source(alloc: Global, builder: &mut Handle, id: u32, source: &[u8]) -> Outcome<()>
-    ensures { Does result (HoldsStep (HasSource id source.now) (held_in builder.old) (held_in builder.new))
-        (OrNoText true source.now (FailsStep (HasSource id source.now) (builder_in (held_in builder.old))))
-        (held_in builder.new ≡ held_in builder.old) }
+    ensures { SetsText (Does result) true source.now (HasSource id source.now)
+        (held_in builder.old) (held_in builder.new) }
 {
-    match text_in(source) {
-        Ok(source) => step_in(alloc, builder, &Step::Source(id, source)),
-        Err(error) => Err(Failure::Library(error)),
-    }
+    let source = text_in(source)?;
+    step_in(alloc, builder, &Step::Source(id, source))
 }
 
 /// Removes from each source the first of `prefixes` that the source starts with.
@@ -336,10 +286,8 @@ pub extern "C" fn sm_builder_set_contents(
     text: &[u8],
     error: &mut ErrorReport,
 ) -> u32
-    ensures { Answers result error.old error.new
-        (HoldsStep (HasContents id (text_if present text.now)) (held_in builder.old) (held_in builder.new))
-        (OrNoText present text.now (FailsStep (HasContents id (text_if present text.now)) (builder_in (held_in builder.old))))
-        (held_in builder.new ≡ held_in builder.old) }
+    ensures { SetsText (Answers result error.old error.new) present text.now
+        (HasContents id (text_if present text.now)) (held_in builder.old) (held_in builder.new) }
 {
     finish(
         alloc,
@@ -355,15 +303,11 @@ fn set_contents(
     present: bool,
     text: &[u8],
 ) -> Outcome<()>
-    ensures { Does result
-        (HoldsStep (HasContents id (text_if present text.now)) (held_in builder.old) (held_in builder.new))
-        (OrNoText present text.now (FailsStep (HasContents id (text_if present text.now)) (builder_in (held_in builder.old))))
-        (held_in builder.new ≡ held_in builder.old) }
+    ensures { SetsText (Does result) present text.now (HasContents id (text_if present text.now))
+        (held_in builder.old) (held_in builder.new) }
 {
-    match text_if(present, text) {
-        Ok(text) => step_in(alloc, builder, &Step::Contents(id, text)),
-        Err(error) => Err(Failure::Library(error)),
-    }
+    let text = text_if(present, text)?;
+    step_in(alloc, builder, &Step::Contents(id, text))
 }
 
 /// Adds a source to the ignore list.
@@ -374,18 +318,13 @@ pub extern "C" fn sm_builder_ignore_source(
     id: u32,
     error: &mut ErrorReport,
 ) -> u32
-    ensures { Answers result error.old error.new
-        (HoldsStep (Ignores id) (held_in builder.old) (held_in builder.new))
-        (FailsStep (Ignores id) (builder_in (held_in builder.old)))
-        (held_in builder.new ≡ held_in builder.old) }
+    ensures { Steps (Answers result error.old error.new) (Ignores id) (held_in builder.old) (held_in builder.new) }
 {
     finish(alloc, step_in(alloc, builder, &Step::Ignored(id)), error)
 }
 
 fn step_in(alloc: Global, handle: &mut Handle, step: &Step<'_>) -> Outcome<()>
-    ensures { Does result (HoldsStep (StepsTo step.now) (held_in handle.old) (held_in handle.new))
-        (FailsStep (StepsTo step.now) (builder_in (held_in handle.old)))
-        (held_in handle.new ≡ held_in handle.old) }
+    ensures { Steps (Does result) (StepsTo step.now) (held_in handle.old) (held_in handle.new) }
 {
     match handle.take(alloc) {
         Some(mut held) => {
@@ -414,45 +353,30 @@ fn step_builder(builder: &mut SourceMapBuilder, step: &Step<'_>) -> Outcome<()>
     match step {
         Step::Root(root) => builder.set_source_root(*root)?,
         Step::Id(id) => builder.set_debug_id(*id),
-        Step::Source(id, source) => return replace_source(builder, *id, source),
+        Step::Source(id, source) => {
+            return change_source(builder, *id, &SourceChange::Text(source));
+        }
         Step::Prefixes(prefixes) => builder.strip_prefixes(*prefixes)?,
-        Step::Contents(id, contents) => return put_contents(builder, *id, *contents),
-        Step::Ignored(id) => return ignore(builder, *id),
+        Step::Contents(id, contents) => {
+            return change_source(builder, *id, &SourceChange::Contents(*contents));
+        }
+        Step::Ignored(id) => return change_source(builder, *id, &SourceChange::Ignored),
     }
     Ok(())
 }
 
-fn replace_source(builder: &mut SourceMapBuilder, id: u32, source: &str) -> Outcome<()>
-    ensures { Does result (HasSource id source.now builder.old (Ok builder.new))
-        (λ failure. HasSource id source.now builder.old (Err failure)) (builder.new ≡ builder.old) }
+fn change_source(builder: &mut SourceMapBuilder, id: u32, change: &SourceChange<'_>) -> Outcome<()>
+    ensures { Does result (ChangesSource id change.now builder.old (Ok builder.new))
+        (λ failure. ChangesSource id change.now builder.old (Err failure)) (builder.new ≡ builder.old) }
 {
     if builder.get_source(id).is_none() {
         return Err(Failure::Absent);
     }
-    builder.set_source(id, source)?;
-    Ok(())
-}
-
-fn put_contents(builder: &mut SourceMapBuilder, id: u32, contents: Option<&str>) -> Outcome<()>
-    ensures { Does result (HasContents id (option_copied contents.entry) builder.old (Ok builder.new))
-        (λ failure. HasContents id (option_copied contents.entry) builder.old (Err failure))
-        (builder.new ≡ builder.old) }
-{
-    if builder.get_source(id).is_none() {
-        return Err(Failure::Absent);
+    match change {
+        SourceChange::Text(source) => builder.set_source(id, source)?,
+        SourceChange::Contents(contents) => builder.set_source_contents(id, *contents)?,
+        SourceChange::Ignored => builder.add_to_ignore_list(id)?,
     }
-    builder.set_source_contents(id, contents)?;
-    Ok(())
-}
-
-fn ignore(builder: &mut SourceMapBuilder, id: u32) -> Outcome<()>
-    ensures { Does result (Ignores id builder.old (Ok builder.new))
-        (λ failure. Ignores id builder.old (Err failure)) (builder.new ≡ builder.old) }
-{
-    if builder.get_source(id).is_none() {
-        return Err(Failure::Absent);
-    }
-    builder.add_to_ignore_list(id)?;
     Ok(())
 }
 
@@ -575,7 +499,7 @@ fn finish_builder(alloc: Global, builder: &mut Handle, map: &mut Handle) -> Outc
     ensures other { builder_in (held_in builder.old) ≡ None → held_in builder.new ≡ held_in builder.old }
 {
     match take_builder(alloc, builder) {
-        Some(builder) => put_built(alloc, builder, map),
+        Some(builder) => put_map(alloc, map, DecodedMap::Regular(builder.into_sourcemap()?)),
         None => Err(Failure::WrongKind),
     }
 }
@@ -599,14 +523,4 @@ fn holds_builder(handle: &mut Handle) -> bool
     ensures kept { held_in handle.new ≡ held_in handle.old }
 {
     matches!(handle.get(), Some(Held::Builder(_)))
-}
-
-fn put_built(alloc: Global, builder: SourceMapBuilder, map: &mut Handle) -> Outcome<()>
-    ensures { Does result (tree_in (held_in map.new) ≡ Some (leaf (regular (built builder))))
-        (OfLibrary NoError) (held_in map.new ≡ held_in map.old) }
-{
-    match builder.into_sourcemap() {
-        Ok(built) => put_map(alloc, map, DecodedMap::Regular(built)),
-        Err(error) => Err(Failure::Library(error)),
-    }
 }

@@ -53,16 +53,7 @@ fn open(alloc: Global, bundle: &mut Handle, bytes: &[u8]) -> Outcome<()>
         (OfLibrary (λ e. indexed_bundle bytes.now ≡ Err e)) (held_in bundle.new ≡ held_in bundle.old) }
 {
     let copy = Vec::from_slice(alloc, bytes)?;
-    match RamBundle::parse_indexed_from_vec(copy) {
-        Ok(parsed) => put_bundle(alloc, parsed, bundle),
-        Err(error) => Err(Failure::Library(error)),
-    }
-}
-
-fn put_bundle(alloc: Global, parsed: RamBundle<'static>, bundle: &mut Handle) -> Outcome<()>
-    ensures { Does result (bundle_in (held_in bundle.new) ≡ Some parsed.entry) (OfLibrary NoError)
-        (held_in bundle.new ≡ held_in bundle.old) }
-{
+    let parsed = RamBundle::parse_indexed_from_vec(copy)?;
     bundle.fill(alloc, Held::Bundle(parsed))?;
     Ok(())
 }
@@ -122,21 +113,11 @@ fn startup<'a>(held: Option<&'a Held>, bytes: &mut &'a [u8]) -> Outcome<()>
         (bundle_in (option_copied held.entry) ≡ None)) (bytes.new.now ≡ bytes.old.now) }
 {
     match held {
-        Some(Held::Bundle(bundle)) => put_startup(bundle, bytes),
-        _ => Err(Failure::WrongKind),
-    }
-}
-
-fn put_startup<'a>(bundle: &'a RamBundle<'static>, bytes: &mut &'a [u8]) -> Outcome<()>
-    ensures { Does result (bundle_startup bundle.now ≡ Ok bytes.new.now)
-        (OfLibrary (λ e. bundle_startup bundle.now ≡ Err e)) (bytes.new.now ≡ bytes.old.now) }
-{
-    match bundle.startup_code() {
-        Ok(code) => {
-            *bytes = code;
+        Some(Held::Bundle(bundle)) => {
+            *bytes = bundle.startup_code()?;
             Ok(())
         }
-        Err(error) => Err(Failure::Library(error)),
+        _ => Err(Failure::WrongKind),
     }
 }
 
@@ -189,23 +170,14 @@ fn module<'a>(held: Option<&'a Held>, id: usize, bytes: &mut &'a [u8]) -> Outcom
         (bytes.new.now ≡ bytes.old.now) }
 {
     match held {
-        Some(Held::Bundle(bundle)) => put_module(bundle, id, bytes),
+        Some(Held::Bundle(bundle)) => match bundle.get_module(id)? {
+            Some(found) => {
+                *bytes = found.data();
+                Ok(())
+            }
+            None => Err(Failure::Absent),
+        },
         _ => Err(Failure::WrongKind),
-    }
-}
-
-fn put_module<'a>(bundle: &'a RamBundle<'static>, id: usize, bytes: &mut &'a [u8]) -> Outcome<()>
-    ensures { Does result (module_bytes bundle.now id ≡ Ok (Some bytes.new.now))
-        (OfLibraryKindOrAbsent (λ e. module_bytes bundle.now id ≡ Err e) ⊥ (module_bytes bundle.now id ≡ Ok None))
-        (bytes.new.now ≡ bytes.old.now) }
-{
-    match bundle.get_module(id) {
-        Ok(Some(found)) => {
-            *bytes = found.data();
-            Ok(())
-        }
-        Ok(None) => Err(Failure::Absent),
-        Err(error) => Err(Failure::Library(error)),
     }
 }
 
@@ -259,23 +231,8 @@ fn split_with(
     ensures index { held_in index.new ≡ held_in index.old }
 {
     match map_in(index) {
-        Some(map) => split_by_map(alloc, bundle, map, split),
-        None => Err(Failure::WrongKind),
-    }
-}
-
-fn split_by_map(
-    alloc: Global,
-    bundle: &RamBundle<'static>,
-    tree: &DecodedMap,
-    split: &mut Handle,
-) -> Outcome<()>
-    ensures { Does result (IsSplit (Some bundle.now) (Some (map_tree tree.now)) (held_in split.new))
-        (IsUnsplit (Some bundle.now) (Some (map_tree tree.now))) (held_in split.new ≡ held_in split.old) }
-{
-    match tree {
-        DecodedMap::Index(index) => put_split(alloc, bundle, index, split),
-        DecodedMap::Regular(_) | DecodedMap::Hermes(_) => Err(Failure::WrongKind),
+        Some(DecodedMap::Index(index)) => put_split(alloc, bundle, index, split),
+        _ => Err(Failure::WrongKind),
     }
 }
 
@@ -502,8 +459,5 @@ fn put_shared_map(alloc: Global, found: &SplitModule, to: &mut Handle) -> Outcom
     ensures { Does result (tree_in (held_in to.new) ≡ Some (module_value found.now).tree) (OfLibrary NoError)
         (held_in to.new ≡ held_in to.old) }
 {
-    match Arc::try_clone(&found.map) {
-        Ok(shared) => put_shared(alloc, to, shared),
-        Err(_) => Err(Failure::Library(Error::OutOfMemory)),
-    }
+    put_shared(alloc, to, Arc::try_clone(&found.map)?)
 }

@@ -1,16 +1,13 @@
 //! Changes of maps. A map is changed directly, or copied first if other handles share it.
-ghost use Rattle.std.specs.Prelude.{◌≡◌, ◌<◌, ◌≤◌, Err, MatchResult, Ok, Some, length, slice_set};
-ghost use Rattle.std.specs.BTreeSet.{insert_key};
+ghost use Rattle.std.specs.Prelude.{◌≡◌, ◌<◌, ◌≤◌, Err, MatchResult, Ok, Some, length};
 ghost use Rattle.std.specs.Option.{option_copied};
-ghost use Rattle.std.specs.Ordering.{nat_cmp};
 ghost use Rattle.std.specs.Arc.{arc_value};
 ghost use Rattle.sourcemap_c_handles.specs.Handles.{held_in};
 ghost use Rattle.sourcemap_index.specs.Family.{map_tree};
-ghost use Rattle.sourcemap_map_regular.specs.Map.{fitted};
 ghost use Rattle.sourcemap_c_handles.specs.declared.errors.Failure.TheVariants.{Absent};
-ghost use Rattle.sourcemap_c.specs.Changing.{ChangesTo, FailsAs, HasContents, HasFile, HasId, HasNoNames, HasRoot, HasSource, HoldsNew, Ignores, IsDown};
+ghost use Rattle.sourcemap_c.specs.Changing.{ChangesMap, ChangesSource, ChangesTo, HasFile, HasId, HasNoNames, HasRoot, IsDown, with_source_change};
 ghost use Rattle.sourcemap_c.specs.Codes.{Answers, Does, UnlessMemory};
-ghost use Rattle.sourcemap_c.specs.Kinds.{IsAsBefore, IsSameMap, tree_in};
+ghost use Rattle.sourcemap_c.specs.Kinds.{IsSameMap};
 
 use sourcemap::jsontypes::DebugId;
 use sourcemap::{DecodedMap, Error, SourceMap};
@@ -18,6 +15,14 @@ use sourcemap_c_handles::errors::{ErrorReport, Failure, Outcome, finish};
 use sourcemap_c_handles::{Handle, Held};
 use std::alloc::Global;
 use std::sync::Arc;
+
+/// A change of a source of a map or a builder.
+#[derive(Clone, Copy)]
+pub(crate) enum SourceChange<'a> {
+    Text(&'a str),
+    Contents(Option<&'a str>),
+    Ignored,
+}
 
 /// A change of a map.
 #[derive(Clone, Copy)]
@@ -40,17 +45,14 @@ pub extern "C" fn sm_shift(
     lines: u32,
     error: &mut ErrorReport,
 ) -> u32
-    ensures { Answers result error.old error.new (HoldsNew (IsDown lines) (held_in map.old) (held_in map.new))
-        (FailsAs (IsDown lines) (tree_in (held_in map.old))) (IsAsBefore (held_in map.old) (held_in map.new)) }
+    ensures { ChangesMap (Answers result error.old error.new) (IsDown lines) (held_in map.old) (held_in map.new) }
 {
     finish(alloc, change_map(alloc, map, &Change::Down(lines)), error)
 }
 
 /// Changes the map in the handle. After an error the value of the handle is unchanged.
 pub(crate) fn change_map(alloc: Global, handle: &mut Handle, change: &Change<'_>) -> Outcome<()>
-    ensures { Does result (HoldsNew (ChangesTo change.now) (held_in handle.old) (held_in handle.new))
-        (FailsAs (ChangesTo change.now) (tree_in (held_in handle.old)))
-        (IsAsBefore (held_in handle.old) (held_in handle.new)) }
+    ensures { ChangesMap (Does result) (ChangesTo change.now) (held_in handle.old) (held_in handle.new) }
 {
     match handle.take(alloc) {
         Some(mut held) => {
@@ -63,9 +65,7 @@ pub(crate) fn change_map(alloc: Global, handle: &mut Handle, change: &Change<'_>
 }
 
 fn change_held(alloc: Global, held: &mut Held, change: &Change<'_>) -> Outcome<()>
-    ensures { Does result (HoldsNew (ChangesTo change.now) (Some held.old) (Some held.new))
-        (FailsAs (ChangesTo change.now) (tree_in (Some held.old)))
-        (IsAsBefore (Some held.old) (Some held.new)) }
+    ensures { ChangesMap (Does result) (ChangesTo change.now) (Some held.old) (Some held.new) }
 {
     match held {
         Held::Map(map) => change_shared(alloc, map, change),
@@ -115,9 +115,11 @@ fn apply(map: &mut DecodedMap, change: &Change<'_>) -> Outcome<()>
         Change::File(file) => set_file(map, *file),
         Change::Root(root) => set_root(map, *root),
         Change::Id(id) => set_id(map, *id),
-        Change::Source(id, source) => set_source(map, *id, source),
-        Change::Contents(id, contents) => set_contents(map, *id, *contents),
-        Change::Ignored(id) => ignore(map, *id),
+        Change::Source(id, source) => change_source(map, *id, &SourceChange::Text(source)),
+        Change::Contents(id, contents) => {
+            change_source(map, *id, &SourceChange::Contents(*contents))
+        }
+        Change::Ignored(id) => change_source(map, *id, &SourceChange::Ignored),
         Change::NoNames => remove_names(map),
         Change::Down(lines) => move_down(map, *lines),
     }
@@ -157,76 +159,31 @@ fn set_id(map: &mut DecodedMap, id: Option<DebugId>) -> Outcome<()>
     Ok(())
 }
 
-fn set_source(map: &mut DecodedMap, id: u32, source: &str) -> Outcome<()>
-    ensures { Does result (HasSource id source.now (map_tree map.old) (Ok (map_tree map.new)))
-        (λ failure. HasSource id source.now (map_tree map.old) (Err failure))
+fn change_source(map: &mut DecodedMap, id: u32, change: &SourceChange<'_>) -> Outcome<()>
+    ensures { Does result (ChangesSource id change.now (map_tree map.old) (Ok (map_tree map.new)))
+        (λ failure. ChangesSource id change.now (map_tree map.old) (Err failure))
         (map_tree map.new ≡ map_tree map.old) }
 {
     match map {
-        DecodedMap::Regular(map) => set_source_of(map, id, source),
-        DecodedMap::Hermes(map) => set_source_of(map, id, source),
+        DecodedMap::Regular(map) => change_source_of(map, id, change),
+        DecodedMap::Hermes(map) => change_source_of(map, id, change),
         DecodedMap::Index(_) => Err(Failure::WrongKind),
     }
 }
 
-fn set_source_of(map: &mut SourceMap, id: u32, source: &str) -> Outcome<()>
-    ensures { Does result ((id < length map.old.sources)
-        × (map.new ≡ record map.old { sources = slice_set map.old.sources id source.now }))
-        (λ failure. (length map.old.sources ≤ id) × (failure ≡ Absent)) (map.new ≡ map.old) }
-{
-    if id >= map.get_source_count() {
-        return Err(Failure::Absent);
-    }
-    map.set_source(id, source)?;
-    Ok(())
-}
-
-fn set_contents(map: &mut DecodedMap, id: u32, contents: Option<&str>) -> Outcome<()>
+fn change_source_of(map: &mut SourceMap, id: u32, change: &SourceChange<'_>) -> Outcome<()>
     ensures { Does result
-        (HasContents id (option_copied contents.entry) (map_tree map.old) (Ok (map_tree map.new)))
-        (λ failure. HasContents id (option_copied contents.entry) (map_tree map.old) (Err failure))
-        (map_tree map.new ≡ map_tree map.old) }
-{
-    match map {
-        DecodedMap::Regular(map) => set_contents_of(map, id, contents),
-        DecodedMap::Hermes(map) => set_contents_of(map, id, contents),
-        DecodedMap::Index(_) => Err(Failure::WrongKind),
-    }
-}
-
-fn set_contents_of(map: &mut SourceMap, id: u32, contents: Option<&str>) -> Outcome<()>
-    ensures { Does result ((id < length map.old.sources) × (map.new ≡ record map.old {
-      contents = slice_set (fitted (length map.old.sources) map.old.contents) id
-          (option_copied contents.entry);
-    })) (λ failure. (length map.old.sources ≤ id) × (failure ≡ Absent)) (map.new ≡ map.old) }
-{
-    if id >= map.get_source_count() {
-        return Err(Failure::Absent);
-    }
-    map.set_source_contents(id, contents)?;
-    Ok(())
-}
-
-fn ignore(map: &mut DecodedMap, id: u32) -> Outcome<()>
-    ensures { Does result (Ignores id (map_tree map.old) (Ok (map_tree map.new)))
-        (λ failure. Ignores id (map_tree map.old) (Err failure)) (map_tree map.new ≡ map_tree map.old) }
-{
-    match map {
-        DecodedMap::Regular(map) => ignore_of(map, id),
-        DecodedMap::Hermes(map) => ignore_of(map, id),
-        DecodedMap::Index(_) => Err(Failure::WrongKind),
-    }
-}
-
-fn ignore_of(map: &mut SourceMap, id: u32) -> Outcome<()>
-    ensures { Does result ((id < length map.old.sources)
-        × (map.new ≡ record map.old { ignored = insert_key nat_cmp map.old.ignored id }))
+        ((id < length map.old.sources) × (map.new ≡ with_source_change id change.now map.old))
         (λ failure. (length map.old.sources ≤ id) × (failure ≡ Absent)) (map.new ≡ map.old) }
 {
     if id >= map.get_source_count() {
         return Err(Failure::Absent);
     }
-    map.add_to_ignore_list(id)?;
+    match change {
+        SourceChange::Text(source) => map.set_source(id, source)?,
+        SourceChange::Contents(contents) => map.set_source_contents(id, *contents)?,
+        SourceChange::Ignored => map.add_to_ignore_list(id)?,
+    }
     Ok(())
 }
 

@@ -4,9 +4,10 @@ ghost use Rattle.std.specs.Borrow.{sem};
 ghost use Rattle.std.specs.Option.{option_copied};
 ghost use Rattle.sourcemap_c_handles.specs.Handles.{EndsAsBefore, held_in};
 ghost use Rattle.sourcemap_index.specs.Family.{map_tree};
-ghost use Rattle.sourcemap_c.specs.Codes.{Answers, Does, NoError, OfLibrary, OfLibraryOrKind};
+ghost use Rattle.sourcemap_c.specs.Codes.{Answers, Does};
 ghost use Rattle.sourcemap_c.specs.Functions.{Guesses, IsTrace, Names, NamesAt, NamesIn};
-ghost use Rattle.sourcemap_c.specs.Kinds.{bytes_in, tree_in, tree_of, view_in};
+ghost use Rattle.sourcemap_c.specs.Kinds.{tree_in, tree_of, view_in};
+ghost use Rattle.sourcemap_c.specs.Writing.{FillsFrom};
 
 use crate::codes::{WRONG_KIND, put_text, text_in};
 use crate::kinds::{map_in, put_bytes};
@@ -27,33 +28,24 @@ pub extern "C" fn sm_trace(
     text: &mut Handle,
     error: &mut ErrorReport,
 ) -> u32
-    ensures trace { Answers result error.old error.new
-        (IsTrace (tree_in (held_in map.old)) positions.now (bytes_in (held_in text.new)))
-        (OfLibraryOrKind NoError (tree_in (held_in map.old) ≡ None)) (held_in text.new ≡ held_in text.old) }
+    ensures trace { FillsFrom (Answers result error.old error.new) (IsTrace positions.now) (tree_in (held_in map.old))
+        (held_in text.old) (held_in text.new) }
     ensures kept { held_in map.new ≡ held_in map.old }
 {
     finish(alloc, trace(alloc, map, positions, text), error)
 }
 
 fn trace(alloc: Global, map: &mut Handle, positions: &[u8], text: &mut Handle) -> Outcome<()>
-    ensures trace { Does result
-        (IsTrace (tree_in (held_in map.old)) positions.now (bytes_in (held_in text.new)))
-        (OfLibraryOrKind NoError (tree_in (held_in map.old) ≡ None)) (held_in text.new ≡ held_in text.old) }
+    ensures trace { FillsFrom (Does result) (IsTrace positions.now) (tree_in (held_in map.old))
+        (held_in text.old) (held_in text.new) }
     ensures kept { held_in map.new ≡ held_in map.old }
 {
     match map_in(map) {
-        Some(map) => put_trace(alloc, map, positions, text),
+        Some(map) => {
+            let answers = trace_text(alloc, map, positions)?;
+            put_bytes(alloc, text, answers.into_bytes())
+        }
         None => Err(Failure::WrongKind),
-    }
-}
-
-fn put_trace(alloc: Global, map: &DecodedMap, positions: &[u8], text: &mut Handle) -> Outcome<()>
-    ensures { Does result (IsTrace (Some (map_tree map.now)) positions.now (bytes_in (held_in text.new)))
-        (OfLibrary NoError) (held_in text.new ≡ held_in text.old) }
-{
-    match trace_text(alloc, map, positions) {
-        Ok(answers) => put_bytes(alloc, text, answers.into_bytes()),
-        Err(error) => Err(Failure::Library(error)),
     }
 }
 

@@ -143,20 +143,14 @@ pub extern "C" fn sm_get_debug_id(map: &mut Handle, id: &mut IdBytes) -> u32
     ensures kept { held_in map.new ≡ held_in map.old }
 {
     match map_in(map) {
-        Some(map) => put_id(map, id),
+        Some(map) => match map.debug_id() {
+            Some(found) => {
+                *id = IdBytes::of_id(found);
+                OK
+            }
+            None => ABSENT,
+        },
         None => WRONG_KIND,
-    }
-}
-
-fn put_id(map: &DecodedMap, id: &mut IdBytes) -> u32
-    ensures { ReturnsValue (Some (debug_id_of (map_tree map.now))) result id.old.bytes id.new.bytes }
-{
-    match map.debug_id() {
-        Some(found) => {
-            *id = IdBytes::of_id(found);
-            OK
-        }
-        None => ABSENT,
     }
 }
 

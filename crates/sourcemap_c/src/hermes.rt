@@ -46,8 +46,5 @@ fn put_copy(alloc: Global, map: &SourceMap, handle: &mut Handle) -> Outcome<()>
     ensures { Does result (tree_in (held_in handle.new) ≡ Some (regular_tree map.now)) (OfLibrary NoError)
         (held_in handle.new ≡ held_in handle.old) }
 {
-    match map.clone() {
-        Ok(copy) => put_map(alloc, handle, DecodedMap::Regular(copy)),
-        Err(error) => Err(Failure::Library(error)),
-    }
+    put_map(alloc, handle, DecodedMap::Regular(map.clone()?))
 }

@@ -43,21 +43,9 @@ fn put_lines(map: &DecodedMap, first: usize, offsets: &mut [u32], written: &mut 
     ensures { WritesLines (lines_in (Some (map_tree map.now))) first result
         offsets.old offsets.new written.old written.new }
 {
-    match map {
-        DecodedMap::Index(index) => put_lines_of(index, first, offsets, written),
-        DecodedMap::Regular(_) | DecodedMap::Hermes(_) => WRONG_KIND,
-    }
-}
-
-fn put_lines_of(
-    index: &SourceMapIndex,
-    first: usize,
-    offsets: &mut [u32],
-    written: &mut usize,
-) -> u32
-    ensures { WritesLines (Some (index_value index.now).parts.x_facebook_offsets) first result
-        offsets.old offsets.new written.old written.new }
-{
+    let DecodedMap::Index(index) = map else {
+        return WRONG_KIND;
+    };
     match index.x_facebook_offsets() {
         Some(lines) => {
             *written = put_numbers(lines, first, offsets);
@@ -127,21 +115,8 @@ fn put_relative(alloc: Global, base: &[u8], target: &[u8], path: &mut Handle) ->
         × (bytes_in (held_in path.new) ≡ Some (relative_path base.now target.now)))
         (OfLibrary (IsNoTextOf base.now target.now)) (held_in path.new ≡ held_in path.old) }
 {
-    match text_in(base) {
-        Ok(base) => match text_in(target) {
-            Ok(target) => put_path_between(alloc, base, target, path),
-            Err(error) => Err(Failure::Library(error)),
-        },
-        Err(error) => Err(Failure::Library(error)),
-    }
-}
-
-fn put_path_between(alloc: Global, base: &str, target: &str, path: &mut Handle) -> Outcome<()>
-    ensures { Does result (bytes_in (held_in path.new) ≡ Some (relative_path base.now target.now))
-        (OfLibrary NoError) (held_in path.new ≡ held_in path.old) }
-{
-    match make_relative_path(alloc, base, target) {
-        Ok(found) => put_bytes(alloc, path, found.into_bytes()),
-        Err(error) => Err(Failure::Library(error)),
-    }
+    let base = text_in(base)?;
+    let target = text_in(target)?;
+    let found = make_relative_path(alloc, base, target)?;
+    put_bytes(alloc, path, found.into_bytes())
 }

@@ -66,10 +66,7 @@ fn open(alloc: Global, map: &mut Handle, bytes: &[u8]) -> Outcome<()>
     ensures { Does result (Holds (BytesDecode bytes.now) (held_in map.new))
         (OfLibrary (λ e. BytesDecode bytes.now (Err e))) (held_in map.new ≡ held_in map.old) }
 {
-    match decode_slice(alloc, bytes) {
-        Ok(decoded) => put_map(alloc, map, decoded),
-        Err(error) => Err(Failure::Library(error)),
-    }
+    put_map(alloc, map, decode_slice(alloc, bytes)?)
 }
 
 /// Decodes a data URL and fills the handle with the map.
@@ -129,18 +126,8 @@ fn share(alloc: Global, map: &mut Handle, other: &mut Handle) -> Outcome<()>
     ensures kept { held_in map.new ≡ held_in map.old }
 {
     match map.get() {
-        Some(Held::Map(map)) => put_another(alloc, map, other),
+        Some(Held::Map(map)) => put_shared(alloc, other, Arc::try_clone(map)?),
         _ => Err(Failure::WrongKind),
-    }
-}
-
-fn put_another(alloc: Global, map: &Arc<DecodedMap>, other: &mut Handle) -> Outcome<()>
-    ensures { Does result (tree_in (held_in other.new) ≡ tree_in (Some (Held.Map map.now))) (OfLibrary NoError)
-        (held_in other.new ≡ held_in other.old) }
-{
-    match Arc::try_clone(map) {
-        Ok(map) => put_shared(alloc, other, map),
-        Err(_) => Err(Failure::Library(Error::OutOfMemory)),
     }
 }
 
@@ -161,11 +148,6 @@ pub extern "C" fn sm_is_source_map(
 fn is_source_map(alloc: Global, bytes: &[u8], answer: &mut bool) -> Outcome<()>
     ensures { Does result (IsTrue answer.new ↔ AreMap bytes.now) (OfLibrary NoError) (answer.new ≡ answer.old) }
 {
-    match is_sourcemap_slice(alloc, bytes) {
-        Ok(is_map) => {
-            *answer = is_map;
-            Ok(())
-        }
-        Err(error) => Err(Failure::Library(error)),
-    }
+    *answer = is_sourcemap_slice(alloc, bytes)?;
+    Ok(())
 }

@@ -1,10 +1,11 @@
 //! References to source maps in generated texts.
-ghost use Rattle.std.specs.Prelude.{◌≡◌};
+ghost use Rattle.std.specs.Prelude.{◌≡◌, option_map, string_bytes};
+ghost use Rattle.sourcemap_errors.specs.Answer.{IsAnswer};
 ghost use Rattle.sourcemap_c_handles.specs.Handles.{held_in};
 ghost use Rattle.sourcemap_references.specs.Reference.{first_reference};
-ghost use Rattle.sourcemap_references.specs.References.{reference};
+ghost use Rattle.sourcemap_references.specs.References.{reference, url_of};
 ghost use Rattle.sourcemap_c.specs.Codes.{Answers, Does, NoError, OfLibrary};
-ghost use Rattle.sourcemap_c.specs.References.{IsFound, IsNotFound, IsReference, LeadsNowhere, LeadsTo, Puts, Refers, Resolves, ResolvesPath};
+ghost use Rattle.sourcemap_c.specs.References.{IsFound, IsNotFound, IsReference, Leads, Puts, Refers, Resolves, ResolvesBy, ResolvesPath};
 
 use crate::codes::text_in;
 use crate::kinds::put_bytes;
@@ -72,6 +73,13 @@ fn reference_to(alloc: Global, url: &[u8]) -> Result<SourceMapRef>
     Ok(SourceMapRef::Ref(String::from_str(alloc, url)?))
 }
 
+/// What a reference is resolved against.
+#[derive(Clone, Copy)]
+enum Base {
+    Url,
+    Path,
+}
+
 /// Fills `to` with the URL of the map: the reference `url` is resolved against `base`, the URL of
 /// the generated text.
 #[unsafe(no_mangle)]
@@ -82,24 +90,10 @@ pub extern "C" fn sm_resolve(
     to: &mut Handle,
     error: &mut ErrorReport,
 ) -> u32
-    ensures { Answers result error.old error.new
-        (LeadsTo url.now base.now (Resolves base.now url.now) (held_in to.new))
-        (LeadsNowhere url.now base.now (Resolves base.now url.now)) (held_in to.new ≡ held_in to.old) }
+    ensures { Leads (Answers result error.old error.new) url.now base.now (Resolves base.now url.now)
+        (held_in to.old) (held_in to.new) }
 {
-    finish(alloc, resolve(alloc, url, base, to), error)
-}
-
-fn resolve(alloc: Global, url: &[u8], base: &[u8], to: &mut Handle) -> Outcome<()>
-    ensures { Does result (LeadsTo url.now base.now (Resolves base.now url.now) (held_in to.new))
-        (LeadsNowhere url.now base.now (Resolves base.now url.now)) (held_in to.new ≡ held_in to.old) }
-{
-    match text_in(base) {
-        Ok(base) => match reference_to(alloc, url) {
-            Ok(reference) => put_found(alloc, reference.resolve(base), to),
-            Err(error) => Err(Failure::Library(error)),
-        },
-        Err(error) => Err(Failure::Library(error)),
-    }
+    finish(alloc, resolve(alloc, Base::Url, url, base, to), error)
 }
 
 /// Fills `to` with the path of the map: the reference `url` is resolved against `base`, the path of
@@ -112,23 +106,26 @@ pub extern "C" fn sm_resolve_path(
     to: &mut Handle,
     error: &mut ErrorReport,
 ) -> u32
-    ensures { Answers result error.old error.new
-        (LeadsTo url.now base.now (ResolvesPath base.now url.now) (held_in to.new))
-        (LeadsNowhere url.now base.now (ResolvesPath base.now url.now)) (held_in to.new ≡ held_in to.old) }
+    ensures { Leads (Answers result error.old error.new) url.now base.now (ResolvesPath base.now url.now)
+        (held_in to.old) (held_in to.new) }
 {
-    finish(alloc, resolve_path(alloc, url, base, to), error)
+    finish(alloc, resolve(alloc, Base::Path, url, base, to), error)
 }
 
-fn resolve_path(alloc: Global, url: &[u8], base: &[u8], to: &mut Handle) -> Outcome<()>
-    ensures { Does result (LeadsTo url.now base.now (ResolvesPath base.now url.now) (held_in to.new))
-        (LeadsNowhere url.now base.now (ResolvesPath base.now url.now)) (held_in to.new ≡ held_in to.old) }
+fn resolve(alloc: Global, kind: Base, url: &[u8], base: &[u8], to: &mut Handle) -> Outcome<()>
+    ensures { Leads (Does result) url.now base.now (ResolvesBy kind base.now url.now) (held_in to.old) (held_in to.new) }
 {
-    match text_in(base) {
-        Ok(base) => match reference_to(alloc, url) {
-            Ok(reference) => put_found(alloc, reference.resolve_path(base), to),
-            Err(error) => Err(Failure::Library(error)),
-        },
-        Err(error) => Err(Failure::Library(error)),
+    let base = text_in(base)?;
+    let reference = reference_to(alloc, url)?;
+    put_found(alloc, resolved(&reference, kind, base), to)
+}
+
+fn resolved(reference: &SourceMapRef, kind: Base, base: &str) -> Result<Option<String>>
+    ensures { IsAnswer (option_map string_bytes) (ResolvesBy kind base.now (url_of reference.now)) result }
+{
+    match kind {
+        Base::Url => reference.resolve(base),
+        Base::Path => reference.resolve_path(base),
     }
 }
 

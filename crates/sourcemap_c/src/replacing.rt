@@ -37,10 +37,8 @@ fn flatten(alloc: Global, map: &mut Handle) -> Outcome<()>
     ensures { Does result (HoldsNew IsFlat (held_in map.old) (held_in map.new))
         (FailsAs IsFlat (tree_in (held_in map.old))) (held_in map.new ≡ held_in map.old) }
 {
-    match flat_in(map) {
-        Ok(flat) => put_map(alloc, map, flat),
-        Err(failure) => Err(failure),
-    }
+    let flat = flat_in(map)?;
+    put_map(alloc, map, flat)
 }
 
 fn flat_in(map: &mut Handle) -> Outcome<DecodedMap>
@@ -50,21 +48,8 @@ fn flat_in(map: &mut Handle) -> Outcome<DecodedMap>
     ensures kept { held_in map.new ≡ held_in map.old }
 {
     match map_in(map) {
-        Some(map) => flat(map),
-        None => Err(Failure::WrongKind),
-    }
-}
-
-fn flat(map: &DecodedMap) -> Outcome<DecodedMap>
-    ensures { MatchResult result (λ flat. IsFlat (map_tree map.now) (Ok (map_tree flat)))
-        (λ failure. UnlessMemory failure (IsFlat (map_tree map.now) (Err failure))) }
-{
-    match map {
-        DecodedMap::Index(index) => match index.flatten() {
-            Ok(flat) => Ok(DecodedMap::Regular(flat)),
-            Err(error) => Err(Failure::Library(error)),
-        },
-        DecodedMap::Regular(_) | DecodedMap::Hermes(_) => Err(Failure::WrongKind),
+        Some(DecodedMap::Index(index)) => Ok(DecodedMap::Regular(index.flatten()?)),
+        _ => Err(Failure::WrongKind),
     }
 }
 
@@ -92,10 +77,8 @@ fn compose(alloc: Global, map: &mut Handle, adjustment: &mut Handle) -> Outcome<
         (held_in map.new ≡ held_in map.old) }
     ensures kept { held_in adjustment.new ≡ held_in adjustment.old }
 {
-    match compose_handles(map, adjustment) {
-        Ok(composed) => put_map(alloc, map, composed),
-        Err(failure) => Err(failure),
-    }
+    let composed = compose_handles(map, adjustment)?;
+    put_map(alloc, map, composed)
 }
 
 fn compose_handles(map: &mut Handle, adjustment: &mut Handle) -> Outcome<DecodedMap>
@@ -107,35 +90,23 @@ fn compose_handles(map: &mut Handle, adjustment: &mut Handle) -> Outcome<Decoded
     ensures adjustment_kept { held_in adjustment.new ≡ held_in adjustment.old }
 {
     match map_in(map) {
-        Some(map) => compose_with_handle(map, adjustment),
-        None => Err(Failure::WrongKind),
-    }
-}
-
-fn compose_with_handle(map: &DecodedMap, adjustment: &mut Handle) -> Outcome<DecodedMap>
-    ensures composed { MatchResult result
-        (λ new. IsAdjustedBy (tree_in (held_in adjustment.old)) (map_tree map.now) (Ok (map_tree new)))
-        (λ failure. UnlessMemory failure
-        (IsAdjustedBy (tree_in (held_in adjustment.old)) (map_tree map.now) (Err failure))) }
-    ensures adjustment_kept { held_in adjustment.new ≡ held_in adjustment.old }
-{
-    match map_in(adjustment) {
-        Some(DecodedMap::Regular(adjustment)) => compose_regular(map, adjustment),
+        Some(DecodedMap::Regular(map)) => compose_with_handle(map, adjustment),
         _ => Err(Failure::WrongKind),
     }
 }
 
-fn compose_regular(map: &DecodedMap, adjustment: &SourceMap) -> Outcome<DecodedMap>
-    ensures { MatchResult result (λ new. IsAdjustedBy (Some (leaf (regular adjustment.now))) (map_tree map.now)
-        (Ok (map_tree new))) (λ failure. UnlessMemory failure
-        (IsAdjustedBy (Some (leaf (regular adjustment.now))) (map_tree map.now) (Err failure))) }
+fn compose_with_handle(map: &SourceMap, adjustment: &mut Handle) -> Outcome<DecodedMap>
+    ensures composed { MatchResult result
+        (λ new. IsAdjustedBy (tree_in (held_in adjustment.old)) (leaf (regular map.now)) (Ok (map_tree new)))
+        (λ failure. UnlessMemory failure
+        (IsAdjustedBy (tree_in (held_in adjustment.old)) (leaf (regular map.now)) (Err failure))) }
+    ensures adjustment_kept { held_in adjustment.new ≡ held_in adjustment.old }
 {
-    match map {
-        DecodedMap::Regular(map) => match compose_copy(map, adjustment) {
-            Ok(composed) => Ok(DecodedMap::Regular(composed)),
-            Err(error) => Err(Failure::Library(error)),
-        },
-        DecodedMap::Index(_) | DecodedMap::Hermes(_) => Err(Failure::WrongKind),
+    match map_in(adjustment) {
+        Some(DecodedMap::Regular(adjustment)) => {
+            Ok(DecodedMap::Regular(compose_copy(map, adjustment)?))
+        }
+        _ => Err(Failure::WrongKind),
     }
 }
 
@@ -222,10 +193,8 @@ fn rewrite_by(
         strip_prefixes: prefixes,
         current_dir: None,
     };
-    match rewrite_handle(map, &options) {
-        Ok(rewritten) => put_map(alloc, map, rewritten),
-        Err(failure) => Err(failure),
-    }
+    let rewritten = rewrite_handle(map, &options)?;
+    put_map(alloc, map, rewritten)
 }
 
 fn rewrite_handle(map: &mut Handle, options: &RewriteOptions<'_>) -> Outcome<DecodedMap>
@@ -236,22 +205,11 @@ fn rewrite_handle(map: &mut Handle, options: &RewriteOptions<'_>) -> Outcome<Dec
     ensures kept { held_in map.new ≡ held_in map.old }
 {
     match map_in(map) {
-        Some(map) => rewrite_copy(map, options),
-        None => Err(Failure::WrongKind),
-    }
-}
-
-fn rewrite_copy(map: &DecodedMap, options: &RewriteOptions<'_>) -> Outcome<DecodedMap>
-    requires { options.now.load_local_source_contents ≡ false }
-    ensures { MatchResult result
-        (λ new. IsRewritten (removal_of options.now) (map_tree map.now) (Ok (map_tree new)))
-        (λ failure. UnlessMemory failure
-        (IsRewritten (removal_of options.now) (map_tree map.now) (Err failure))) }
-{
-    match map {
-        DecodedMap::Regular(map) => Ok(DecodedMap::Regular(rewritten_regular(map, options)?)),
-        DecodedMap::Hermes(map) => Ok(DecodedMap::Hermes(rewritten_hermes(map, options)?)),
-        DecodedMap::Index(_) => Err(Failure::WrongKind),
+        Some(DecodedMap::Regular(map)) => {
+            Ok(DecodedMap::Regular(rewritten_regular(map, options)?))
+        }
+        Some(DecodedMap::Hermes(map)) => { Ok(DecodedMap::Hermes(rewritten_hermes(map, options)?)) }
+        _ => Err(Failure::WrongKind),
     }
 }
 

@@ -45,21 +45,14 @@ pub extern "C" fn sm_section_start_of(map: &mut Handle, id: u32, start: &mut Sec
     ensures kept { held_in map.new ≡ held_in map.old }
 {
     match index_in(map) {
-        Some(index) => put_start(index, id, start),
+        Some(index) => match index.get_section(id) {
+            Some(section) => {
+                *start = start_of(section);
+                OK
+            }
+            None => ABSENT,
+        },
         None => WRONG_KIND,
-    }
-}
-
-fn put_start(index: &SourceMapIndex, id: u32, start: &mut SectionStart) -> u32
-    ensures { ReturnsValue (Some (option_map start_of (slice_get (index_value index.now).sections id)))
-        result start.old start.new }
-{
-    match index.get_section(id) {
-        Some(section) => {
-            *start = start_of(section);
-            OK
-        }
-        None => ABSENT,
     }
 }
 
@@ -138,18 +131,8 @@ fn put_section(alloc: Global, index: &SourceMapIndex, id: u32, section: &mut Han
         (LacksMapAt id (Some (index_value index.now).sections)) (held_in section.new ≡ held_in section.old) }
 {
     match map_at(index, id) {
-        Some(map) => put_copy(alloc, map, section),
+        Some(map) => put_map(alloc, section, map.clone()?),
         None => Err(Failure::Absent),
-    }
-}
-
-fn put_copy(alloc: Global, map: &DecodedMap, handle: &mut Handle) -> Outcome<()>
-    ensures { Does result (tree_in (held_in handle.new) ≡ Some (map_tree map.now))
-        (OfLibrary NoError) (held_in handle.new ≡ held_in handle.old) }
-{
-    match map.clone() {
-        Ok(copy) => put_map(alloc, handle, copy),
-        Err(error) => Err(Failure::Library(error)),
     }
 }
 

@@ -1,14 +1,13 @@
 //! Setters of maps.
 ghost use Rattle.std.specs.Prelude.{◌≡◌, true};
 ghost use Rattle.sourcemap_c_handles.specs.Handles.{held_in};
-ghost use Rattle.sourcemap_c.specs.Changing.{FailsAs, HasContents, HasFile, HasId, HasNoNames, HasRoot, HasSource, HoldsNew, Ignores};
-ghost use Rattle.sourcemap_c.specs.Codes.{Answers, Does, OrNoText, text_if};
-ghost use Rattle.sourcemap_c.specs.Kinds.{IsAsBefore, tree_in};
+ghost use Rattle.sourcemap_c.specs.Changing.{ChangesMap, HasContents, HasFile, HasId, HasNoNames, HasRoot, HasSource, Ignores, SetsText};
+ghost use Rattle.sourcemap_c.specs.Codes.{Answers, Does, text_if};
 
 use crate::changing::{Change, change_map};
 use crate::codes::{id_if, text_if, text_in};
 use sourcemap_c_handles::Handle;
-use sourcemap_c_handles::errors::{ErrorReport, Failure, Outcome, finish};
+use sourcemap_c_handles::errors::{ErrorReport, Outcome, finish};
 use sourcemap_c_handles::layout::IdBytes;
 use std::alloc::Global;
 
@@ -21,23 +20,18 @@ pub extern "C" fn sm_set_file(
     text: &[u8],
     error: &mut ErrorReport,
 ) -> u32
-    ensures { Answers result error.old error.new
-        (HoldsNew (HasFile (text_if present text.now)) (held_in map.old) (held_in map.new))
-        (OrNoText present text.now (FailsAs (HasFile (text_if present text.now)) (tree_in (held_in map.old))))
-        (IsAsBefore (held_in map.old) (held_in map.new)) }
+    ensures { SetsText (Answers result error.old error.new) present text.now (HasFile (text_if present text.now))
+        (held_in map.old) (held_in map.new) }
 {
     finish(alloc, set_file(alloc, map, present, text), error)
 }
 
 fn set_file(alloc: Global, map: &mut Handle, present: bool, text: &[u8]) -> Outcome<()>
-    ensures { Does result (HoldsNew (HasFile (text_if present text.now)) (held_in map.old) (held_in map.new))
-        (OrNoText present text.now (FailsAs (HasFile (text_if present text.now)) (tree_in (held_in map.old))))
-        (IsAsBefore (held_in map.old) (held_in map.new)) }
+    ensures { SetsText (Does result) present text.now (HasFile (text_if present text.now))
+        (held_in map.old) (held_in map.new) }
 {
-    match text_if(present, text) {
-        Ok(text) => change_map(alloc, map, &Change::File(text)),
-        Err(error) => Err(Failure::Library(error)),
-    }
+    let text = text_if(present, text)?;
+    change_map(alloc, map, &Change::File(text))
 }
 
 /// Sets or removes the `sourceRoot`.
@@ -49,23 +43,18 @@ pub extern "C" fn sm_set_source_root(
     text: &[u8],
     error: &mut ErrorReport,
 ) -> u32
-    ensures { Answers result error.old error.new
-        (HoldsNew (HasRoot (text_if present text.now)) (held_in map.old) (held_in map.new))
-        (OrNoText present text.now (FailsAs (HasRoot (text_if present text.now)) (tree_in (held_in map.old))))
-        (IsAsBefore (held_in map.old) (held_in map.new)) }
+    ensures { SetsText (Answers result error.old error.new) present text.now (HasRoot (text_if present text.now))
+        (held_in map.old) (held_in map.new) }
 {
     finish(alloc, set_source_root(alloc, map, present, text), error)
 }
 
 fn set_source_root(alloc: Global, map: &mut Handle, present: bool, text: &[u8]) -> Outcome<()>
-    ensures { Does result (HoldsNew (HasRoot (text_if present text.now)) (held_in map.old) (held_in map.new))
-        (OrNoText present text.now (FailsAs (HasRoot (text_if present text.now)) (tree_in (held_in map.old))))
-        (IsAsBefore (held_in map.old) (held_in map.new)) }
+    ensures { SetsText (Does result) present text.now (HasRoot (text_if present text.now))
+        (held_in map.old) (held_in map.new) }
 {
-    match text_if(present, text) {
-        Ok(text) => change_map(alloc, map, &Change::Root(text)),
-        Err(error) => Err(Failure::Library(error)),
-    }
+    let text = text_if(present, text)?;
+    change_map(alloc, map, &Change::Root(text))
 }
 
 /// Sets or removes the contents of a source.
@@ -78,24 +67,18 @@ pub extern "C" fn sm_set_contents(
     text: &[u8],
     error: &mut ErrorReport,
 ) -> u32
-    ensures { Answers result error.old error.new
-        (HoldsNew (HasContents id (text_if present text.now)) (held_in map.old) (held_in map.new))
-        (OrNoText present text.now (FailsAs (HasContents id (text_if present text.now)) (tree_in (held_in map.old))))
-        (IsAsBefore (held_in map.old) (held_in map.new)) }
+    ensures { SetsText (Answers result error.old error.new) present text.now (HasContents id (text_if present text.now))
+        (held_in map.old) (held_in map.new) }
 {
     finish(alloc, set_contents(alloc, map, id, present, text), error)
 }
 
 fn set_contents(alloc: Global, map: &mut Handle, id: u32, present: bool, text: &[u8]) -> Outcome<()>
-    ensures { Does result
-        (HoldsNew (HasContents id (text_if present text.now)) (held_in map.old) (held_in map.new))
-        (OrNoText present text.now (FailsAs (HasContents id (text_if present text.now)) (tree_in (held_in map.old))))
-        (IsAsBefore (held_in map.old) (held_in map.new)) }
+    ensures { SetsText (Does result) present text.now (HasContents id (text_if present text.now))
+        (held_in map.old) (held_in map.new) }
 {
-    match text_if(present, text) {
-        Ok(text) => change_map(alloc, map, &Change::Contents(id, text)),
-        Err(error) => Err(Failure::Library(error)),
-    }
+    let text = text_if(present, text)?;
+    change_map(alloc, map, &Change::Contents(id, text))
 }
 
 /// Changes the source with this id. The map stores `text` as it is given.
@@ -107,23 +90,16 @@ pub extern "C" fn sm_set_source(
     text: &[u8],
     error: &mut ErrorReport,
 ) -> u32
-    ensures { Answers result error.old error.new
-        (HoldsNew (HasSource id text.now) (held_in map.old) (held_in map.new))
-        (OrNoText true text.now (FailsAs (HasSource id text.now) (tree_in (held_in map.old))))
-        (IsAsBefore (held_in map.old) (held_in map.new)) }
+    ensures { SetsText (Answers result error.old error.new) true text.now (HasSource id text.now) (held_in map.old) (held_in map.new) }
 {
     finish(alloc, set_source(alloc, map, id, text), error)
 }
 
 fn set_source(alloc: Global, map: &mut Handle, id: u32, text: &[u8]) -> Outcome<()>
-    ensures { Does result (HoldsNew (HasSource id text.now) (held_in map.old) (held_in map.new))
-        (OrNoText true text.now (FailsAs (HasSource id text.now) (tree_in (held_in map.old))))
-        (IsAsBefore (held_in map.old) (held_in map.new)) }
+    ensures { SetsText (Does result) true text.now (HasSource id text.now) (held_in map.old) (held_in map.new) }
 {
-    match text_in(text) {
-        Ok(text) => change_map(alloc, map, &Change::Source(id, text)),
-        Err(error) => Err(Failure::Library(error)),
-    }
+    let text = text_in(text)?;
+    change_map(alloc, map, &Change::Source(id, text))
 }
 
 /// Sets or removes the debug id.
@@ -135,21 +111,10 @@ pub extern "C" fn sm_set_debug_id(
     id: &IdBytes,
     error: &mut ErrorReport,
 ) -> u32
-    ensures { Answers result error.old error.new
-        (HoldsNew (HasId (text_if present id.now.bytes)) (held_in map.old) (held_in map.new))
-        (FailsAs (HasId (text_if present id.now.bytes)) (tree_in (held_in map.old)))
-        (IsAsBefore (held_in map.old) (held_in map.new)) }
-{
-    finish(alloc, set_id(alloc, map, present, id), error)
-}
-
-fn set_id(alloc: Global, map: &mut Handle, present: bool, id: &IdBytes) -> Outcome<()>
-    ensures { Does result (HoldsNew (HasId (text_if present id.now.bytes)) (held_in map.old) (held_in map.new))
-        (FailsAs (HasId (text_if present id.now.bytes)) (tree_in (held_in map.old)))
-        (IsAsBefore (held_in map.old) (held_in map.new)) }
+    ensures { ChangesMap (Answers result error.old error.new) (HasId (text_if present id.now.bytes)) (held_in map.old) (held_in map.new) }
 {
     let id = id_if(present, id);
-    change_map(alloc, map, &Change::Id(id))
+    finish(alloc, change_map(alloc, map, &Change::Id(id)), error)
 }
 
 /// Adds a source to the ignore list.
@@ -160,8 +125,7 @@ pub extern "C" fn sm_ignore_source(
     id: u32,
     error: &mut ErrorReport,
 ) -> u32
-    ensures { Answers result error.old error.new (HoldsNew (Ignores id) (held_in map.old) (held_in map.new))
-        (FailsAs (Ignores id) (tree_in (held_in map.old))) (IsAsBefore (held_in map.old) (held_in map.new)) }
+    ensures { ChangesMap (Answers result error.old error.new) (Ignores id) (held_in map.old) (held_in map.new) }
 {
     finish(alloc, change_map(alloc, map, &Change::Ignored(id)), error)
 }
@@ -169,8 +133,7 @@ pub extern "C" fn sm_ignore_source(
 /// Removes all names.
 #[unsafe(no_mangle)]
 pub extern "C" fn sm_remove_names(alloc: Global, map: &mut Handle, error: &mut ErrorReport) -> u32
-    ensures { Answers result error.old error.new (HoldsNew HasNoNames (held_in map.old) (held_in map.new))
-        (FailsAs HasNoNames (tree_in (held_in map.old))) (IsAsBefore (held_in map.old) (held_in map.new)) }
+    ensures { ChangesMap (Answers result error.old error.new) HasNoNames (held_in map.old) (held_in map.new) }
 {
     finish(alloc, change_map(alloc, map, &Change::NoNames), error)
 }

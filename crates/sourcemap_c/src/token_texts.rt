@@ -40,25 +40,18 @@ fn put_text_of(alloc: Global, map: &mut Handle, index: u32, text: &mut Handle) -
     ensures kept { held_in map.new ≡ held_in map.old }
 {
     match map_in(map) {
-        Some(map) => put_text_in(alloc, map, index, text),
-        None => Err(Failure::WrongKind),
-    }
-}
-
-fn put_text_in(alloc: Global, map: &DecodedMap, index: u32, text: &mut Handle) -> Outcome<()>
-    ensures { Does result (HoldsTextOf index (leaf_in (map_tree map.now)) (bytes_in (held_in text.new)))
-        (LacksTextOf index (leaf_in (map_tree map.now))) (held_in text.new ≡ held_in text.old) }
-{
-    match leaf_in(map) {
         Some(map) => put_listed(alloc, map, index, text),
         None => Err(Failure::WrongKind),
     }
 }
 
-fn put_listed(alloc: Global, map: &SourceMap, index: u32, text: &mut Handle) -> Outcome<()>
-    ensures { Does result (HoldsTextOf index (Some map.now) (bytes_in (held_in text.new)))
-        (LacksTextOf index (Some map.now)) (held_in text.new ≡ held_in text.old) }
+fn put_listed(alloc: Global, map: &DecodedMap, index: u32, text: &mut Handle) -> Outcome<()>
+    ensures { Does result (HoldsTextOf index (leaf_in (map_tree map.now)) (bytes_in (held_in text.new)))
+        (LacksTextOf index (leaf_in (map_tree map.now))) (held_in text.new ≡ held_in text.old) }
 {
+    let Some(map) = leaf_in(map) else {
+        return Err(Failure::WrongKind);
+    };
     match map.get_token(index as usize) {
         Some(token) => put_token(alloc, token, text),
         None => Err(Failure::Absent),
@@ -106,22 +99,9 @@ fn put_text_at(
         (LacksTextAt (line, column) (tree_in (held_in map.old))) (held_in text.new ≡ held_in text.old) }
     ensures kept { held_in map.new ≡ held_in map.old }
 {
-    match map_in(map) {
-        Some(map) => put_found(alloc, map, line, column, text),
-        None => Err(Failure::WrongKind),
-    }
-}
-
-fn put_found(
-    alloc: Global,
-    map: &DecodedMap,
-    line: u32,
-    column: u32,
-    text: &mut Handle,
-) -> Outcome<()>
-    ensures { Does result (HoldsTextAt (line, column) (Some (map_tree map.now)) (bytes_in (held_in text.new)))
-        (LacksTextAt (line, column) (Some (map_tree map.now))) (held_in text.new ≡ held_in text.old) }
-{
+    let Some(map) = map_in(map) else {
+        return Err(Failure::WrongKind);
+    };
     match map.lookup_token(line, column) {
         Some(token) => put_token(alloc, token, text),
         None => Err(Failure::Absent),

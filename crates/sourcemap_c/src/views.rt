@@ -43,17 +43,7 @@ fn open(alloc: Global, view: &mut Handle, text: &[u8]) -> Outcome<()>
     ensures { Does result (view_in (held_in view.new) ≡ Some text.now) (OfLibrary (IsNoText text.now))
         (held_in view.new ≡ held_in view.old) }
 {
-    match text_in(text) {
-        Ok(text) => open_text(alloc, view, text),
-        Err(error) => Err(Failure::Library(error)),
-    }
-}
-
-fn open_text(alloc: Global, view: &mut Handle, text: &str) -> Outcome<()>
-    ensures { Does result (view_in (held_in view.new) ≡ Some text.now) (OfLibrary NoError)
-        (held_in view.new ≡ held_in view.old) }
-{
-    let made = SourceView::new(alloc, text)?;
+    let made = SourceView::new(alloc, text_in(text)?)?;
     view.fill(alloc, Held::View(made))?;
     Ok(())
 }

@@ -1,17 +1,14 @@
 //! Encoding of maps.
-ghost use Rattle.std.specs.Prelude.{◌≡◌, None, Some, ℕ, List, option_map};
+ghost use Rattle.std.specs.Prelude.{◌≡◌, Some, option_map};
 ghost use Rattle.std.specs.Borrow.{sem};
 ghost use Rattle.std.specs.Option.{option_copied};
-ghost use Rattle.sourcemap_headers.specs.DataUrl.{data_url_of};
 ghost use Rattle.sourcemap_c_handles.specs.Handles.{EndsAsBefore, held_in};
-ghost use Rattle.sourcemap_index.specs.Family.{map_tree};
-ghost use Rattle.sourcemap_c.specs.Codes.{Answers, Does, NoError, OfLibrary, OfLibraryOrKind, ReturnsValue};
+ghost use Rattle.sourcemap_c.specs.Codes.{Answers, Does, ReturnsValue};
 ghost use Rattle.sourcemap_c.specs.Kinds.{bytes_in, tree_in};
-ghost use Rattle.sourcemap_c.specs.Writing.{HoldsText, HoldsUrl};
+ghost use Rattle.sourcemap_c.specs.Writing.{FillsFrom, HoldsText, HoldsUrl};
 
 use crate::codes::{OK, WRONG_KIND};
 use crate::kinds::{map_in, put_bytes};
-use sourcemap::DecodedMap;
 use sourcemap::decoder::data_url;
 use sourcemap::encoder::encode_to_vec;
 use sourcemap_c_handles::errors::{ErrorReport, Failure, Outcome, finish};
@@ -26,32 +23,19 @@ pub extern "C" fn sm_write(
     text: &mut Handle,
     error: &mut ErrorReport,
 ) -> u32
-    ensures written { Answers result error.old error.new
-        (HoldsText (tree_in (held_in map.old)) (bytes_in (held_in text.new)))
-        (OfLibraryOrKind NoError (tree_in (held_in map.old) ≡ None)) (held_in text.new ≡ held_in text.old) }
+    ensures written { FillsFrom (Answers result error.old error.new) HoldsText (tree_in (held_in map.old)) (held_in text.old) (held_in text.new) }
     ensures kept { held_in map.new ≡ held_in map.old }
 {
     finish(alloc, write(alloc, map, text), error)
 }
 
 fn write(alloc: Global, map: &mut Handle, text: &mut Handle) -> Outcome<()>
-    ensures written { Does result (HoldsText (tree_in (held_in map.old)) (bytes_in (held_in text.new)))
-        (OfLibraryOrKind NoError (tree_in (held_in map.old) ≡ None)) (held_in text.new ≡ held_in text.old) }
+    ensures written { FillsFrom (Does result) HoldsText (tree_in (held_in map.old)) (held_in text.old) (held_in text.new) }
     ensures kept { held_in map.new ≡ held_in map.old }
 {
     match map_in(map) {
-        Some(map) => put_encoded(alloc, map, text),
+        Some(map) => put_bytes(alloc, text, encode_to_vec(alloc, map)?),
         None => Err(Failure::WrongKind),
-    }
-}
-
-fn put_encoded(alloc: Global, map: &DecodedMap, text: &mut Handle) -> Outcome<()>
-    ensures { Does result (HoldsText (Some (map_tree map.now)) (bytes_in (held_in text.new)))
-        (OfLibrary NoError) (held_in text.new ≡ held_in text.old) }
-{
-    match encode_to_vec(alloc, map) {
-        Ok(encoded) => put_bytes(alloc, text, encoded),
-        Err(error) => Err(Failure::Library(error)),
     }
 }
 
@@ -63,42 +47,23 @@ pub extern "C" fn sm_write_url(
     text: &mut Handle,
     error: &mut ErrorReport,
 ) -> u32
-    ensures written { Answers result error.old error.new
-        (HoldsUrl (tree_in (held_in map.old)) (bytes_in (held_in text.new)))
-        (OfLibraryOrKind NoError (tree_in (held_in map.old) ≡ None)) (held_in text.new ≡ held_in text.old) }
+    ensures written { FillsFrom (Answers result error.old error.new) HoldsUrl (tree_in (held_in map.old)) (held_in text.old) (held_in text.new) }
     ensures kept { held_in map.new ≡ held_in map.old }
 {
     finish(alloc, write_url(alloc, map, text), error)
 }
 
 fn write_url(alloc: Global, map: &mut Handle, text: &mut Handle) -> Outcome<()>
-    ensures written { Does result (HoldsUrl (tree_in (held_in map.old)) (bytes_in (held_in text.new)))
-        (OfLibraryOrKind NoError (tree_in (held_in map.old) ≡ None)) (held_in text.new ≡ held_in text.old) }
+    ensures written { FillsFrom (Does result) HoldsUrl (tree_in (held_in map.old)) (held_in text.old) (held_in text.new) }
     ensures kept { held_in map.new ≡ held_in map.old }
 {
     match map_in(map) {
-        Some(map) => put_url(alloc, map, text),
+        Some(map) => {
+            let encoded = encode_to_vec(alloc, map)?;
+            let url = data_url(alloc, encoded.as_slice())?;
+            put_bytes(alloc, text, url.into_bytes())
+        }
         None => Err(Failure::WrongKind),
-    }
-}
-
-fn put_url(alloc: Global, map: &DecodedMap, text: &mut Handle) -> Outcome<()>
-    ensures { Does result (HoldsUrl (Some (map_tree map.now)) (bytes_in (held_in text.new))) (OfLibrary NoError)
-        (held_in text.new ≡ held_in text.old) }
-{
-    match encode_to_vec(alloc, map) {
-        Ok(encoded) => put_url_of(alloc, encoded.as_slice(), text),
-        Err(error) => Err(Failure::Library(error)),
-    }
-}
-
-fn put_url_of(alloc: Global, encoded: &[u8], text: &mut Handle) -> Outcome<()>
-    ensures { Does result (bytes_in (held_in text.new) ≡ Some (data_url_of encoded.now)) (OfLibrary NoError)
-        (held_in text.new ≡ held_in text.old) }
-{
-    match data_url(alloc, encoded) {
-        Ok(url) => put_bytes(alloc, text, url.into_bytes()),
-        Err(error) => Err(Failure::Library(error)),
     }
 }
 

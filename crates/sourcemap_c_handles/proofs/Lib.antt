@@ -1,3 +1,4 @@
 pub mod AsBox
 pub mod HeldSend
 pub mod Texts
+pub mod ErrorsLemmas

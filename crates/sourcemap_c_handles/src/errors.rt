@@ -1,5 +1,5 @@
 //! Error codes of the C interface, and reports of errors.
-ghost use Rattle.std.specs.Prelude.{◌≡◌, ◌≤◌, IfOk, length, string_bytes};
+ghost use Rattle.std.specs.Prelude.{◌≡◌, ◌≢◌, ◌≤◌, IfOk, IsErr, length, string_bytes};
 ghost use Rattle.sourcemap_errors.specs.declared.errors.Error.TheVariants.{OutOfMemory};
 ghost use Rattle.sourcemap_c_handles.specs.Errors.{Finishes, IsWritten, Reports, error_code, error_numbers, failure_numbers, one_number, over};
 ghost use Rattle.sourcemap_c_handles.specs.declared.errors.Failure.TheVariants.{Library};
@@ -254,7 +254,8 @@ fn report(alloc: Global, failure: &Failure, to: &mut ErrorReport) -> u32
 
 /// Returns 0 for success. Otherwise writes the report and returns its code.
 pub fn finish(alloc: Global, outcome: Outcome<()>, to: &mut ErrorReport) -> u32
-    ensures { Finishes outcome result to.old to.new }
+    ensures report { Finishes outcome result to.old to.new }
+    ensures positive { IsErr outcome → result ≢ 0 }
 {
     match outcome {
         Ok(()) => Code::Ok.number(),

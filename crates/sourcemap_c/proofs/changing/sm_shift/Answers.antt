@@ -2,4 +2,4 @@ use Rattle.sourcemap_c.proofs.CodesLemmas.{coded}
 use Rattle.sourcemap_c.proofs.changing.sm_shift.Goals as goal
 
 pub returns : goal.returns
-returns c = coded c.change_map.result c.finish.result c.args.error.now c.finish.new.to _ _ _ c.finish.ensures c.change_map.ensures
+returns c = coded c.change_map.result c.finish.ensures.report c.change_map.ensures

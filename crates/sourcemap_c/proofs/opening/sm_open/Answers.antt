@@ -2,4 +2,4 @@ use Rattle.sourcemap_c.proofs.CodesLemmas.{coded}
 use Rattle.sourcemap_c.proofs.opening.sm_open.Goals as goal
 
 pub returns : goal.returns
-returns c = coded c.open.result c.finish.result c.args.error.now c.finish.new.to _ _ _ c.finish.ensures c.open.ensures
+returns c = coded c.open.result c.finish.ensures.report c.open.ensures

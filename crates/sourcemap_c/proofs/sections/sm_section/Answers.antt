@@ -1,5 +1,0 @@
-use Rattle.sourcemap_c.proofs.CodesLemmas.{coded}
-use Rattle.sourcemap_c.proofs.sections.sm_section.Goals as goal
-
-pub returns-clause-copied : goal.returns-clause-copied
-returns-clause-copied c = coded c.copy_section.result c.finish.result c.args.error.now c.finish.new.to _ _ _ c.finish.ensures c.copy_section.ensures.copied
