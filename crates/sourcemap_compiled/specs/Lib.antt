@@ -1,0 +1,8 @@
+pub mod Blocks
+pub mod Errors
+pub mod Layout
+pub mod Lookup
+pub mod Numbers
+pub mod Packing
+pub mod Stored
+pub mod Texts

@@ -1,0 +1,62 @@
+-- What a position means in a compiled map.
+use Rattle.std.specs.Prelude.{◌≡◌, ℕ, ◌+◌, ◌-◌, ◌*◌, ◌<◌, ◌≤◌, List, Bool, min, Option, option_map, Result}
+use Rattle.sourcemap_tokens.specs.declared.tokens.RawToken.{RawToken}
+use Rattle.sourcemap_tokens.specs.Tokens.{AreInOrder, closest_token, destination}
+use Rattle.sourcemap_compose.specs.Moved.{distance}
+use Rattle.sourcemap_compiled.specs.Layout.{block_count, token_count}
+use Rattle.sourcemap_compiled.specs.Blocks.{compiled_token, compiled_tokens, start_at}
+use Rattle.sourcemap_compiled.specs.Numbers.{position_number}
+use Rattle.sourcemap_compiled.specs.Texts.{compiled_name, compiled_source}
+use Rattle.sourcemap_compiled.specs.declared.errors.CompiledMapError.{CompiledMapError}
+
+-- the generated position of the token with this index, as one number
+abbrev pub position_of : List ℕ → ℕ → ℕ
+position_of bytes index = position_number (destination (compiled_token bytes index))
+
+-- the tokens are sorted by generated position, and each block starts at the position of its first token
+pub record IsInOrder (bytes : List ℕ) : Type 0 where
+  pub tokens : AreInOrder (compiled_tokens bytes)
+  pub starts : (block : ℕ) → block < block_count bytes → start_at bytes block ≡ position_of bytes (64 * block)
+
+-- the index is that of the first token at or after a position, given as one number; or it is the number of tokens
+pub record IsFirstAt (bytes : List ℕ) (position index : ℕ) : Type 0 where
+  pub within : index ≤ token_count bytes
+  pub before : 0 < index → position_of bytes (index - 1) < position
+  pub from : index < token_count bytes → position ≤ position_of bytes index
+
+-- a token of a compiled map: the bytes of the map, the fields of the token, its index, and the columns that a lookup
+-- adds to its original column
+pub record CompiledTokenValue : Type 0 where
+  pub bytes : List ℕ
+  pub raw : RawToken
+  pub index : ℕ
+  pub extra_columns : ℕ
+
+-- what a token says of a generated position: source, line and column in the source, name, and whether the token is a
+-- range token. Source and name are none or the bytes of a text, or an error if the file is damaged
+pub record CompiledMeaning : Type 0 where
+  pub source : Result (Option (List ℕ)) CompiledMapError
+  pub line : ℕ
+  pub column : ℕ
+  pub name : Result (Option (List ℕ)) CompiledMapError
+  pub is_range : Bool
+
+-- the meaning of a token
+abbrev pub says : CompiledTokenValue → CompiledMeaning
+says t = record {
+  source = compiled_source t.bytes t.raw.src_id;
+  line = t.raw.src_line;
+  column = min (t.raw.src_col + t.extra_columns) 4294967295;
+  name = compiled_name t.bytes t.raw.name_id;
+  is_range = t.raw.is_range;
+}
+
+-- the token closest to a generated position, if there is one
+abbrev pub lookup : List ℕ → ℕ × ℕ → Option CompiledTokenValue
+lookup bytes p = option_map
+    (λ found. record { bytes = bytes; raw = found.1; index = found.0; extra_columns = distance found.1 p })
+    (closest_token (compiled_tokens bytes) p)
+
+-- the meaning of a generated position: the meaning of the closest token, if there is one
+abbrev pub compiled_meaning : List ℕ → ℕ × ℕ → Option CompiledMeaning
+compiled_meaning bytes p = option_map says (lookup bytes p)
