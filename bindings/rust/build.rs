@@ -1,7 +1,8 @@
 //! Finds the C library `sourcemap` and links it.
 //!
 //! If `SOURCEMAP_LIBRARY_DIR` is set, that folder must have it. Otherwise it is looked
-//! for in `../c/out`, then by pkg-config, and then left to the linker. If a folder has
+//! for in `lib`, where a release has it, in `../c/out`, then by pkg-config, and then
+//! left to the linker. If a folder has
 //! both the static and the shared library, the static one is linked, unless
 //! `SOURCEMAP_LIBRARY_KIND` is `shared`.
 
@@ -25,10 +26,15 @@ fn main() {
                 folder.display()
             );
         }
-    } else if !link_from(&beside()) && !link_by_pkg_config() {
+    } else if !link_from(&inside()) && !link_from(&beside()) && !link_by_pkg_config() {
         println!("cargo:warning=libsourcemap is left to the linker: bindings/c/build makes it, {LIBRARY_DIR} names its folder");
         println!("cargo:rustc-link-lib=sourcemap");
     }
+}
+
+/// The folder of a released package.
+fn inside() -> PathBuf {
+    Path::new(env!("CARGO_MANIFEST_DIR")).join("lib")
 }
 
 /// The folder that `bindings/c/build` fills.

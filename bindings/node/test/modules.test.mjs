@@ -15,7 +15,7 @@ function inUsersFolder(call) {
   const user = mkdtempSync(path.join(tmpdir(), 'sourcemap-user-'));
   try {
     mkdirSync(path.join(user, 'node_modules'));
-    symlinkSync(folder, path.join(user, 'node_modules', 'sourcemap'));
+    symlinkSync(folder, path.join(user, 'node_modules', 'furzehearth-sourcemap'));
     return call(user);
   } finally {
     rmSync(user, { recursive: true });
@@ -39,11 +39,11 @@ const ANSWER = '{"source":"a.js","line":1,"column":0,"name":null}\n';
 
 test('is required and imported by its name', () => {
   inUsersFolder((user) => {
-    assert.equal(run(user, 'a.cjs', `const { TraceMap, originalPositionFor } = require('sourcemap');${WORDS}`), ANSWER);
-    assert.equal(run(user, 'b.mjs', `import { TraceMap, originalPositionFor } from 'sourcemap';${WORDS}`), ANSWER);
+    assert.equal(run(user, 'a.cjs', `const { TraceMap, originalPositionFor } = require('furzehearth-sourcemap');${WORDS}`), ANSWER);
+    assert.equal(run(user, 'b.mjs', `import { TraceMap, originalPositionFor } from 'furzehearth-sourcemap';${WORDS}`), ANSWER);
     assert.equal(run(user, 'c.mjs', `import { createRequire } from 'node:module';
-      import * as imported from 'sourcemap';
-      const required = createRequire(import.meta.url)('sourcemap');
+      import * as imported from 'furzehearth-sourcemap';
+      const required = createRequire(import.meta.url)('furzehearth-sourcemap');
       console.log(Object.keys(required).sort().every((key) => required[key] === imported[key]));
       console.log(Object.keys(imported).sort().join() === Object.keys(required).sort().join());`), 'true\ntrue\n');
   });
@@ -65,8 +65,8 @@ test('has the calls of the package that it replaces', async (t) => {
 });
 
 const TYPES = `
-import { TraceMap, AnyMap, FlattenMap, SourceMapError, LEAST_UPPER_BOUND } from 'sourcemap';
-import { originalPositionFor, originalPositionsFor, encodedMap, decodedMap, allGeneratedPositionsFor } from 'sourcemap';
+import { TraceMap, AnyMap, FlattenMap, SourceMapError, LEAST_UPPER_BOUND } from 'furzehearth-sourcemap';
+import { originalPositionFor, originalPositionsFor, encodedMap, decodedMap, allGeneratedPositionsFor } from 'furzehearth-sourcemap';
 const map = new TraceMap({ version: 3, sources: ['a'], names: [], mappings: 'AAAA' } as const, null);
 const found = originalPositionFor(map, { line: 1, column: 0, bias: LEAST_UPPER_BOUND });
 if (found.line !== null) { const line: number = found.line; const source: string | null = found.source; }

@@ -60,10 +60,11 @@ class SectionStart(ctypes.Structure):
 
 def _library_path() -> str:
     """The shared library in the folder that SOURCEMAP_LIBRARY_DIR names. Without that variable, or if it is empty,
-    the one that was built beside this package, or else the one that the system finds."""
+    the one in this package, as in a wheel, then the one that was built beside it, or else the one that the system
+    finds."""
     named = os.environ.get(VARIABLE)
-    folder = Path(named).absolute() if named else BUILT
-    for path in (folder / name for name in FILES):
+    folders = [Path(named).absolute()] if named else [Path(__file__).parent, BUILT]
+    for path in (folder / name for folder in folders for name in FILES):
         if path.is_file():
             return str(path)
     if named:

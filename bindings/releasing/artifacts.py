@@ -1,0 +1,147 @@
+"""The packages of a release. Each function takes a folder to work in and the folder of the release, and returns the name
+of the file that it made there. Modification times are SOURCE_DATE_EPOCH, owners root."""
+import gzip, json, os, pathlib, re, shutil, subprocess, tarfile
+from .tree import BINDINGS, CRATE_VERSION, Refused, TOP, VERSION, output_of, run
+
+# the system's, for which Debian has pip, setuptools and wheel
+PYTHON = '/usr/bin/python3'
+TOOLS = {'cc': 'gcc', 'ar': 'binutils', 'dpkg-deb': 'dpkg', 'node': 'nodejs', 'npm': 'npm', 'cargo': 'cargo'}
+LIBRARY = BINDINGS / 'c/out'
+DEBIAN = 'libfurzehearth-sourcemap-dev'
+CONTROL = """\
+Package: {name}
+Version: {version}
+Architecture: amd64
+Maintainer: Furzehearth <packages@furzehearth.invalid>
+Section: libdevel
+Priority: optional
+Depends: libc6 (>= {glibc})
+Description: JavaScript source maps, by proved code
+ Header, static and shared library. The names are those of the Rust crate
+ sourcemap {crate}.
+"""
+
+
+def require_tools():
+    missing = {package for command, package in TOOLS.items() if not shutil.which(command)}
+    modules = subprocess.run([PYTHON, '-c', 'import setuptools, wheel, pip'], stderr=subprocess.DEVNULL)
+    if modules.returncode:
+        missing.add('python3-pip python3-setuptools python3-wheel')
+    if missing:
+        raise Refused(f'missing: {" ".join(sorted(missing))}; bindings/install-tools release installs them')
+
+
+def epoch():
+    return int(os.environ['SOURCE_DATE_EPOCH'])
+
+
+def glibc():
+    """The oldest release of glibc, but none before 2.17, that has all that the shared library calls, as `2.17`."""
+    symbols = output_of('objdump', '-T', LIBRARY / 'libsourcemap.so')
+    minor = max(17, *(int(version) for version in re.findall(r'GLIBC_2[.]([0-9]+)', symbols)))
+    return f'2.{minor}'
+
+
+def install_c(prefix, library='lib'):
+    """Copies header, libraries and sourcemap.pc below a prefix."""
+    run(BINDINGS / 'c/install', '--no-program', prefix)
+    if library != 'lib':
+        moved = (prefix / 'lib').rename(prefix / 'moved')
+        (prefix / library).parent.mkdir(parents=True)
+        moved.rename(prefix / library)
+
+
+def write_tar(folder, file, root):
+    """A compressed tar of a folder, the same on each machine: sorted, with one time and one owner."""
+    def plain(entry):
+        entry.mtime, entry.uid, entry.gid, entry.uname, entry.gname = epoch(), 0, 0, 'root', 'root'
+        entry.mode = 0o755 if entry.isdir() or entry.mode & 0o100 else 0o644
+        return entry
+
+    with open(file, 'wb') as raw, gzip.GzipFile('', 'wb', mtime=epoch(), fileobj=raw) as packed, \
+            tarfile.open(fileobj=packed, mode='w', format=tarfile.PAX_FORMAT) as tar:
+        for path in sorted([folder, *folder.rglob('*')]):
+            tar.add(path, pathlib.Path(root, path.relative_to(folder)), recursive=False, filter=plain)
+
+
+def c_library(work, dist):
+    run(BINDINGS / 'c/build')
+    install_c(work)
+    for page in ('LICENSE', 'bindings/c/README.md'):
+        shutil.copy(TOP / page, work)
+    name = f'sourcemap-{VERSION}-x86_64-linux'
+    write_tar(work, dist / f'{name}.tar.gz', name)
+    return f'{name}.tar.gz'
+
+
+def debian(work, dist):
+    install_c(work / 'usr', 'lib/x86_64-linux-gnu')
+    pc = work / 'usr/lib/x86_64-linux-gnu/pkgconfig/sourcemap.pc'
+    lines = pc.read_text().splitlines(True)
+    pc.write_text(''.join('prefix=/usr\n' if line.startswith('prefix=') else
+                          'libdir=${prefix}/lib/x86_64-linux-gnu\n' if line.startswith('libdir=') else line for line in lines))
+    page = work / 'usr/share/doc' / DEBIAN / 'copyright'
+    page.parent.mkdir(parents=True)
+    shutil.copy(TOP / 'LICENSE', page)
+    (work / 'DEBIAN').mkdir()
+    (work / 'DEBIAN/control').write_text(CONTROL.format(name=DEBIAN, version=VERSION, glibc=glibc(), crate=CRATE_VERSION))
+    (work / 'DEBIAN/triggers').write_text('activate-noawait ldconfig\n')
+    for path in work.rglob('*'):
+        if not path.is_symlink():
+            path.chmod(0o755 if path.is_dir() else 0o644)
+    name = f'{DEBIAN}_{VERSION}_amd64.deb'
+    run('dpkg-deb', '--root-owner-group', '--build', work, dist / name)
+    return name
+
+
+def copy_package(name, work):
+    """Copies the files of a package that git tracks."""
+    for file in output_of('git', 'ls-files', '-z', cwd=BINDINGS / name).split('\0')[:-1]:
+        (work / file).parent.mkdir(parents=True, exist_ok=True)
+        shutil.copy(BINDINGS / name / file, work / file)
+    shutil.copy(TOP / 'LICENSE', work)
+
+
+def edit(file, *pairs):
+    """Replaces each first text of the pairs, which stands once in the file, by the second."""
+    text = file.read_text()
+    for old, new in pairs:
+        if text.count(old) != 1:
+            raise Refused(f'{file} has {old!r} {text.count(old)} times')
+        text = text.replace(old, new)
+    file.write_text(text)
+
+
+def wheel(work, dist):
+    copy_package('python', work)
+    shutil.copy(LIBRARY / 'libsourcemap.so', work / 'sourcemap')
+    edit(work / 'pyproject.toml', ('["py.typed", "*.html"]', '["py.typed", "*.html", "*.so"]'))
+    tag = f'manylinux_{glibc().replace(".", "_")}_x86_64'
+    (work / 'setup.cfg').write_text(f'[bdist_wheel]\npython_tag = py3\nplat_name = {tag}\n')
+    run(PYTHON, '-m', 'pip', 'wheel', '--no-deps', '--no-build-isolation', '--no-index', '--wheel-dir', work / 'made', work)
+    (made,) = (work / 'made').iterdir()
+    shutil.copy(made, dist)
+    return made.name
+
+
+def node(work, dist):
+    copy_package('node', work)
+    run(BINDINGS / 'node/build', SOURCEMAP_LIBRARY_DIR=str(LIBRARY))
+    (work / 'out').mkdir()
+    shutil.copy(BINDINGS / 'node/out/sourcemap.node', work / 'out')
+    made = json.loads(run('npm', 'pack', '--json', '--offline', '--ignore-scripts', '--pack-destination', dist, cwd=work))
+    return made[0]['filename']
+
+
+def crate(work, dist):
+    copy_package('rust', work)
+    (work / 'lib').mkdir()
+    shutil.copy(LIBRARY / 'libsourcemap.a', work / 'lib')
+    edit(work / 'Cargo.toml', ('"../../LICENSE"', '"LICENSE"'))
+    run('cargo', 'package', '--offline', '--no-verify', '--allow-dirty', cwd=work)
+    name = f'sourcemap-{CRATE_VERSION}+{VERSION}.crate'
+    shutil.copy(work / 'target/package' / name, dist)
+    return name
+
+
+ALL = (c_library, debian, wheel, node, crate)
