@@ -267,6 +267,13 @@ def _(size):
     return b'{"version":3,"sources":[],"names":[],"mappings":"","x":[' + b'[],' * size + b'[]]}'
 
 
+# refused, but only when the record is read: arrays are kept where a record reads lists
+@kind('nested arrays in a list that is read', 1_000, DECODES, 90)
+def _(size):
+    nested = b'[' * 120 + b']' * 120
+    return b'{"version":3,"names":[],"mappings":"","sources":[' + (nested + b',') * size + b'null]}'
+
+
 @kind('deep arrays', 500_000, DECODES, 4)
 def _(size):
     return b'[' * size + b']' * size
