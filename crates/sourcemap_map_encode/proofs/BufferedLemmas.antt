@@ -3,7 +3,7 @@ use Rattle.std.proofs.Common.{OnOk, Result, Ok, Err, ◌≡◌, ℕ, ◌+◌, su
 use Rattle.std.proofs.Common.{replicate, sym, ap, subst, ◌∙◌, append_assoc, append-nil, zero-add, refl, arith}
 use Rattle.std.specs.Io.KnownBytes.{Appends, append_known}
 use Rattle.std.proofs.KnownBytes.{Appends-nil, Appends-trans}
-use Rattle.sourcemap_map_encode.specs.Buffered.{Grows}
+use Rattle.sourcemap_map_encode.specs.Buffered.{Grows, GrowsBy}
 
 pub append_known-none : (known : Option (List ℕ)) → append_known known [] ≡ known
 append_known-none None = refl
@@ -71,3 +71,17 @@ pub OnOk-both : {T E : Type 0} (result : Result T E) (P Q R : Type 0) → (P →
     → OnOk result R
 OnOk-both (Ok x) P Q R f p q = f p q
 OnOk-both (Err e) P Q R f p q = tt
+
+-- bytes that wait behind the buffer do not change what a write adds
+pub Grows-behind : (h i : Option (List ℕ)) (a b behind : List ℕ) → Grows h a i b []
+    → Grows h (a ++ behind) i (b ++ behind) []
+Grows-behind None i a b behind x = tt
+Grows-behind (Some xs) None a b behind x = absurd x
+Grows-behind (Some xs) (Some ys) a b behind x =
+    sym (append_assoc ys b behind) ∙ ap (λ r. r ++ behind) (x ∙ append-nil (xs ++ a)) ∙ append_assoc xs a behind
+    ∙ sym (append-nil (xs ++ (a ++ behind)))
+
+-- as `Grows-flushed`, for some text that satisfies `IsText`
+pub GrowsBy-flushed : (IsText : List ℕ → Type 0) (h i j : Option (List ℕ)) (a b c : List ℕ) → GrowsBy IsText h a i b
+    → Grows i b j c [] → GrowsBy IsText h a j c
+GrowsBy-flushed IsText h i j a b c (text, is, x) y = (text, is, Grows-flushed h i j a b c text x y)

@@ -1,7 +1,10 @@
 -- Mappings and range bits, written piece by piece.
-use Rattle.std.proofs.Common.{◌≡◌, ℕ, ◌-◌, ◌<◌, ◌≤◌, ◌^◌, Bool, true, false, cond, List, [], ◌∷◌, ◌++◌, ℤ, Option, Some}
-use Rattle.std.proofs.Common.{None, replicate, refl, sym, ap, subst, ◌∙◌, append_assoc, append-nil}
+use Rattle.std.proofs.Common.{◌≡◌, ◌≢◌, ℕ, ◌+◌, ◌-◌, ◌<◌, ◌≤◌, ◌^◌, max, Bool, true, false, cond, List, [], ◌∷◌, ◌++◌}
+use Rattle.std.proofs.Common.{Option, Some, None, replicate, refl, sym, ap, subst, ◌∙◌, ⊎_elim, append_assoc, append-nil}
+use Rattle.std.proofs.Common.{arith}
+use Rattle.std.proofs.lemmas.Bool.{cases_eq, cases_lt, eq-eqb, eqb-true, ne_eqb}
 use Rattle.sourcemap_vlq.specs.Bits.{IsBitText}
+use Rattle.sourcemap_vlq.specs.Vlq.{Spells}
 use Rattle.sourcemap_tokens.specs.declared.tokens.RawToken.{RawToken}
 use Rattle.sourcemap_mappings.specs.Buffer.{Adds}
 use Rattle.sourcemap_mappings.specs.Segment.{comma, semicolon}
@@ -13,14 +16,14 @@ use Rattle.sourcemap_mappings.proofs.WriteSums.{IsSmall}
 use Rattle.sourcemap_mappings.proofs.WriteTokens.{UpTo}
 use Rattle.sourcemap_mappings.proofs.WriteRanges.{Ranging, Ranging-none, Ranging-turn, Ranging-repeat, Ranging-more}
 use Rattle.sourcemap_mappings.proofs.WriteRanges.{Ranging-end}
-use Rattle.sourcemap_mappings.proofs.WriteWalk.{Walked, all_lines}
+use Rattle.sourcemap_mappings.proofs.WriteWalk.{IsAtLine, Walked, all_lines}
 use Rattle.sourcemap_tokens.specs.Tokens.{AreInOrder, without_repeats}
 use Rattle.json.specs.Print.{quoted}
 use Rattle.serde_json.specs.Data.{string}
 use Rattle.sourcemap_map_encode.specs.Members.{key_text, part}
 use Rattle.sourcemap_map_encode.specs.Buffered.{Grows, GrowsBy}
-use Rattle.sourcemap_map_encode.specs.Segments.{IsPlainText, IsMappingsText, IsBitsText, IsLineOfBits}
-use Rattle.sourcemap_map_encode.proofs.BufferedLemmas.{Grows-none, Grows-join, Grows-into, Grows-flushed}
+use Rattle.sourcemap_map_encode.specs.Segments.{IsPlainText, IsMappingsText, IsBitsText, IsLineOfBits, before_line}
+use Rattle.sourcemap_map_encode.proofs.BufferedLemmas.{Grows-none, Grows-join, Grows-into, Grows-flushed, more_copies}
 use Rattle.sourcemap_map_encode.proofs.PlainLemmas.{plain-append, plain-escape, spells-plain, ends-plain, comma-plain}
 use Rattle.sourcemap_map_encode.proofs.PlainLemmas.{bits-plain}
 
@@ -31,16 +34,102 @@ gap-plain previous line t = by (follows previous t)
     by true = comma-plain
     by false = ends-plain (t.dst_line - line)
 
--- three steps write `between` and the digits of `ns`: `between` is written, the digits are appended to the buffer, and
--- the buffer may be flushed
-pub token-grown : (h i j : Option (List ℕ)) (a b c d between : List ℕ) (ns : List ℤ)
-    → Grows h a i b between → Adds ns b c → Grows i c j d [] → GrowsBy (Adds ns between) h a j d
-token-grown h i j a b c d between ns x adds y = (
-  between ++ adds.digits,
-  record { digits = adds.digits; spelled = adds.spelled; added = refl },
-  Grows-flushed h i j a c d (between ++ adds.digits)
-      (Grows-join h i i a b c between adds.digits x (Grows-into i b c adds.digits adds.added)) y,
-)
+-- Moving from line to line.
+
+at_line-same : (against : RawToken) (n : ℕ) → against.dst_line ≡ n → at_line against n ≡ against
+at_line-same against n e =
+    ap (λ b. cond b against (record against { dst_line = n; dst_col = 0 })) (eq-eqb against.dst_line n e)
+
+at_line-other : (against : RawToken) (n : ℕ) → against.dst_line ≢ n
+    → at_line against n ≡ record against { dst_line = n; dst_col = 0 }
+at_line-other against n off =
+    ap (λ b. cond b against (record against { dst_line = n; dst_col = 0 })) (ne_eqb against.dst_line n off)
+
+at_line-line : (against : RawToken) (n : ℕ) → (at_line against n).dst_line ≡ n
+at_line-line against n = ⊎_elim
+    (λ (same : against.dst_line ≡ n). ap (λ (t : RawToken). t.dst_line) (at_line-same against n same) ∙ same)
+    (λ (off : against.dst_line ≢ n). ap (λ (t : RawToken). t.dst_line) (at_line-other against n off))
+    (cases_eq against.dst_line n)
+
+-- a token on line n, or on an earlier line, moves to line n in two steps
+pub before_line-then : (against : RawToken) (n : ℕ) → against.dst_line ≤ n
+    → at_line (before_line against n) n ≡ at_line against n
+before_line-then against n h = ⊎_elim
+    (λ (far : against.dst_line < n - 1).
+    let line : max against.dst_line (n - 1) ≡ n - 1 = omega arith in
+    let before : before_line against n ≡ record against { dst_line = n - 1; dst_col = 0 } =
+    ap (at_line against) line ∙ at_line-other against (n - 1) (λ e. omega arith) in
+    ap (λ (t : RawToken). at_line t n) before
+    ∙ at_line-other (record against { dst_line = n - 1; dst_col = 0 }) n (λ e. omega arith)
+    ∙ sym (at_line-other against n (λ e. omega arith)))
+    (λ (near : n - 1 ≤ against.dst_line).
+    let line : against.dst_line ≡ max against.dst_line (n - 1) = omega arith in
+    ap (λ (t : RawToken). at_line t n) (at_line-same against (max against.dst_line (n - 1)) line))
+    (cases_lt against.dst_line (n - 1))
+
+-- the line of the last token is the one that the loop has reached
+follows-line : (line : ℕ) (ts : List RawToken) (previous : Option RawToken) (t : RawToken)
+    → IsAtLine line ts previous → follows previous t ≡ true → line ≡ t.dst_line
+follows-line line ts None t at e = absurd cc
+follows-line line ts (Some p) t at e = sym at.0 ∙ eqb-true p.dst_line t.dst_line e
+
+-- the separators before `t` are the ends of the empty lines, and then those from the line before that of `t` on
+gap-split : (previous : Option RawToken) (line : ℕ) (t : RawToken)
+    → (follows previous t ≡ true → line ≡ t.dst_line) → line ≤ t.dst_line
+    → replicate (t.dst_line - 1 - line) semicolon ++ gap previous (max line (t.dst_line - 1)) t ≡ gap previous line t
+gap-split previous line t same h = by (follows previous t) refl
+  where
+    by : (b : Bool) → follows previous t ≡ b
+        → replicate (t.dst_line - 1 - line) semicolon ++ gap previous (max line (t.dst_line - 1)) t
+        ≡ gap previous line t
+    by true e =
+        let at = same e in
+        let none : t.dst_line - 1 - line ≡ 0 = omega arith in
+        ap (λ (k : ℕ). replicate k semicolon ++ gap previous (max line (t.dst_line - 1)) t) none
+        ∙ ap (λ b. cond b (comma ∷ []) (replicate (t.dst_line - max line (t.dst_line - 1)) semicolon)) e
+        ∙ sym (ap (λ b. cond b (comma ∷ []) (replicate (t.dst_line - line) semicolon)) e)
+    by false e =
+        let all : t.dst_line - 1 - line + (t.dst_line - max line (t.dst_line - 1)) ≡ t.dst_line - line = omega arith in
+        ap (λ b. replicate (t.dst_line - 1 - line) semicolon
+        ++ cond b (comma ∷ []) (replicate (t.dst_line - max line (t.dst_line - 1)) semicolon)) e
+        ∙ more_copies (t.dst_line - 1 - line) (t.dst_line - max line (t.dst_line - 1)) semicolon
+        ∙ ap (λ (k : ℕ). replicate k semicolon) all
+        ∙ sym (ap (λ b. cond b (comma ∷ []) (replicate (t.dst_line - line) semicolon)) e)
+
+-- the empty lines before the line of `t` are ended, the other separators and the segment of `t` are appended, and the
+-- buffer may be flushed
+pub token-grown : (names : ℕ) (ts : List RawToken) (previous : Option RawToken) (against t : RawToken)
+    (h i j : Option (List ℕ)) (a b c d : List ℕ)
+    → IsAtLine against.dst_line ts previous → against.dst_line ≤ t.dst_line
+    → Grows h a i b (replicate (t.dst_line - 1 - against.dst_line) semicolon)
+    → Adds (numbers names (at_line (before_line against t.dst_line) t.dst_line) t)
+    (b ++ gap previous (before_line against t.dst_line).dst_line t) c
+    → Grows i c j d []
+    → GrowsBy (Adds (numbers names (at_line against t.dst_line) t) (gap previous against.dst_line t)) h a j d
+token-grown names ts previous against t h i j a b c d at down x adds y =
+    let empty : List ℕ = replicate (t.dst_line - 1 - against.dst_line) semicolon in
+    let left : List ℕ = gap previous (before_line against t.dst_line).dst_line t in
+    let split : empty ++ left ≡ gap previous against.dst_line t =
+    ap (λ (k : ℕ). empty ++ gap previous k t) (at_line-line against (max against.dst_line (t.dst_line - 1)))
+    ∙ gap-split previous against.dst_line t (follows-line against.dst_line ts previous t at) down in
+    let text : empty ++ (left ++ adds.digits) ≡ gap previous against.dst_line t ++ adds.digits =
+    sym (append_assoc empty left adds.digits) ∙ ap (λ r. r ++ adds.digits) split in
+    let put : Grows i b i c (left ++ adds.digits) =
+    Grows-into i b c (left ++ adds.digits) (adds.added ∙ append_assoc b left adds.digits) in (
+      gap previous against.dst_line t ++ adds.digits,
+      record {
+        digits = adds.digits;
+        spelled =
+            subst (λ (u : RawToken). Spells (numbers names u t) adds.digits) (before_line-then against t.dst_line down)
+            adds.spelled;
+        added = refl;
+      },
+      Grows-flushed h i j a c d (gap previous against.dst_line t ++ adds.digits)
+          (subst (λ (r : List ℕ). Grows h a i c r) text
+          (Grows-join h i i a b c empty (left ++ adds.digits) x put)) y,
+    )
+
+-- Mappings.
 
 -- the mappings written so far
 pub record Written (names : ℕ) (done : List RawToken) (previous : Option RawToken) (against : RawToken)

@@ -1,5 +1,5 @@
 -- Mappings and range bits as texts, which need no escapes in JSON.
-use Rattle.std.specs.Prelude.{◌≡◌, ℕ, ◌<◌, ◌^◌, List, [], ◌∷◌, ◌++◌, replicate, Bool, Option, Ok}
+use Rattle.std.specs.Prelude.{◌≡◌, ℕ, ◌<◌, ◌^◌, ◌-◌, max, List, [], ◌∷◌, ◌++◌, replicate, Bool, Option, Ok}
 use Rattle.std.specs.List.{AllByRecursion}
 use Rattle.std.specs.Option.{option_map_or}
 use Rattle.json.specs.Print.{escape_byte}
@@ -9,6 +9,7 @@ use Rattle.sourcemap_tokens.specs.Tokens.{AllWithin, reduced, without_repeats}
 use Rattle.sourcemap_mappings.specs.Read.{MappingsAnswer}
 use Rattle.sourcemap_mappings.specs.Segment.{semicolon}
 use Rattle.sourcemap_mappings.specs.Write.{IsWritten, LineByLine, IsRangeLine, IsRangeText}
+use Rattle.sourcemap_mappings.specs.WriteSteps.{at_line}
 
 -- an ASCII byte that needs no escape in JSON
 abbrev pub IsPlainByte : ℕ → Type 0
@@ -39,3 +40,8 @@ pub record IsBitsText (tokens : List RawToken) (text : List ℕ) : Type 0 where
 -- the bits of a line, followed by `ends` semicolons
 abbrev pub IsLineOfBits : List Bool → ℕ → List ℕ → Type 0
 IsLineOfBits flags ends text = (bits : List ℕ) × IsBitText flags bits × (text ≡ bits ++ replicate ends semicolon)
+
+-- the token that a segment is relative to, once the empty lines before line n have ended: on the line before n, or on
+-- its own line if there are no such lines
+abbrev pub before_line : RawToken → ℕ → RawToken
+before_line against n = at_line against (max against.dst_line (n - 1))

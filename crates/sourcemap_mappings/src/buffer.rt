@@ -8,7 +8,8 @@ ghost use Rattle.sourcemap_mappings.specs.Buffer.{Adds, raw_difference};
 use sourcemap_vlq::vlq::glyph_of;
 use std::alloc::AllocError;
 
-pub(crate) const BUFFER_SIZE: usize = 1024;
+/// The size of the buffer in bytes.
+pub const BUFFER_SIZE: usize = 1024;
 
 // The digit of each difference from -15 to 15.
 static ONE_DIGIT: [u8; 31] = [
@@ -124,11 +125,8 @@ fn put_any(buffer: &mut [u8; BUFFER_SIZE], at: usize, number: u32, against: u32)
     end + 1
 }
 
-pub(crate) fn flush(
-    text: &mut String,
-    buffer: &[u8; BUFFER_SIZE],
-    at: usize,
-) -> Result<(), AllocError>
+/// Appends the first `at` bytes of the buffer to the text. The only error is want of memory.
+pub fn flush(text: &mut String, buffer: &[u8; BUFFER_SIZE], at: usize) -> Result<(), AllocError>
     requires within { at ≤ 1024 }
     requires ascii { IsAscii (take at buffer.now) }
     ensures text { OnOk result (string_bytes text.new

@@ -193,11 +193,12 @@ fn make_space(
     Ok(0)
 }
 
-// Writes the comma or the semicolons before the segment of a token, and then the segment. The
-// output so far has reached the line of `against`. Updates `against`, and returns the new end of
-// the buffered bytes.
+/// Writes the comma or the semicolons before the segment of a token, and then the segment. Before
+/// the call, the output is the text, followed by the first `at` bytes of the buffer, and ends on the
+/// line of `against`. Updates `against`, and returns the new end of the buffered bytes. The only
+/// error is want of memory.
 #[inline(always)]
-fn put_token(
+pub fn put_token(
     text: &mut String,
     buffer: &mut [u8; BUFFER_SIZE],
     at: usize,
