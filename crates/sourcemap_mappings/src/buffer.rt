@@ -125,7 +125,7 @@ fn put_any(buffer: &mut [u8; BUFFER_SIZE], at: usize, number: u32, against: u32)
     end + 1
 }
 
-/// Appends the first `at` bytes of the buffer to the text. The only error is want of memory.
+/// Appends the first `at` bytes of the buffer to the text. The only error is that memory runs out.
 pub fn flush(text: &mut String, buffer: &[u8; BUFFER_SIZE], at: usize) -> Result<(), AllocError>
     requires within { at ≤ 1024 }
     requires ascii { IsAscii (take at buffer.now) }

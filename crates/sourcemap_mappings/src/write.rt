@@ -196,7 +196,7 @@ fn make_space(
 /// Writes the comma or the semicolons before the segment of a token, and then the segment. Before
 /// the call, the output is the text, followed by the first `at` bytes of the buffer, and ends on the
 /// line of `against`. Updates `against`, and returns the new end of the buffered bytes. The only
-/// error is want of memory.
+/// error is that memory runs out.
 #[inline(always)]
 pub fn put_token(
     text: &mut String,
