@@ -3,6 +3,7 @@ ghost use Rattle.std.specs.Prelude.{◌≡◌, ◌≤◌, ◌++◌, ◌∷◌, [
 ghost use Rattle.std.specs.Prelude.{FitsSigned, IsUtf8};
 ghost use Rattle.std.specs.Int.{w64};
 ghost use Rattle.json.specs.Ascii.{open_brace, open_bracket};
+ghost use Rattle.json.specs.Print.{quoted};
 ghost use Rattle.serde_json.specs.Data.{depth};
 ghost use Rattle.serde_json.specs.Read.{read, max_depth};
 ghost use Rattle.serde_json.specs.View.{view, number_view, items_view, members_view};
@@ -14,6 +15,9 @@ use crate::short::put_bytes;
 use itoa::Buffer;
 use serde_json::{Map, Number, Value};
 use std::alloc::{AllocError, Global};
+
+// While a short string is put, the vector is longer than the string by up to this many bytes.
+const SPARE: usize = 64;
 
 /// Returns the compact JSON text of a value, as `Value::to_vec` does, but faster where strings have
 /// escapes. The error is out of memory.
@@ -41,6 +45,16 @@ pub fn value_to_string(alloc: Global, value: &Value) -> Result<String, AllocErro
 {
     let bytes = value_to_vec(alloc, value)?;
     Ok(unsafe { String::from_utf8_unchecked(bytes) })
+}
+
+/// Returns a text as a JSON string, quoted and escaped. The error is out of memory.
+pub fn text_to_string(alloc: Global, text: &str) -> Result<String, AllocError>
+    ensures text { IfOk result (λ s. string_bytes s ≡ quoted text.now) }
+    ensures utf8 { OnOk result (IsUtf8 text.now) }
+{
+    let mut out = Vec::with_capacity(alloc, text.len().saturating_add(SPARE))?;
+    put_quoted(&mut out, text.as_bytes())?;
+    Ok(unsafe { String::from_utf8_unchecked(out) })
 }
 
 /// Why a value was not written.
