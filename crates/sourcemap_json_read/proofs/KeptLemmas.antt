@@ -20,7 +20,7 @@ use Rattle.serde_json.specs.View.{view, items_of, items_view, members_view}
 use Rattle.serde_json.specs.declared.value.Value.{Value}
 use Rattle.serde_json.proofs.Nesting.{depth-read}
 use Rattle.serde_json.proofs.Views.{Entry, put_last}
-use Rattle.sourcemap_json_read.specs.Kept.{kept, kept_items, kept_members, HoldsKept}
+use Rattle.sourcemap_json_read.specs.Kept.{Part, at_key, all_items, kept, kept_items, kept_list, kept_members, HoldsKept}
 
 same_key : (k l : List ℕ) → slice_cmp nat_cmp k l ≡ Equal → k ≡ l
 same_key k l is = (bytes_eq-Decides k l).0 (sym (is_eq-slice_cmp k l) ∙ ap is_eq is)
@@ -87,7 +87,7 @@ put-first k d (member l e ms) h =
 
 -- ---- what is kept
 
-module _ {L : Type 0} (inside : L → List ℕ → Option L) where
+module _ {L : Type 0} (inside : L → Part → Option L) where
   -- a member, if it is kept, before other members
   abbrev kept_before : List ℕ → Data → Members → Option L → Members
   kept_before k d rest o = option_map_or (λ inner. member k (kept inside inner d) rest) o rest
@@ -100,7 +100,8 @@ module _ {L : Type 0} (inside : L → List ℕ → Option L) where
   IsFirst-kept : (level : L) (k : List ℕ) (ms : Members) → IsFirst k ms → IsFirst k (kept_members inside level ms)
   IsFirst-kept level k no_members h = tt
   IsFirst-kept level k (member l d ms) h =
-      IsFirst-kept_before (inside level l) k l d (kept_members inside level ms) h.0 (IsFirst-kept level k ms h.1)
+      IsFirst-kept_before (inside level (at_key l)) k l d (kept_members inside level ms) h.0
+      (IsFirst-kept level k ms h.1)
 
   put-kept_before : (o : Option L) (k l : List ℕ) (d e : Data) (rest : Members) → slice_cmp nat_cmp k l ≡ Greater
       → kept_before l e (put k d rest) o ≡ put k d (kept_before l e rest o)
@@ -108,7 +109,7 @@ module _ {L : Type 0} (inside : L → List ℕ → Option L) where
   put-kept_before (Some inner) k l d e rest after = rw after
 
   kept-put_at : (o : Ordering) (level inner : L) (k l : List ℕ) (d e : Data) (ms : Members)
-      → slice_cmp nat_cmp k l ≡ o → inside level k ≡ Some inner → AreOrdered (member l e ms)
+      → slice_cmp nat_cmp k l ≡ o → inside level (at_key k) ≡ Some inner → AreOrdered (member l e ms)
       → kept_members inside level (put k d ms) ≡ put k (kept inside inner d) (kept_members inside level ms)
       → kept_members inside level
       (match_ordering o (member k d (member l e ms)) (member l d ms) (member l e (put k d ms)))
@@ -118,14 +119,15 @@ module _ {L : Type 0} (inside : L → List ℕ → Option L) where
       ∙ sym (put-first k (kept inside inner d) (kept_members inside level (member l e ms))
       (IsFirst-kept level k (member l e ms) (is, IsFirst-before k l ms is h.0)))
   kept-put_at Equal level inner k l d e ms is keeps h later =
-      let here : inside level l ≡ Some inner = sym (ap (inside level) (same_key k l is)) ∙ keeps in
+      let here : inside level (at_key l) ≡ Some inner =
+      sym (ap (λ key. inside level (at_key key)) (same_key k l is)) ∙ keeps in
       rw (here, is)
   kept-put_at Greater level inner k l d e ms is keeps h later =
-      ap (λ rest. kept_before l e rest (inside level l)) later
-      ∙ put-kept_before (inside level l) k l (kept inside inner d) e (kept_members inside level ms) is
+      ap (λ rest. kept_before l e rest (inside level (at_key l))) later
+      ∙ put-kept_before (inside level (at_key l)) k l (kept inside inner d) e (kept_members inside level ms) is
 
   -- a kept member is put where it would be put with all others
-  pub kept-put : (level inner : L) (k : List ℕ) (d : Data) (ms : Members) → inside level k ≡ Some inner
+  pub kept-put : (level inner : L) (k : List ℕ) (d : Data) (ms : Members) → inside level (at_key k) ≡ Some inner
       → AreOrdered ms
       → kept_members inside level (put k d ms) ≡ put k (kept inside inner d) (kept_members inside level ms)
   kept-put level inner k d no_members keeps h = ap (kept_before k d no_members) keeps
@@ -133,7 +135,7 @@ module _ {L : Type 0} (inside : L → List ℕ → Option L) where
       kept-put_at (slice_cmp nat_cmp k l) level inner k l d e ms refl keeps h (kept-put level inner k d ms keeps h.1)
 
   dropped-put_at : (o : Ordering) (level : L) (k l : List ℕ) (d e : Data) (ms : Members)
-      → slice_cmp nat_cmp k l ≡ o → inside level k ≡ None
+      → slice_cmp nat_cmp k l ≡ o → inside level (at_key k) ≡ None
       → kept_members inside level (put k d ms) ≡ kept_members inside level ms
       → kept_members inside level
       (match_ordering o (member k d (member l e ms)) (member l d ms) (member l e (put k d ms)))
@@ -141,13 +143,14 @@ module _ {L : Type 0} (inside : L → List ℕ → Option L) where
   dropped-put_at Less level k l d e ms is drops later =
       ap (kept_before k d (kept_members inside level (member l e ms))) drops
   dropped-put_at Equal level k l d e ms is drops later =
-      let here : inside level l ≡ None = sym (ap (inside level) (same_key k l is)) ∙ drops in
+      let here : inside level (at_key l) ≡ None =
+      sym (ap (λ key. inside level (at_key key)) (same_key k l is)) ∙ drops in
       rw here
   dropped-put_at Greater level k l d e ms is drops later =
-      ap (λ rest. kept_before l e rest (inside level l)) later
+      ap (λ rest. kept_before l e rest (inside level (at_key l))) later
 
   -- a member that is not kept changes nothing
-  pub dropped-put : (level : L) (k : List ℕ) (d : Data) (ms : Members) → inside level k ≡ None
+  pub dropped-put : (level : L) (k : List ℕ) (d : Data) (ms : Members) → inside level (at_key k) ≡ None
       → kept_members inside level (put k d ms) ≡ kept_members inside level ms
   dropped-put level k d no_members drops = ap (kept_before k d no_members) drops
   dropped-put level k d (member l e ms) drops =
@@ -162,27 +165,27 @@ module _ {L : Type 0} (inside : L → List ℕ → Option L) where
   nothing_inside (Some inner) = refl
 
   get_member-kept_at : (o : Ordering) (p : Option L) (level : L) (k l : List ℕ) (e : Data) (ms : Members)
-      → slice_cmp nat_cmp k l ≡ o → inside level l ≡ p
-      → get_member k (kept_members inside level ms) ≡ found_inside (inside level k) (get_member k ms)
+      → slice_cmp nat_cmp k l ≡ o → inside level (at_key l) ≡ p
+      → get_member k (kept_members inside level ms) ≡ found_inside (inside level (at_key k)) (get_member k ms)
       → get_member k (kept_before l e (kept_members inside level ms) p)
-      ≡ found_inside (inside level k) (match_ordering o (get_member k ms) (Some e) (get_member k ms))
+      ≡ found_inside (inside level (at_key k)) (match_ordering o (get_member k ms) (Some e) (get_member k ms))
   get_member-kept_at Less None level k l e ms is at later = later
   get_member-kept_at Less (Some inner) level k l e ms is at later = rw is later
   get_member-kept_at Greater None level k l e ms is at later = later
   get_member-kept_at Greater (Some inner) level k l e ms is at later = rw is later
   get_member-kept_at Equal None level k l e ms is at later =
-      let here : inside level k ≡ None = ap (inside level) (same_key k l is) ∙ at in
+      let here : inside level (at_key k) ≡ None = ap (λ key. inside level (at_key key)) (same_key k l is) ∙ at in
       later ∙ rw here
   get_member-kept_at Equal (Some inner) level k l e ms is at later =
-      let here : inside level k ≡ Some inner = ap (inside level) (same_key k l is) ∙ at in
+      let here : inside level (at_key k) ≡ Some inner = ap (λ key. inside level (at_key key)) (same_key k l is) ∙ at in
       rw (is, here)
 
   pub get_member-kept : (level : L) (k : List ℕ) (ms : Members)
       → get_member k (kept_members inside level ms)
-      ≡ option_and_then (λ inner. option_map (kept inside inner) (get_member k ms)) (inside level k)
-  get_member-kept level k no_members = nothing_inside (inside level k)
+      ≡ option_and_then (λ inner. option_map (kept inside inner) (get_member k ms)) (inside level (at_key k))
+  get_member-kept level k no_members = nothing_inside (inside level (at_key k))
   get_member-kept level k (member l e ms) =
-      get_member-kept_at (slice_cmp nat_cmp k l) (inside level l) level k l e ms refl refl
+      get_member-kept_at (slice_cmp nat_cmp k l) (inside level (at_key l)) level k l e ms refl refl
       (get_member-kept level k ms)
 
   members_depth-kept_at : (o : Option L) (k : List ℕ) (d : Data) (rest : Members) (most : ℕ)
@@ -191,6 +194,12 @@ module _ {L : Type 0} (inside : L → List ℕ → Option L) where
   members_depth-kept_at None k d rest most value less = omega arith
   members_depth-kept_at (Some inner) k d rest most value less = omega (arith, value inner)
 
+  list_depth-kept : (level : Option L) (ds : Items)
+      → ((l : L) → items_depth (kept_items inside l ds) ≤ items_depth ds)
+      → items_depth (kept_list inside level ds) ≤ items_depth ds
+  list_depth-kept None ds items = omega arith
+  list_depth-kept (Some l) ds items = items l
+
   mutual
     -- what is kept has at most the levels of the whole
     pub depth-kept : (level : L) (d : Data) → depth (kept inside level d) ≤ depth d
@@ -198,7 +207,7 @@ module _ {L : Type 0} (inside : L → List ℕ → Option L) where
     depth-kept level (boolean b) = omega arith
     depth-kept level (number n) = omega arith
     depth-kept level (string s) = omega arith
-    depth-kept level (array ds) = omega (arith, items_depth-kept level ds)
+    depth-kept level (array ds) = omega (arith, list_depth-kept (inside level all_items) ds (λ l. items_depth-kept l ds))
     depth-kept level (object ms) = omega (arith, members_depth-kept level ms)
 
     items_depth-kept : (level : L) (ds : Items) → items_depth (kept_items inside level ds) ≤ items_depth ds
@@ -209,7 +218,7 @@ module _ {L : Type 0} (inside : L → List ℕ → Option L) where
         → members_depth (kept_members inside level ms) ≤ members_depth ms
     members_depth-kept level no_members = omega arith
     members_depth-kept level (member k d ms) =
-        members_depth-kept_at (inside level k) k d (kept_members inside level ms) (members_depth ms)
+        members_depth-kept_at (inside level (at_key k)) k d (kept_members inside level ms) (members_depth ms)
         (λ inner. depth-kept inner d) (members_depth-kept level ms)
 
   pub depth-HoldsKept : (level : L) (bytes : List ℕ) (v : Data) → HoldsKept inside level bytes v → depth v ≤ max_depth
@@ -228,7 +237,8 @@ module _ {L : Type 0} (inside : L → List ℕ → Option L) where
 
   -- a copy of the first entries of a map, with one more entry that is kept
   pub kept-next : (level inner : L) (done : List Entry) (e : Entry) (more : List Entry)
-      → inside level (string_bytes e.0) ≡ Some inner → IsStrictlySortedBy string_cmp (keys_of (done ++ e ∷ more))
+      → inside level (at_key (string_bytes e.0)) ≡ Some inner
+      → IsStrictlySortedBy string_cmp (keys_of (done ++ e ∷ more))
       → put (string_bytes e.0) (kept inside inner (view e.1)) (kept_members inside level (members_view done))
       ≡ kept_members inside level (members_view (done ++ e ∷ []))
   kept-next level inner done e more keeps ordered =
@@ -238,21 +248,23 @@ module _ {L : Type 0} (inside : L → List ℕ → Option L) where
 
   -- with one more entry that is not kept
   pub dropped-next : (level : L) (done : List Entry) (e : Entry) (more : List Entry)
-      → inside level (string_bytes e.0) ≡ None → IsStrictlySortedBy string_cmp (keys_of (done ++ e ∷ more))
+      → inside level (at_key (string_bytes e.0)) ≡ None
+      → IsStrictlySortedBy string_cmp (keys_of (done ++ e ∷ more))
       → kept_members inside level (members_view done) ≡ kept_members inside level (members_view (done ++ e ∷ []))
   dropped-next level done e more drops ordered =
       sym (dropped-put level (string_bytes e.0) (view e.1) (members_view done) drops)
       ∙ ap (kept_members inside level) (put_last done e more ordered)
 
-  -- a level that keeps each member, at this same level, keeps the whole value
-  module _ (level : L) (each : (k : List ℕ) → inside level k ≡ Some level) where
+  -- a level that keeps each member and all items, at this same level, keeps the whole value
+  module _ (level : L) (each : (k : List ℕ) → inside level (at_key k) ≡ Some level)
+      (all : inside level all_items ≡ Some level) where
     mutual
       pub kept-whole : (d : Data) → kept inside level d ≡ d
       kept-whole null = refl
       kept-whole (boolean b) = refl
       kept-whole (number n) = refl
       kept-whole (string s) = refl
-      kept-whole (array ds) = ap array (kept_items-whole ds)
+      kept-whole (array ds) = ap array (ap (λ l. kept_list inside l ds) all ∙ kept_items-whole ds)
       kept-whole (object ms) = ap object (kept_members-whole ms)
 
       pub kept_items-whole : (ds : Items) → kept_items inside level ds ≡ ds

@@ -1,23 +1,28 @@
--- The parts of a JSON value that a reader keeps. A level says which members an object keeps: `inside level key` is the
--- level of the value at `key`, or `None` if the member is not kept.
+-- The parts of a JSON value that a reader keeps. A level says which parts an object and an array keep: `inside level part`
+-- is the level of the values at `part`, or `None` if `part` is not kept.
 use Rattle.std.specs.Prelude.{◌≡◌, ℕ, List, Option, Some, IfSome, IsUtf8}
 use Rattle.std.specs.Option.{option_map_or}
 use Rattle.serde_json.specs.Data.{Data, null, boolean, number, string, array, object}
 use Rattle.serde_json.specs.Data.{Items, no_items, item, Members, no_members, member}
 use Rattle.serde_json.specs.Read.{read}
 
-module _ {L : Type 0} (inside : L → List ℕ → Option L) where
+-- a part of an object or of an array: the member of a key, or all items
+pub data Part : Type 0 where
+  at_key : List ℕ → Part
+  all_items : Part
+
+module _ {L : Type 0} (inside : L → Part → Option L) where
   abbrev mutual
-    -- an object without the members that are not kept, also within items and within kept members
+    -- a value without the members and items that are not kept, also within kept members and items
     pub kept : L → Data → Data
     kept level null = null
     kept level (boolean b) = boolean b
     kept level (number n) = number n
     kept level (string s) = string s
-    kept level (array ds) = array (kept_items level ds)
+    kept level (array ds) = array (option_map_or (λ inner. kept_items inner ds) (inside level all_items) no_items)
     kept level (object ms) = object (kept_members level ms)
 
-    -- the items of an array have the level of the array
+    -- the items of an array, each of this level
     pub kept_items : L → Items → Items
     kept_items level no_items = no_items
     kept_items level (item d ds) = item (kept level d) (kept_items level ds)
@@ -25,18 +30,19 @@ module _ {L : Type 0} (inside : L → List ℕ → Option L) where
     pub kept_members : L → Members → Members
     kept_members level no_members = no_members
     kept_members level (member key d ms) =
-        option_map_or (λ inner. member key (kept inner d) (kept_members level ms)) (inside level key)
+        option_map_or (λ inner. member key (kept inner d) (kept_members level ms)) (inside level (at_key key))
         (kept_members level ms)
 
-  -- Below a member that is not kept there is no level. Nothing is kept there, so what is read there may be anything.
+  -- what is kept of the items of an array, if they have this level. Without a level no item is kept
+  abbrev pub kept_list : Option L → Items → Items
+  kept_list level ds = option_map_or (λ l. kept_items l ds) level no_items
+
+  -- Below a member or an item that is not kept there is no level. Nothing is kept there, so what is read there may be
+  -- anything.
 
   -- `v` is what is kept of `d`
   abbrev pub IsKept : Option L → Data → Data → Type 0
   IsKept level d v = IfSome level (λ l. v ≡ kept l d)
-
-  -- `vs` are what is kept of the items `ds`
-  abbrev pub AreKeptItems : Option L → Items → Items → Type 0
-  AreKeptItems level ds vs = IfSome level (λ l. vs ≡ kept_items l ds)
 
   -- `vs` are what is kept of the members `ms`
   abbrev pub AreKeptMembers : Option L → Members → Members → Type 0

@@ -5,11 +5,11 @@ ghost use Rattle.json.specs.Json.{value, items, members};
 ghost use Rattle.serde_json.specs.Data.{Data, Items, Members, no_members};
 ghost use Rattle.serde_json.specs.Read.{converted, of_items, of_json, of_members, read as read_json};
 ghost use Rattle.serde_json.specs.View.{view, items_view, members_view};
-ghost use Rattle.sourcemap_json_read.specs.Kept.{AreKeptItems, AreKeptMembers, HoldsKept, IsKept};
+ghost use Rattle.sourcemap_json_read.specs.Kept.{AreKeptMembers, HoldsKept, IsKept, kept_list};
 ghost use Rattle.sourcemap_json_read.specs.declared.kept.ReadError.TheVariants.{Invalid};
 
 use crate::kept::ReadError;
-use crate::levels::{Level, level_inside};
+use crate::levels::{Level, level_inside, level_of_items};
 use crate::numbers::parse_number;
 use crate::strings::kept_string;
 use crate::values::MAX_DEPTH;
@@ -77,7 +77,8 @@ fn read<L: Level>(
             if depth == 0 {
                 return Err(ReadError::Invalid);
             }
-            Ok(Value::Array(read_items(alloc, reader, level, depth - 1)?))
+            let inner = level_of_items(level);
+            Ok(Value::Array(read_items(alloc, reader, inner, depth - 1)?))
         }
         Token::BeginObject => {
             if depth == 0 {
@@ -98,12 +99,12 @@ fn read_items<L: Level>(
 ) -> Result<Vec<Value>, ReadError>
     ensures ok { IfOk result (λ v. (ds : Items)
         × (converted of_items (items (value depth) (length reader.old) reader.old)
-        ≡ Some (ds, reader.new)) × AreKeptItems L.Level.inside level ds (items_view v.items)) }
+        ≡ Some (ds, reader.new)) × (items_view v.items ≡ kept_list L.Level.inside level ds)) }
     ensures shorter { OnOk result (length reader.new < length reader.old) }
     ensures err { result ≡ Err Invalid
         → converted of_items (items (value depth) (length reader.old) reader.old) ≡ None }
 {
-    let mut found = Vec::new(alloc);
+    let mut found = Vec::with_capacity(alloc, 1)?;
     'items: while !reader.take_end_array() {
         let item = read(alloc, reader, level, depth)?;
         if level.is_none() {
@@ -111,6 +112,7 @@ fn read_items<L: Level>(
         }
         found.push(item)?;
     }
+    found.shrink_to_fit();
     Ok(found)
 }
 

@@ -1,4 +1,4 @@
-//! JSON values, read from bytes or copied, of which only the members that a caller names are kept.
+//! JSON values, read from bytes or copied, of which only what a caller names is kept.
 ghost use Rattle.std.specs.Prelude.{◌≡◌, ◌≤◌, None, IfOk, IfErr, IsUtf8};
 ghost use Rattle.serde_json.specs.Data.{depth as nesting};
 ghost use Rattle.serde_json.specs.Read.{max_depth, read as read_json};
@@ -75,7 +75,10 @@ pub fn kept_copy<L: Level>(alloc: Global, value: &Value, level: L) -> Result<Val
         Value::Bool(is_true) => Ok(Value::Bool(*is_true)),
         Value::Number(number) => Ok(Value::Number(*number)),
         Value::String(text) => Ok(Value::String(String::from_str(alloc, text.as_str())?)),
-        Value::Array(items) => Ok(Value::Array(copy_items(alloc, items, level)?)),
+        Value::Array(items) => match level.enter_items() {
+            Some(inner) => Ok(Value::Array(copy_items(alloc, items, inner)?)),
+            None => Ok(Value::Array(Vec::new(alloc))),
+        },
         Value::Object(members) => Ok(Value::Object(copy_members(alloc, members, level)?)),
     }
 }

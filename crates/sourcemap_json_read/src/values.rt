@@ -1,14 +1,14 @@
 //! The fast path: what is kept of a JSON text. Reads the tokens one by one with a cursor, and moves
 //! the decoded strings into the value.
-ghost use Rattle.std.specs.Prelude.{length, IfOk, IsUtf8, is_some};
+ghost use Rattle.std.specs.Prelude.{◌≡◌, length, IfOk, IsUtf8, is_some};
 ghost use Rattle.serde_json.specs.Data.{Data, Items, Members, no_members};
 ghost use Rattle.serde_json.specs.View.{view, items_view, members_view};
 ghost use Rattle.sourcemap_json_read.specs.Cursor.{Remaining, Takes};
-ghost use Rattle.sourcemap_json_read.specs.Kept.{AreKeptItems, AreKeptMembers, HoldsKept, IsKept};
+ghost use Rattle.sourcemap_json_read.specs.Kept.{AreKeptMembers, HoldsKept, IsKept, kept_list};
 ghost use Rattle.sourcemap_json_read.specs.Values.{BeginsWithValue, BeginsWithItems, BeginsWithMembers};
 
 use crate::cursor::{Cursor, Step};
-use crate::levels::{Level, level_inside};
+use crate::levels::{Level, level_inside, level_of_items};
 use crate::stop::Stop;
 use serde_json::{Map, Value};
 use std::alloc::Global;
@@ -60,7 +60,8 @@ fn read<L: Level>(
             if depth == 0 {
                 return Err(Stop::Unsupported);
             }
-            Ok(Value::Array(read_items(alloc, cursor, level, depth - 1)?))
+            let inner = level_of_items(level);
+            Ok(Value::Array(read_items(alloc, cursor, inner, depth - 1)?))
         }
         Step::BeginObject => {
             if depth == 0 {
@@ -72,9 +73,9 @@ fn read<L: Level>(
 }
 
 /// Reads the rest of an array after its opening bracket: the items and the closing bracket. Returns
-/// what is kept of the items at `level`, and nothing without a level. Each item has at most `depth`
-/// levels. The error is `Unsupported` if an item has more levels, or if the rest has another form
-/// that the fast path does not support. Any other error is out of memory.
+/// what is kept of the items, which have this level, and nothing without a level. Each item has at
+/// most `depth` levels. The error is `Unsupported` if an item has more levels, or if the rest has
+/// another form that the fast path does not support. Any other error is out of memory.
 #[cycle(read)]
 #[inline(never)]
 fn read_items<L: Level>(
@@ -85,11 +86,12 @@ fn read_items<L: Level>(
 ) -> Result<Vec<Value>, Stop>
     ensures items { IfOk result (λ v. (ds : Items)
         × BeginsWithItems depth (length cursor.old.tokens) cursor.old.tokens ds cursor.new.tokens
-        × AreKeptItems L.Level.inside level ds (items_view v.items)) }
+        × (items_view v.items ≡ kept_list L.Level.inside level ds)) }
     ensures utf8 { IfOk result (λ _. IsUtf8 cursor.new.bytes → IsUtf8 cursor.old.bytes) }
 {
     let keeps = level.is_some();
-    let mut found = Vec::new(alloc);
+    // room for one item: an array within an array often has no more
+    let mut found = Vec::with_capacity(alloc, 1)?;
     'items: loop {
         let first = cursor.next(alloc, keeps)?;
         if let Step::EndArray = first {

@@ -1,5 +1,5 @@
-// Records and detection of texts with keys that no record reads. Their values are checked as JSON,
-// and nothing else is done with them.
+// Records and detection of texts with keys that no record reads, and with arrays and objects where a
+// record reads none. They are checked as JSON, and nothing else is done with them.
 use serde_json::Value;
 use sourcemap_errors::errors::{Error, JsonFault, Result};
 use sourcemap_json::detector::is_sourcemap_slice;
@@ -101,11 +101,13 @@ fn unknown_keys_are_ignored(rt: HostRuntime) -> Checked {
     Ok(())
 }
 
-// The text of the key `x` in an object that would be a map.
-fn with_key(alloc: Global, x: &[u8]) -> Result<Vec<u8>> {
+// An object that would be a map, with more members. `x` is in them, between these texts.
+fn with_members(alloc: Global, before: &[u8], x: &[u8], after: &[u8]) -> Result<Vec<u8>> {
     let mut text = Vec::new(alloc);
-    text.extend_from_slice(br#"{"sections":[],"x":"#)?;
+    text.extend_from_slice(br#"{"sections":[],"#)?;
+    text.extend_from_slice(before)?;
     text.extend_from_slice(x)?;
+    text.extend_from_slice(after)?;
     text.extend_from_slice(b"}")?;
     Ok(text)
 }
@@ -121,12 +123,19 @@ fn answers(alloc: Global, bytes: &[u8]) -> Result<String> {
     }
 }
 
+// The answers to a text with this value at the key `x`.
 fn answers_with_key(alloc: Global, x: &[u8]) -> Result<String> {
-    let text = with_key(alloc, x)?;
+    let text = with_members(alloc, br#""x":"#, x, b"")?;
     answers(alloc, text.as_slice())
 }
 
-// A label, and a value of a key that nothing reads, which is not JSON.
+// The answers to a text with this item of an array among the sources.
+fn answers_in_sources(alloc: Global, x: &[u8]) -> Result<String> {
+    let text = with_members(alloc, br#""sources":["a",[0,"#, x, b"]]")?;
+    answers(alloc, text.as_slice())
+}
+
+// A label, and a value that nothing reads, which is not JSON.
 static FAULTY: [(&str, &[u8]); 20] = [
     ("no value", b""),
     ("a part of a word", b"tru"),
@@ -156,6 +165,16 @@ fn unknown_keys_are_checked(rt: HostRuntime) -> Checked {
     check("a value", got, "record, true")?;
     for (about, x) in FAULTY.iter() {
         check(about, answers_with_key(rt.alloc(), x), "no JSON, false")?;
+    }
+    Ok(())
+}
+
+#[test]
+fn arrays_among_sources_are_checked(rt: HostRuntime) -> Checked {
+    let got = answers_in_sources(rt.alloc(), b"[{\"a\":1e308}]");
+    check("a value", got, "no record, true")?;
+    for (about, x) in FAULTY.iter() {
+        check(about, answers_in_sources(rt.alloc(), x), "no JSON, false")?;
     }
     Ok(())
 }
@@ -198,7 +217,7 @@ fn unknown_keys_nest_to_127_levels(rt: HostRuntime) -> Checked {
 }
 
 // Texts with a value of a wrong type at a known key, and whether they are detected as maps.
-static WRONG_TYPES: [(&str, &str); 7] = [
+static WRONG_TYPES: [(&str, &str); 13] = [
     (
         r#"{"version":{"version":3},"sections":[]}"#,
         "no record, false",
@@ -223,6 +242,21 @@ static WRONG_TYPES: [(&str, &str); 7] = [
     (
         r#"{"x":{"version":3},"x_facebook_sources":[{"names":[],"mappings":""}]}"#,
         "no record, false",
+    ),
+    (r#"{"version":[3],"sections":[]}"#, "no record, false"),
+    (
+        r#"{"sources":["a",["b"]],"sections":[]}"#,
+        "no record, true",
+    ),
+    (r#"{"mappings":["A"],"sections":[]}"#, "no record, true"),
+    (r#"{"ignoreList":[0,[]],"sections":[]}"#, "no record, true"),
+    (
+        r#"{"x_facebook_sources":[[[{"names":[],"mappings":""}]]],"sections":[]}"#,
+        "no record, true",
+    ),
+    (
+        r#"{"x_facebook_sources":[[{"names":[["f"]],"mappings":""}]],"sections":[]}"#,
+        "no record, true",
     ),
 ];
 

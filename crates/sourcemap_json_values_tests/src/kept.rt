@@ -7,7 +7,7 @@ use sourcemap_test_support::checks::{Checked, check};
 use std::alloc::Global;
 
 // A JSON text, and what is kept of its value, in compact JSON.
-static KEPT: [(&str, &str); 24] = [
+static KEPT: [(&str, &str); 29] = [
     ("7", "7"),
     (r#""\u0041""#, r#""A""#),
     ("{}", "{}"),
@@ -16,7 +16,27 @@ static KEPT: [(&str, &str); 24] = [
     (r#"{"c":1,"b":2,"a":3}"#, r#"{"a":3,"b":2,"c":1}"#),
     (r#"{"a":{"x":[{"y":1.5}]}}"#, r#"{"a":{"x":[{"y":1.5}]}}"#),
     (r#"{"b":{"a":1}}"#, r#"{"b":{}}"#),
-    (r#"{"b":[1,{"a":1},"b",[{}]]}"#, r#"{"b":[1,{},"b",[{}]]}"#),
+    (r#"{"b":[1,{"a":1},"b",[{}]]}"#, r#"{"b":[1,{},"b",[]]}"#),
+    (
+        r#"{"b":[[[1,["x"]],{"a":[]}],[],[[]]]}"#,
+        r#"{"b":[[],[],[]]}"#,
+    ),
+    (
+        r#"{"b":[["\n\ud83d\ude00 é",-1.5],null]}"#,
+        r#"{"b":[[],null]}"#,
+    ),
+    (
+        r#"{"b":[[{"a":1,"a":2}],{"a":[1]}],"a":[[1]]}"#,
+        r#"{"a":[[1]],"b":[[],{}]}"#,
+    ),
+    (
+        r#"{"c":[[{"a":[1],"x":[2]}],{"b":[[3]]}]}"#,
+        r#"{"c":[[{"a":[1]}],{"b":[[]]}]}"#,
+    ),
+    (
+        r#"{"c":{"b":[1,[2,[3]]]},"b":"x"}"#,
+        r#"{"b":"x","c":{"b":[1,[]]}}"#,
+    ),
     (
         r#"{"c":{"c":{"a":1,"x":2},"x":3}}"#,
         r#"{"c":{"c":{"a":1}}}"#,
@@ -53,8 +73,8 @@ static KEPT: [(&str, &str); 24] = [
     (r#"{"b":[1e300,-0],"x":{}}"#, r#"{"b":[1e+300,-0.0]}"#),
 ];
 
-// Texts that are invalid within a member that is not kept.
-static INVALID: [&str; 22] = [
+// Texts that are invalid within a member or an item that is not kept.
+static INVALID: [&str; 29] = [
     r#"{"x"}"#,
     r#"{"x":}"#,
     r#"{"x":1"#,
@@ -77,6 +97,13 @@ static INVALID: [&str; 22] = [
     r#"{"\ud800":1}"#,
     "{\"x\":\"\u{1}\"}",
     r#"{"x":1}}"#,
+    r#"{"b":[[1,]]}"#,
+    r#"{"b":[[1}]}"#,
+    r#"{"b":[[1]}"#,
+    r#"{"b":[["\ud800"]]}"#,
+    r#"{"b":[[1e999]]}"#,
+    r#"{"b":[{"a":[01]}]}"#,
+    "{\"b\":[[\"\u{1}\"]]}",
 ];
 
 /// What is kept of the value that `sourcemap_json_read` reads from these bytes, as compact JSON, or
@@ -97,7 +124,7 @@ pub fn copied_text(alloc: Global, bytes: &[u8]) -> Result<String> {
 }
 
 #[test]
-fn members_that_no_level_keeps_are_dropped(rt: HostRuntime) -> Checked {
+fn what_no_level_keeps_is_dropped(rt: HostRuntime) -> Checked {
     for (text, want) in KEPT.iter() {
         check_long(text, kept_text(rt.alloc(), text.as_bytes()), want)?;
         check_long(text, copied_text(rt.alloc(), text.as_bytes()), want)?;
@@ -106,7 +133,7 @@ fn members_that_no_level_keeps_are_dropped(rt: HostRuntime) -> Checked {
 }
 
 #[test]
-fn members_that_are_not_kept_are_checked(rt: HostRuntime) -> Checked {
+fn what_is_not_kept_is_checked(rt: HostRuntime) -> Checked {
     for text in INVALID.iter() {
         check_long(text, kept_text(rt.alloc(), text.as_bytes()), "none")?;
         check_long(text, kit_answer(rt.alloc(), text.as_bytes()), "none")?;
@@ -115,10 +142,11 @@ fn members_that_are_not_kept_are_checked(rt: HostRuntime) -> Checked {
 }
 
 // Bytes that are not UTF-8, in a key and in strings that are not kept.
-static NOT_UTF8: [&[u8]; 3] = [
+static NOT_UTF8: [&[u8]; 4] = [
     b"{\"x\":\"\xff\"}",
     b"{\"x\":[\"\\n\xc3\"]}",
     b"{\"\x80\":1}",
+    b"{\"b\":[[\"\xff\"]]}",
 ];
 
 #[test]
@@ -129,17 +157,22 @@ fn strings_that_are_not_kept_are_utf8(rt: HostRuntime) -> Checked {
     Ok(())
 }
 
-// The text `{"x":[[..]]}` with this many arrays in one another.
-fn nested(alloc: Global, arrays: usize) -> Result<String> {
+// What is kept of the text `{"KEY":[[..]]}` with this many arrays in one another.
+fn kept_of_nested(alloc: Global, key: &str, arrays: usize) -> Result<String> {
     let before = "[".repeat(alloc, arrays)?;
     let after = "]".repeat(alloc, arrays)?;
-    Ok(format!(in alloc; "{{\"x\":{before}{after}}}")?)
+    let text = format!(in alloc; "{{\"{key}\":{before}{after}}}")?;
+    kept_text(alloc, text.as_bytes())
 }
 
+// A key, and what is kept of it.
+static NESTED: [(&str, &str); 2] = [("x", "{}"), ("b", r#"{"b":[[]]}"#)];
+
 #[test]
-fn members_that_are_not_kept_have_127_levels_at_most(rt: HostRuntime) -> Checked {
-    let text = nested(rt.alloc(), 126)?;
-    check_long("126 arrays", kept_text(rt.alloc(), text.as_bytes()), "{}")?;
-    let text = nested(rt.alloc(), 127)?;
-    check_long("127 arrays", kept_text(rt.alloc(), text.as_bytes()), "none")
+fn what_is_not_kept_has_127_levels_at_most(rt: HostRuntime) -> Checked {
+    for (key, want) in NESTED.iter() {
+        check_long("126 arrays", kept_of_nested(rt.alloc(), key, 126), want)?;
+        check_long("127 arrays", kept_of_nested(rt.alloc(), key, 127), "none")?;
+    }
+    Ok(())
 }

@@ -8,7 +8,7 @@ use sourcemap_test_support::checks::{Checked, check};
 use std::alloc::Global;
 
 static TEXTS: [&str; 4] = [
-    r#"{"version":3,"sources":["a.js",null],"names":["x\n\"y"],"mappings":"AAAA;CACA","b":{"c":[]}}"#,
+    r#"{"version":3,"sources":["a.js",null],"names":["x\n\"y"],"mappings":"AAAA;CACA","b":[["x\n",{"c":[0]}],{"c":[]}]}"#,
     r#"["\u0041\ud83d\ude00",10,-1.5e+2,true,false,null,"é€😀",{"a" : 1 , "a":2}]"#,
     r#"{"a":[[],{"\\":{}},[0,1,2]],"\/\b\f\n\r\t":"plain text of more than thirty-two bytes\n"}"#,
     r#"[18446744073709551615,0,7,{},"",[[[["a"]]]]]"#,

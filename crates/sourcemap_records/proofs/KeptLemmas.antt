@@ -13,16 +13,16 @@ use Rattle.sourcemap_records.specs.Bytes.{HoldRecord, HoldNoRecord}
 use Rattle.sourcemap_records.specs.Detection.{AreMap, has_map_keys, is_map}
 use Rattle.sourcemap_records.specs.Field.{due, with, any, text, small_number, or_null, items_read, list, found, at, required}
 use Rattle.sourcemap_records.specs.Jsontypes.{Tree, scopes, scopes_in, offset, offset_in, debug_id, fields_in, section_head_in, record_of, sections_of, sections_read, section_of, sections_in, map_in, section_at, section_with, tree_with, is_there, minimal_of}
-use Rattle.sourcemap_json_read.specs.Kept.{kept, kept_items, kept_members}
+use Rattle.sourcemap_json_read.specs.Kept.{at_key, all_items, kept, kept_items, kept_list, kept_members}
 use Rattle.sourcemap_records.specs.Levels.{HoldKept, inner_level}
 use Rattle.sourcemap_records.specs.declared.levels.RecordLevel.{RecordLevel}
-use Rattle.sourcemap_records.specs.declared.levels.RecordLevel.TheVariants.{Whole, Bare, Record, Section, Offset, Scopes, Minimal}
-use Rattle.sourcemap_json_read.proofs.KeptLemmas.{get_member-kept}
+use Rattle.sourcemap_records.specs.declared.levels.RecordLevel.TheVariants.{Whole, Scalar, Scalars, Record, Sections, Section, Offset, AllScopes, SourceScopes, Scopes, Minimal}
+use Rattle.sourcemap_json_read.proofs.KeptLemmas.{get_member-kept, kept-whole}
 use Rattle.sourcemap_records.proofs.BytesLemmas.{json_once, record_of_json}
 use Rattle.sourcemap_records.proofs.FromJsonLemmas.{sections_in-at, map_in-at}
 
 -- the value at a key that is kept
-get-kept : (level l : RecordLevel) (key : List ℕ) (ms : Members) → inner_level level key ≡ Some l
+get-kept : (level l : RecordLevel) (key : List ℕ) (ms : Members) → inner_level level (at_key key) ≡ Some l
     → get_member key (kept_members inner_level level ms) ≡ option_map (kept inner_level l) (get_member key ms)
 get-kept level l key ms is =
     get_member-kept inner_level level key ms
@@ -34,27 +34,8 @@ get-kept level l key ms is =
 abbrev IsReadFrom : {X : Type 0} → RecordLevel → (Data → Option X) → Type 0
 IsReadFrom l read = (d : Data) → read (kept inner_level l d) ≡ read d
 
-mutual
-  all-kept : (d : Data) → kept inner_level Whole d ≡ d
-  all-kept null = refl
-  all-kept (boolean b) = refl
-  all-kept (number n) = refl
-  all-kept (string s) = refl
-  all-kept (array ds) = ap array (all_items-kept ds)
-  all-kept (object ms) = ap object (all_members-kept ms)
-
-  all_items-kept : (ds : Items) → kept_items inner_level Whole ds ≡ ds
-  all_items-kept no_items = refl
-  all_items-kept (item d ds) =
-      ap (λ d. item d (kept_items inner_level Whole ds)) (all-kept d) ∙ ap (item d) (all_items-kept ds)
-
-  all_members-kept : (ms : Members) → kept_members inner_level Whole ms ≡ ms
-  all_members-kept no_members = refl
-  all_members-kept (member k d ms) =
-      ap (λ d. member k d (kept_members inner_level Whole ms)) (all-kept d) ∙ ap (member k d) (all_members-kept ms)
-
 any-kept : (d : Data) → any (kept inner_level Whole d) ≡ any d
-any-kept d = ap Some (all-kept d)
+any-kept d = ap Some (kept-whole inner_level Whole (λ k. refl) refl d)
 
 text-kept : (l : RecordLevel) (d : Data) → text (kept inner_level l d) ≡ text d
 text-kept l null = refl
@@ -87,10 +68,12 @@ items-kept read l same (item d ds) =
     ap (λ o. with o (λ x. with (items_read read (kept_items inner_level l ds)) (λ xs. Some (x ∷ xs)))) (same d)
     ∙ ap (λ o. with (read d) (λ x. with o (λ xs. Some (x ∷ xs)))) (items-kept read l same ds)
 
-list-kept : {X : Type 0} (read : Data → Option X) (l : RecordLevel) → IsReadFrom l read
-    → (d : Data) → list read (kept inner_level l d) ≡ list read d
-list-kept read l same (array ds) = items-kept read l same ds
-list-kept read l same _ = refl
+-- a list at level `level`, whose items have level `l`
+list-kept : {X : Type 0} (read : Data → Option X) (level l : RecordLevel) → inner_level level all_items ≡ Some l
+    → IsReadFrom l read → IsReadFrom level (list read)
+list-kept read level l is same (array ds) =
+    ap (λ o. items_read read (kept_list inner_level o ds)) is ∙ items-kept read l same ds
+list-kept read level l is same _ = refl
 
 found-kept : {X : Type 0} (read : Data → Option X) (l : RecordLevel) → IsReadFrom l read
     → (o : Option Data) → found read (option_map (kept inner_level l) o) ≡ found read o
@@ -98,7 +81,7 @@ found-kept read l same None = refl
 found-kept read l same (Some d) = or_null-kept read l same d
 
 at-kept : {X : Type 0} (read : Data → Option X) (level l : RecordLevel) (key : List ℕ) (ms : Members)
-    → inner_level level key ≡ Some l → IsReadFrom l read
+    → inner_level level (at_key key) ≡ Some l → IsReadFrom l read
     → at key read (kept_members inner_level level ms) ≡ at key read ms
 at-kept read level l key ms is same =
     ap (found read) (get-kept level l key ms is) ∙ found-kept read l same (get_member key ms)
@@ -109,18 +92,30 @@ with-kept read l same None = refl
 with-kept read l same (Some d) = same d
 
 required-kept : {X : Type 0} (read : Data → Option X) (level l : RecordLevel) (key : List ℕ) (ms : Members)
-    → inner_level level key ≡ Some l → IsReadFrom l read
+    → inner_level level (at_key key) ≡ Some l → IsReadFrom l read
     → required key read (kept_members inner_level level ms) ≡ required key read ms
 required-kept read level l key ms is same =
     ap (λ o. with o read) (get-kept level l key ms is) ∙ with-kept read l same (get_member key ms)
+
+list_of_texts-kept : IsReadFrom Scalars (list text)
+list_of_texts-kept = list-kept text Scalars Scalar refl (text-kept Scalar)
+
+texts-kept : IsReadFrom Scalars (list (or_null text))
+texts-kept = list-kept (or_null text) Scalars Scalar refl (or_null-kept text Scalar (text-kept Scalar))
+
+numbers-kept : IsReadFrom Scalars (list small_number)
+numbers-kept = list-kept small_number Scalars Scalar refl (number-kept Scalar)
+
+offsets-kept : IsReadFrom Scalars (list (or_null small_number))
+offsets-kept = list-kept (or_null small_number) Scalars Scalar refl (or_null-kept small_number Scalar (number-kept Scalar))
 
 -- ---- objects without sections
 
 scopes_in-kept : (ms : Members) → scopes_in (kept_members inner_level Scopes ms) ≡ scopes_in ms
 scopes_in-kept ms =
     rw (
-      required-kept (list text) Scopes Bare (codes "names") ms refl (list-kept text Bare (text-kept Bare)),
-      required-kept text Scopes Bare (codes "mappings") ms refl (text-kept Bare),
+      required-kept (list text) Scopes Scalars (codes "names") ms refl list_of_texts-kept,
+      required-kept text Scopes Scalar (codes "mappings") ms refl (text-kept Scalar),
     ) refl
 
 scopes-kept : (d : Data) → scopes (kept inner_level Scopes d) ≡ scopes d
@@ -130,8 +125,8 @@ scopes-kept _ = refl
 offset_in-kept : (ms : Members) → offset_in (kept_members inner_level Offset ms) ≡ offset_in ms
 offset_in-kept ms =
     rw (
-      required-kept small_number Offset Bare (codes "line") ms refl (number-kept Bare),
-      required-kept small_number Offset Bare (codes "column") ms refl (number-kept Bare),
+      required-kept small_number Offset Scalar (codes "line") ms refl (number-kept Scalar),
+      required-kept small_number Offset Scalar (codes "column") ms refl (number-kept Scalar),
     ) refl
 
 offset-kept : (d : Data) → offset (kept inner_level Offset d) ≡ offset d
@@ -142,38 +137,31 @@ section_head-kept : (ms : Members) → section_head_in (kept_members inner_level
 section_head-kept ms =
     rw (
       required-kept offset Section Offset (codes "offset") ms refl offset-kept,
-      at-kept text Section Bare (codes "url") ms refl (text-kept Bare),
+      at-kept text Section Scalar (codes "url") ms refl (text-kept Scalar),
     ) refl
 
-texts-kept : IsReadFrom Bare (list (or_null text))
-texts-kept = list-kept (or_null text) Bare (or_null-kept text Bare (text-kept Bare))
-
-offsets-kept : IsReadFrom Bare (list (or_null small_number))
-offsets-kept = list-kept (or_null small_number) Bare (or_null-kept small_number Bare (number-kept Bare))
-
-all_scopes-kept : IsReadFrom Scopes (list (or_null (list scopes)))
+all_scopes-kept : IsReadFrom AllScopes (list (or_null (list scopes)))
 all_scopes-kept =
-    list-kept (or_null (list scopes)) Scopes
-    (or_null-kept (list scopes) Scopes (list-kept scopes Scopes scopes-kept))
+    list-kept (or_null (list scopes)) AllScopes SourceScopes refl
+    (or_null-kept (list scopes) SourceScopes (list-kept scopes SourceScopes Scopes refl scopes-kept))
 
 fields-kept : (ms : Members) → fields_in (kept_members inner_level Record ms) ≡ fields_in ms
 fields-kept ms =
     rw (
-      at-kept debug_id Record Bare (codes "debugId") ms refl (debug_id-kept Bare),
-      at-kept debug_id Record Bare (codes "debug_id") ms refl (debug_id-kept Bare),
-      at-kept small_number Record Bare (codes "version") ms refl (number-kept Bare),
+      at-kept debug_id Record Scalar (codes "debugId") ms refl (debug_id-kept Scalar),
+      at-kept debug_id Record Scalar (codes "debug_id") ms refl (debug_id-kept Scalar),
+      at-kept small_number Record Scalar (codes "version") ms refl (number-kept Scalar),
       at-kept any Record Whole (codes "file") ms refl any-kept,
-      at-kept (list (or_null text)) Record Bare (codes "sources") ms refl texts-kept,
-      at-kept text Record Bare (codes "sourceRoot") ms refl (text-kept Bare),
-      at-kept (list (or_null text)) Record Bare (codes "sourcesContent") ms refl texts-kept,
-      at-kept (list any) Record Whole (codes "names") ms refl (list-kept any Whole any-kept),
-      at-kept text Record Bare (codes "rangeMappings") ms refl (text-kept Bare),
-      at-kept text Record Bare (codes "mappings") ms refl (text-kept Bare),
-      at-kept (list small_number) Record Bare (codes "ignoreList") ms refl
-          (list-kept small_number Bare (number-kept Bare)),
-      at-kept (list (or_null small_number)) Record Bare (codes "x_facebook_offsets") ms refl offsets-kept,
-      at-kept (list text) Record Bare (codes "x_metro_module_paths") ms refl (list-kept text Bare (text-kept Bare)),
-      at-kept (list (or_null (list scopes))) Record Scopes (codes "x_facebook_sources") ms refl all_scopes-kept,
+      at-kept (list (or_null text)) Record Scalars (codes "sources") ms refl texts-kept,
+      at-kept text Record Scalar (codes "sourceRoot") ms refl (text-kept Scalar),
+      at-kept (list (or_null text)) Record Scalars (codes "sourcesContent") ms refl texts-kept,
+      at-kept (list any) Record Whole (codes "names") ms refl (list-kept any Whole Whole refl any-kept),
+      at-kept text Record Scalar (codes "rangeMappings") ms refl (text-kept Scalar),
+      at-kept text Record Scalar (codes "mappings") ms refl (text-kept Scalar),
+      at-kept (list small_number) Record Scalars (codes "ignoreList") ms refl numbers-kept,
+      at-kept (list (or_null small_number)) Record Scalars (codes "x_facebook_offsets") ms refl offsets-kept,
+      at-kept (list text) Record Scalars (codes "x_metro_module_paths") ms refl list_of_texts-kept,
+      at-kept (list (or_null (list scopes))) Record AllScopes (codes "x_facebook_sources") ms refl all_scopes-kept,
     ) refl
 
 -- ---- records with sections
@@ -188,12 +176,12 @@ nested-kept read l Equal o d before here = or_null-kept_of read l d here
 nested-kept read l Greater o d before here = before
 
 sections_in-kept : (ms : Members)
-    → found sections_of (option_map (kept inner_level Section) (get_member (codes "sections") ms))
+    → found sections_of (option_map (kept inner_level Sections) (get_member (codes "sections") ms))
     ≡ found sections_of (get_member (codes "sections") ms)
     → sections_in (kept_members inner_level Record ms) ≡ sections_in ms
 sections_in-kept ms is =
     sections_in-at (kept_members inner_level Record ms)
-    ∙ ap (found sections_of) (get-kept Record Section (codes "sections") ms refl)
+    ∙ ap (found sections_of) (get-kept Record Sections (codes "sections") ms refl)
     ∙ is
     ∙ sym (sections_in-at ms)
 
@@ -217,7 +205,7 @@ mutual
       (fields-kept ms)
   record-kept _ = refl
 
-  sections-kept : (d : Data) → sections_of (kept inner_level Section d) ≡ sections_of d
+  sections-kept : (d : Data) → sections_of (kept inner_level Sections d) ≡ sections_of d
   sections-kept (array ds) = sections_read-kept ds
   sections-kept _ = refl
 
@@ -238,11 +226,11 @@ mutual
   section-kept _ = refl
 
   sections_at-kept : (ms : Members)
-      → found sections_of (option_map (kept inner_level Section) (get_member (codes "sections") ms))
+      → found sections_of (option_map (kept inner_level Sections) (get_member (codes "sections") ms))
       ≡ found sections_of (get_member (codes "sections") ms)
   sections_at-kept no_members = refl
   sections_at-kept (member key d ms) =
-      nested-kept sections_of Section (slice_cmp nat_cmp (codes "sections") key) (get_member (codes "sections") ms) d
+      nested-kept sections_of Sections (slice_cmp nat_cmp (codes "sections") key) (get_member (codes "sections") ms) d
       (sections_at-kept ms) (sections-kept d)
 
   map_at-kept : (ms : Members)
@@ -260,14 +248,14 @@ there-kept l None = refl
 there-kept l (Some null) = refl
 there-kept l (Some _) = refl
 
-has-kept : (key : List ℕ) (ms : Members) → inner_level Minimal key ≡ Some Bare
+has-kept : (key : List ℕ) (ms : Members) → inner_level Minimal (at_key key) ≡ Some Scalar
     → is_there (get_member key (kept_members inner_level Minimal ms)) ≡ is_there (get_member key ms)
-has-kept key ms is = ap is_there (get-kept Minimal Bare key ms is) ∙ there-kept Bare (get_member key ms)
+has-kept key ms is = ap is_there (get-kept Minimal Scalar key ms is) ∙ there-kept Scalar (get_member key ms)
 
 pub minimal-kept : (d : Data) → minimal_of (kept inner_level Minimal d) ≡ minimal_of d
 minimal-kept (object ms) =
     rw (
-      at-kept small_number Minimal Bare (codes "version") ms refl (number-kept Bare),
+      at-kept small_number Minimal Scalar (codes "version") ms refl (number-kept Scalar),
       has-kept (codes "file") ms refl,
       has-kept (codes "sources") ms refl,
       has-kept (codes "sourceRoot") ms refl,

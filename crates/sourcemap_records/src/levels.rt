@@ -1,22 +1,31 @@
-// Which members of JSON objects are kept, since a record or the detection of maps reads them.
+// Which parts of JSON objects and arrays are kept, since a record or the detection of maps reads
+// them.
 ghost use Rattle.std.specs.Prelude.{◌≡◌};
+ghost use Rattle.sourcemap_json_read.specs.Kept.{at_key};
 ghost use Rattle.sourcemap_records.specs.Levels.{inner_level};
 ghost use Rattle.sourcemap_records.specs.declared.levels.RecordLevel.TheVariants.{Record, Section, Offset, Scopes, Minimal};
 
 use sourcemap_json_read::kept::Level;
 
-// What an object is read as, or the objects in an array.
+// What a value is read as. Of any other array or object no part is kept.
 #[derive(Clone, Copy)]
 pub(crate) enum RecordLevel {
-    // Any JSON value. All members are kept.
+    // Any JSON value. All of it is kept.
     Whole,
-    // No reading takes an object here. No member is kept.
-    Bare,
+    // A text, a number or null.
+    Scalar,
+    // An array of scalars.
+    Scalars,
     Record,
+    // The sections of an index map.
+    Sections,
     Section,
     // The offset of a section.
     Offset,
-    // The function scopes of a source.
+    // The function scopes of all sources.
+    AllScopes,
+    // The function scopes of a source: an array, of which all items are read.
+    SourceScopes,
     Scopes,
     // A record that is only detected. The keys of `MinimalRawSourceMap` are kept.
     Minimal,
@@ -28,69 +37,87 @@ impl Level for RecordLevel {
     fn enter(self, key: &str) -> Option<RecordLevel> {
         match self {
             RecordLevel::Whole => Some(RecordLevel::Whole),
-            RecordLevel::Bare => None,
             RecordLevel::Record => in_record(key),
             RecordLevel::Section => in_section(key),
             RecordLevel::Offset => in_offset(key),
             RecordLevel::Scopes => in_scopes(key),
             RecordLevel::Minimal => in_minimal(key),
+            RecordLevel::Scalar
+            | RecordLevel::Scalars
+            | RecordLevel::Sections
+            | RecordLevel::AllScopes
+            | RecordLevel::SourceScopes => None,
+        }
+    }
+
+    fn enter_items(self) -> Option<RecordLevel> {
+        match self {
+            RecordLevel::Whole => Some(RecordLevel::Whole),
+            RecordLevel::Scalars => Some(RecordLevel::Scalar),
+            RecordLevel::Sections => Some(RecordLevel::Section),
+            RecordLevel::AllScopes => Some(RecordLevel::SourceScopes),
+            RecordLevel::SourceScopes => Some(RecordLevel::Scopes),
+            RecordLevel::Scalar
+            | RecordLevel::Record
+            | RecordLevel::Section
+            | RecordLevel::Offset
+            | RecordLevel::Scopes
+            | RecordLevel::Minimal => None,
         }
     }
 }
 
 fn in_record(key: &str) -> Option<RecordLevel>
-    ensures { result ≡ inner_level Record key.now }
+    ensures { result ≡ inner_level Record (at_key key.now) }
 {
     match key {
-        "version"
-        | "sources"
-        | "sourceRoot"
+        "version" | "sourceRoot" | "rangeMappings" | "mappings" | "debugId" | "debug_id" => {
+            Some(RecordLevel::Scalar)
+        }
+        "sources"
         | "sourcesContent"
-        | "rangeMappings"
-        | "mappings"
         | "ignoreList"
         | "x_facebook_offsets"
-        | "x_metro_module_paths"
-        | "debugId"
-        | "debug_id" => { Some(RecordLevel::Bare) }
+        | "x_metro_module_paths" => { Some(RecordLevel::Scalars) }
         "file" | "names" => Some(RecordLevel::Whole),
-        "sections" => Some(RecordLevel::Section),
-        "x_facebook_sources" => Some(RecordLevel::Scopes),
+        "sections" => Some(RecordLevel::Sections),
+        "x_facebook_sources" => Some(RecordLevel::AllScopes),
         _ => None,
     }
 }
 
 fn in_section(key: &str) -> Option<RecordLevel>
-    ensures { result ≡ inner_level Section key.now }
+    ensures { result ≡ inner_level Section (at_key key.now) }
 {
     match key {
         "offset" => Some(RecordLevel::Offset),
-        "url" => Some(RecordLevel::Bare),
+        "url" => Some(RecordLevel::Scalar),
         "map" => Some(RecordLevel::Record),
         _ => None,
     }
 }
 
 fn in_offset(key: &str) -> Option<RecordLevel>
-    ensures { result ≡ inner_level Offset key.now }
+    ensures { result ≡ inner_level Offset (at_key key.now) }
 {
     match key {
-        "line" | "column" => Some(RecordLevel::Bare),
+        "line" | "column" => Some(RecordLevel::Scalar),
         _ => None,
     }
 }
 
 fn in_scopes(key: &str) -> Option<RecordLevel>
-    ensures { result ≡ inner_level Scopes key.now }
+    ensures { result ≡ inner_level Scopes (at_key key.now) }
 {
     match key {
-        "names" | "mappings" => Some(RecordLevel::Bare),
+        "names" => Some(RecordLevel::Scalars),
+        "mappings" => Some(RecordLevel::Scalar),
         _ => None,
     }
 }
 
 fn in_minimal(key: &str) -> Option<RecordLevel>
-    ensures { result ≡ inner_level Minimal key.now }
+    ensures { result ≡ inner_level Minimal (at_key key.now) }
 {
     match key {
         "version"
@@ -100,7 +127,7 @@ fn in_minimal(key: &str) -> Option<RecordLevel>
         | "sourcesContent"
         | "sections"
         | "names"
-        | "mappings" => Some(RecordLevel::Bare),
+        | "mappings" => Some(RecordLevel::Scalar),
         _ => None,
     }
 }

@@ -122,7 +122,7 @@ read-returns-in_ok-read_items-in-BeginArray-clause-ok g t c =
     let is = found.ensures.ok in (
       array is.0,
       opened ∙ ap (parse_map array) is.1,
-      kept_array g.L.Level.inside c.args.level is.0 found.field-0 is.2,
+      kept_array g.L.Level.inside c.args.level _ is.0 found.field-0 c.level_of_items-inner.ensures is.2,
     )
 
 pub read-returns-in_ok-read_members-in-BeginObject-clause-ok : goal.read-returns-in_ok-read_members-in-BeginObject-clause-ok
@@ -144,7 +144,7 @@ read_items-items-init g t c = (
   length c.args.reader.now,
   omega arith,
   [],
-  rw c.new-found.ensures.items (no_front g.L.Level.inside c.args.level),
+  rw c.in_ok-found.ensures.items (no_front g.L.Level.inside c.args.level),
   none_in_front _,
   omega arith,
 )
@@ -172,7 +172,7 @@ read_items-items-preserved-then-is_none g t c =
       h.0 - 1,
       omega (arith, less, h.1),
       h.2 ++ is.0 ∷ [],
-      skipped_item g.L.Level.inside c.args.level h.2 l.found.items is.0 none,
+      skipped_item g.L.Level.inside c.args.level h.2 l.found.items is.0 h.3 none,
       h.4 ∙ ap (parse_map (in_front h.2)) turn ∙ one_more_item h.2 is.0 _,
       omega (arith, less, h.5),
     )
@@ -187,11 +187,13 @@ read_items-items-preserved g t c =
     let v = c.in_ok-item.item in
     let is = c.in_ok-item.ensures.ok in
     let less : length r < length l.reader = rw (← going.1) c.in_ok-item.ensures.shorter in
-    let turn = item_read p h.0 l.reader r is.0 (omega (arith, less, h.1)) going.0 (rw (← going.1) is.1) in (
+    let turn = item_read p h.0 l.reader r is.0 (omega (arith, less, h.1)) going.0 (rw (← going.1) is.1) in
+    let some : is_some c.args.level ≡ true = c.is_none.ensures ∙ ap not c.if-is_none.false in (
       h.0 - 1,
       omega (arith, less, h.1),
       h.2 ++ is.0 ∷ [],
-      rw c.in_ok-push.ensures.items (kept_item g.L.Level.inside c.args.level h.2 l.found.items is.0 v h.3 is.2),
+      rw c.in_ok-push.ensures.items
+          (kept_item g.L.Level.inside c.args.level h.2 l.found.items is.0 v h.3 is.2 some),
       h.4 ∙ ap (parse_map (in_front h.2)) turn ∙ one_more_item h.2 is.0 _,
       omega (arith, less, h.5),
     )
@@ -205,7 +207,7 @@ read_items-returns-clause-ok g t c =
       items_of h.2,
       h.4 ∙ ap (parse_map (in_front h.2)) (items_over p h.0 l.reader r h.1 (grind arith))
           ∙ ap (λ ds. Some (ds, r)) (in_front-no_items h.2),
-      kept_front g.L.Level.inside c.args.level h.2 l.found.items h.3,
+      rw c.shrink_to_fit.ensures.items (kept_front g.L.Level.inside c.args.level h.2 l.found.items h.3),
     )
 
 pub read_members-members-init : goal.read_members-members-init

@@ -6,7 +6,7 @@ use Rattle.std.specs.Map.{keys_of}
 use Rattle.std.specs.String.{string_cmp}
 use Rattle.serde_json.specs.View.{view, items_of, members_view}
 use Rattle.serde_json.proofs.Views.{Entry, members_view-insert_entry}
-use Rattle.sourcemap_json_read.specs.Kept.{kept}
+use Rattle.sourcemap_json_read.specs.Kept.{kept, at_key}
 use Rattle.sourcemap_json_read.proofs.KeptLemmas.{kept-items_view, kept-next, dropped-next}
 use Rattle.sourcemap_json_read.proofs.kept.+copy.Goals as goal
 
@@ -28,7 +28,7 @@ copy_members-loop-key-preserved-in_default g t c =
     l.invariant.1 ∙ ap (λ es. done ++ es) c.in-Some.ensures.steps in
     let ordered =
     subst (λ es. IsStrictlySortedBy string_cmp (keys_of es)) all c.iter-key-items.ensures.ordered in
-    let drops : g.L.Level.inside c.args.level (string_bytes e.0) ≡ None =
+    let drops : g.L.Level.inside c.args.level (at_key (string_bytes e.0)) ≡ None =
     first_of (search rules, cc, grind (arith, common_steps)) in (
       done ++ e ∷ [],
       all ∙ sym (append_assoc done (e ∷ []) left),
@@ -45,7 +45,7 @@ copy_members-loop-key-preserved g t c =
     l.invariant.1 ∙ ap (λ es. done ++ es) c.in-Some.ensures.steps in
     let ordered =
     subst (λ es. IsStrictlySortedBy string_cmp (keys_of es)) all c.iter-key-items.ensures.ordered in
-    let keeps : g.L.Level.inside c.args.level (string_bytes e.0) ≡ Some c.in-Some-enter.inner =
+    let keeps : g.L.Level.inside c.args.level (at_key (string_bytes e.0)) ≡ Some c.in-Some-enter.inner =
     first_of (search rules, cc, grind (arith, common_steps)) in
     let named : string_bytes c.in_ok-name.name ≡ string_bytes e.0 =
     first_of (search rules, cc, grind (arith, common_steps)) in (

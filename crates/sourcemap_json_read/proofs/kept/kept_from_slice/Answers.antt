@@ -3,13 +3,13 @@ use Rattle.serde_json.specs.Data.{depth}
 use Rattle.serde_json.specs.Read.{max_depth}
 use Rattle.serde_json.specs.View.{view}
 use Rattle.serde_json.specs.declared.value.Value.{Value}
-use Rattle.sourcemap_json_read.specs.Kept.{HoldsKept}
+use Rattle.sourcemap_json_read.specs.Kept.{Part, HoldsKept}
 use Rattle.sourcemap_json_read.specs.declared.kept.ReadError.{ReadError}
 use Rattle.sourcemap_json_read.specs.declared.kept.ReadError.TheVariants.{Invalid}
 use Rattle.sourcemap_json_read.proofs.KeptLemmas.{depth-HoldsKept}
 use Rattle.sourcemap_json_read.proofs.kept.kept_from_slice.Goals as goal
 
-nests : {L : Type 0} (inside : L → List ℕ → Option L) (level : L) (bytes : List ℕ) (r : Result Value ReadError)
+nests : {L : Type 0} (inside : L → Part → Option L) (level : L) (bytes : List ℕ) (r : Result Value ReadError)
     → IfOk r (λ v. HoldsKept inside level bytes (view v)) → IfOk r (λ v. depth (view v) ≤ max_depth)
 nests inside level bytes (Ok v) h = depth-HoldsKept inside level bytes (view v) h
 nests inside level bytes (Err e) h = tt

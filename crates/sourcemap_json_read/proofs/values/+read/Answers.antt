@@ -7,7 +7,7 @@ use Rattle.serde_json.specs.View.{view, items_of, number_view, members_view}
 use Rattle.serde_json.specs.declared.value.Value.{String, Number, Bool, Null, the_lemmas}
 use Rattle.serde_json.proofs.Views.{members_view-insert_entry}
 use Rattle.sourcemap_json_read.specs.Cursor.{Takes}
-use Rattle.sourcemap_json_read.specs.Kept.{AreKeptMembers}
+use Rattle.sourcemap_json_read.specs.Kept.{AreKeptMembers, at_key}
 use Rattle.sourcemap_json_read.proofs.KeptLemmas.{AreOrdered-put}
 use Rattle.sourcemap_json_read.proofs.KeptReading.{in_front-no_items, in_front-item, kept_whole, kept_array, kept_object}
 use Rattle.sourcemap_json_read.proofs.KeptReading.{no_front, kept_front, kept_item, skipped_item, kept_member}
@@ -60,7 +60,7 @@ read-returns-in-BeginArray-clause-value g t c = λ old taken.
       array is.0,
       whole_array c.args.depth is.0 old.tokens c.args.cursor.now.tokens _ (omega arith)
           (rw c.in-BeginArray.is at taken) is.1,
-      kept_array g.L.Level.inside c.args.level is.0 found.field-0 is.2,
+      kept_array g.L.Level.inside c.args.level _ is.0 found.field-0 c.level_of_items-inner.ensures is.2,
     )
 
 pub read-returns-clause-value : goal.read-returns-clause-value
@@ -88,7 +88,7 @@ read_items-items-init g t c = (
   length c.args.cursor.now.tokens,
   omega arith,
   [],
-  rw c.new-found.ensures.items (no_front g.L.Level.inside c.args.level),
+  rw c.in_ok-found.ensures.items (no_front g.L.Level.inside c.args.level),
   λ ds new more. more,
   λ rest. rest,
 )
@@ -122,7 +122,7 @@ read_items-items-preserved-then-not-keeps g t c =
       h.0 - 1,
       omega (arith, less, h.1),
       h.2 ++ here.0 ∷ [],
-      skipped_item g.L.Level.inside c.args.level h.2 l.found.items here.0 none,
+      skipped_item g.L.Level.inside c.args.level h.2 l.found.items here.0 h.3 none,
       λ ds new more. rw (← in_front-item h.2 here.0 ds) (h.4 _ new
           (next_item c.args.depth h.0 here.0 ds l.cursor.tokens _ new (omega (arith, less, h.1)) here.1 more)),
       λ rest. h.5 (c.in_ok-first.ensures.utf8 (c.in_ok-item.ensures.utf8 rest)),
@@ -137,11 +137,13 @@ read_items-items-preserved g t c =
     subst (λ keeps. Takes keeps l.cursor c.in_ok-first.first c.next.new.self) c.is_some-keeps.ensures
     c.in_ok-first.ensures.takes in
     let here = c.in_ok-item.ensures.value l.cursor taken in
-    let less = value_shorter c.args.depth _ l.cursor.tokens _ here.1 in (
+    let less = value_shorter c.args.depth _ l.cursor.tokens _ here.1 in
+    let some : is_some c.args.level ≡ true = first_of (cc, grind arith, search rules) in (
       h.0 - 1,
       omega (arith, less, h.1),
       h.2 ++ here.0 ∷ [],
-      rw c.in_ok-push.ensures.items (kept_item g.L.Level.inside c.args.level h.2 l.found.items here.0 v h.3 here.2),
+      rw c.in_ok-push.ensures.items
+          (kept_item g.L.Level.inside c.args.level h.2 l.found.items here.0 v h.3 here.2 some),
       λ ds new more. rw (← in_front-item h.2 here.0 ds) (h.4 _ new
           (next_item c.args.depth h.0 here.0 ds l.cursor.tokens _ new (omega (arith, less, h.1)) here.1 more)),
       λ rest. h.5 (c.in_ok-first.ensures.utf8 (c.in_ok-item.ensures.utf8 rest)),
@@ -206,9 +208,9 @@ read_members-members-preserved-then-is_none g t c =
     let k = named.0 in
     let s = string_bytes c.in-Key.key in
     let same : IsTrue (is_some level) → k ≡ s = λ some. named.2 (c.is_some-keeps.ensures ∙ some) in
-    let at : inner ≡ option_and_then (λ x. g.L.Level.inside x s) level =
+    let at : inner ≡ option_and_then (λ x. g.L.Level.inside x (at_key s)) level =
     c.level_inside-inner.ensures
-    ∙ ap (λ name. option_and_then (λ x. g.L.Level.inside x name) level) c.as_str.ensures.value in
+    ∙ ap (λ name. option_and_then (λ x. g.L.Level.inside x (at_key name)) level) c.as_str.ensures.value in
     let first = c.in_ok-first-in-Key.first in
     let taken : Takes (is_some inner) c.next.new.self first c.next-in-Key.new.self =
     subst (λ keeps. Takes keeps c.next.new.self first c.next-in-Key.new.self) c.is_some.ensures
@@ -238,9 +240,9 @@ read_members-members-preserved g t c =
     let k = named.0 in
     let s = string_bytes c.in-Key.key in
     let same : IsTrue (is_some level) → k ≡ s = λ some. named.2 (c.is_some-keeps.ensures ∙ some) in
-    let at : inner ≡ option_and_then (λ x. g.L.Level.inside x s) level =
+    let at : inner ≡ option_and_then (λ x. g.L.Level.inside x (at_key s)) level =
     c.level_inside-inner.ensures
-    ∙ ap (λ name. option_and_then (λ x. g.L.Level.inside x name) level) c.as_str.ensures.value in
+    ∙ ap (λ name. option_and_then (λ x. g.L.Level.inside x (at_key name)) level) c.as_str.ensures.value in
     let first = c.in_ok-first-in-Key.first in
     let taken : Takes (is_some inner) c.next.new.self first c.next-in-Key.new.self =
     subst (λ keeps. Takes keeps c.next.new.self first c.next-in-Key.new.self) c.is_some.ensures
