@@ -14,6 +14,7 @@ use sourcemap_tokens::search::greatest_lower_bound;
 // The position (`line`, `col`) relative to `offset`, the offset of a section. The offset's column
 // is subtracted only on the section's first line. `offset` is never after the position, so
 // `saturating_sub` gives the exact difference.
+#[inline(always)]
 fn relative_position(offset: (u32, u32), line: u32, col: u32) -> (u32, u32)
     ensures { result ≡ relative_position offset (line, col) }
 {
@@ -29,6 +30,7 @@ impl SourceMapIndex {
     ghost use Rattle.sourcemap_index.specs.Family.{index_value, section_value};
     ghost use Rattle.sourcemap_index.specs.Lookup.{HasToken, IsAmong};
 
+    #[inline(always)]
     fn closest_section(&self, line: u32, col: u32) -> Option<&SourceMapSection>
         ensures own { IfSome result
             (λ s. IsAmong (index_value self.now).sections (section_value s.now)) }
@@ -109,6 +111,7 @@ impl DecodedMap {
     // between many maps, for example between the maps of sections, this search is usually faster
     // than a search with the table.
     #[cycle(lookup)]
+    #[inline(always)]
     fn closest_among_many(&self, line: u32, col: u32) -> Option<Token<'_>>
         ensures value { IsInOrder (map_tree self.now)
             → option_map token_value result ≡ lookup (map_tree self.now) (line, col) }
