@@ -3,6 +3,5 @@ pub mod Errors
 pub mod Layout
 pub mod Lookup
 pub mod Numbers
-pub mod Packing
 pub mod Stored
 pub mod Texts

@@ -1,10 +1,10 @@
 use Rattle.std.proofs.Common.{ℕ, ◌≡◌, ◌+◌, ◌-◌, ◌*◌, ◌/◌, ◌%◌, ◌^◌, ◌<◌, ◌∙◌, ◌++◌, ap, refl, slice_index, arith}
 use Rattle.std.specs.Int.{bytes_low_first}
 use Rattle.std.proofs.lemmas.Nat.{pow_below, shl_whole}
-use Rattle.sourcemap_compiled.proofs.PackingLemmas.{IsPacked-at, IsPacked-carry, IsPacked-next, bytes-of_low, next_below}
-use Rattle.sourcemap_compiled.proofs.packing.push_field.Goals as goal
-use Rattle.sourcemap_compiled.proofs.packing.push_field.Goals.{then-filled-ge32+in_ok-extend_from_slice}
-use Rattle.sourcemap_compiled.proofs.packing.push_field.Goals.{else-filled-ge32}
+use Rattle.sourcemap_compiled_write.proofs.PackingLemmas.{IsPacked-at, IsPacked-carry, IsPacked-next, bytes-of_low, next_below}
+use Rattle.sourcemap_compiled_write.proofs.packing.push_field.Goals as goal
+use Rattle.sourcemap_compiled_write.proofs.packing.push_field.Goals.{then-filled-ge32+in_ok-extend_from_slice}
+use Rattle.sourcemap_compiled_write.proofs.packing.push_field.Goals.{else-filled-ge32}
 
 pub overflow_add-word : goal.overflow_add-word
 overflow_add-word c =

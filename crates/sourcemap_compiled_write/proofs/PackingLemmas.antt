@@ -1,16 +1,21 @@
 -- Packed numbers: one more number, and a number read back.
 use Rattle.std.proofs.Common.{◌≡◌, refl, sym, ap, subst, ◌∙◌, ℕ, zero, suc, ◌+◌, ◌-◌, ◌*◌, ◌/◌, ◌%◌, ◌^◌, ◌<◌, ◌≤◌}
-use Rattle.std.proofs.Common.{List, [], ◌∷◌, ◌++◌, length, slice_index, take, arith, append_assoc, inl, inr}
+use Rattle.std.proofs.Common.{List, [], ◌∷◌, ◌++◌, length, slice_index, take, arith, append_assoc, inl, inr, max}
+use Rattle.std.proofs.Common.{false, get_or, map, replicate, set}
+use Rattle.std.specs.List.{fold}
+use Rattle.sourcemap_tokens.specs.declared.tokens.RawToken.{RawToken}
 use lib.Count.{count_leading_zeros}
 use Rattle.std.proofs.lemmas.Bool.{cases_lt}
 use Rattle.std.specs.Int.{bytes_low_first}
 use Rattle.std.proofs.Math.Nat.{add-mul-div_left, add-mul-div_right, add-mul-mod_self_left, div-eq_of_lt, div-one}
 use Rattle.std.proofs.Math.Nat.{mod-eq_of_lt}
 use Rattle.std.proofs.Math.Nat.{mul-add, mul_assoc, mul_comm, mul-suc, mul-zero, suc-mul, zero-div, zero-mod, zero-mul}
-use Rattle.std.proofs.lemmas.List.{append-nil, get_or-take, get_or_past, length-take, length_push, take_more}
+use Rattle.std.proofs.lemmas.List.{append-nil, get_or-map, get_or-take, get_or_past, length-take, length_push, map_push}
+use Rattle.std.proofs.lemmas.List.{set_at}
+use Rattle.std.proofs.lemmas.List.{take_more}
 use Rattle.std.proofs.lemmas.Nat.{leading_length, mul-add-lt, pow-add, pow_pos, shr-shr, shr_below}
-use Rattle.sourcemap_compiled.specs.Packing.{field_bytes, packed}
-use Rattle.sourcemap_compiled.proofs.BytesLemmas.{bytes-low, bytes-shift, bytes-split, pow256}
+use Rattle.sourcemap_compiled_write.specs.Packing.{field_bytes, fields_of, number_of, packed, token_values, width_of}
+use Rattle.sourcemap_compiled_write.proofs.BytesLemmas.{bytes-low, bytes-shift, bytes-split, pow256}
 
 pub packed-push : (w : ℕ) (xs : List ℕ) (x : ℕ)
     → packed w (xs ++ x ∷ []) ≡ packed w xs + 2 ^ (w * length xs) * x
@@ -190,3 +195,74 @@ below_width greatest n small l =
     let top = leading_length 32 greatest small in
     let width : 32 - count_leading_zeros 32 greatest ≡ top.0 = omega (arith, top.1) in
     rw width (omega (arith, top.2))
+
+-- ---- the values, numbers and width of a field
+
+abbrev pub no_token : RawToken
+no_token = record {
+  dst_line = 0;
+  dst_col = 0;
+  src_line = 0;
+  src_col = 0;
+  src_id = 0;
+  name_id = 0;
+  is_range = false;
+}
+
+pub get_or-token_values : (tokens : List RawToken) (field i : ℕ) (d : RawToken) → i < length tokens
+    → get_or (token_values tokens field) i 0 ≡ slice_index (fields_of (get_or tokens i d)) field
+get_or-token_values tokens field i d l = get_or-map (λ t. slice_index (fields_of t) field) tokens i d 0 l
+
+-- the numbers of one token more
+pub numbers_more : (base : ℕ) (tokens : List RawToken) (field i : ℕ) (d : RawToken) → i < length tokens
+    → map (number_of base) (token_values (take (i + 1) tokens) field)
+    ≡ map (number_of base) (token_values (take i tokens) field)
+    ++ number_of base (slice_index (fields_of (get_or tokens i d)) field) ∷ []
+numbers_more base tokens field i d l =
+    ap (λ (ts : List RawToken). map (number_of base) (token_values ts field)) (take_more tokens i d l)
+    ∙ ap (map (number_of base)) (map_push (λ t. slice_index (fields_of t) field) (take i tokens) (get_or tokens i d))
+    ∙ map_push (number_of base) (token_values (take i tokens) field)
+    (slice_index (fields_of (get_or tokens i d)) field)
+
+-- one more number before the zeros
+pub fill_more : (xs : List ℕ) (n i y : ℕ) → length xs ≡ i → i < n
+    → set (xs ++ replicate (n - i) 0) i y ≡ xs ++ y ∷ [] ++ replicate (n - (i + 1)) 0
+fill_more xs n i y e l =
+    let less : n - i ≡ suc (n - (i + 1)) = omega arith in
+    ap (λ (m : ℕ). set (xs ++ replicate m 0) i y) less ∙ set_at xs 0 (replicate (n - (i + 1)) 0) y i e
+    ∙ sym (append_assoc xs (y ∷ []) (replicate (n - (i + 1)) 0))
+
+le_start : (a : ℕ) (xs : List ℕ) → a ≤ fold max a xs
+le_start a [] = omega arith
+le_start a (x ∷ xs) = let more = le_start (max a x) xs in omega arith
+
+le_item : (a : ℕ) (xs : List ℕ) (k : ℕ) → slice_index xs k ≤ fold max a xs
+le_item a [] k = omega arith
+le_item a (x ∷ xs) zero = let more = le_start (max a x) xs in omega arith
+le_item a (x ∷ xs) (suc k) = le_item (max a x) xs k
+
+pub le_greatest : (xs : List ℕ) (k : ℕ) → slice_index xs k ≤ fold max 0 xs
+le_greatest xs k = le_item 0 xs k
+
+fold_max_small : (a : ℕ) (xs : List ℕ) → a < 2 ^ 32 → ((k : ℕ) → slice_index xs k < 2 ^ 32) → fold max a xs < 2 ^ 32
+fold_max_small a [] l small = l
+fold_max_small a (x ∷ xs) l small =
+    let here : x < 2 ^ 32 = small 0 in
+    fold_max_small (max a x) xs (omega arith) (λ k. small (suc k))
+
+pub width_of-le : (xs : List ℕ) → width_of xs ≤ 32
+width_of-le xs = omega arith
+
+-- the width has room for every number
+pub below_width_of : (xs : List ℕ) → ((k : ℕ) → slice_index xs k < 2 ^ 32) → (k : ℕ)
+    → slice_index xs k < 2 ^ width_of xs
+below_width_of xs small k =
+    below_width (fold max 0 xs) (slice_index xs k) (fold_max_small 0 xs (omega arith) small) (le_greatest xs k)
+
+-- base plus number is the value
+pub value_back : (base value : ℕ) → base < 2 ^ 32 → value < 2 ^ 32
+    → (base + number_of base value) % 2 ^ 32 ≡ value
+value_back base value l m = omega arith
+
+pub number_of_small : (base value : ℕ) → number_of base value < 2 ^ 32
+number_of_small base value = omega arith

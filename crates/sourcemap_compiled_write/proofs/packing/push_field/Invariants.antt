@@ -1,6 +1,6 @@
 use Rattle.std.proofs.Common.{◌<◌, take}
-use Rattle.sourcemap_compiled.proofs.PackingLemmas.{IsPacked}
-use Rattle.sourcemap_compiled.proofs.packing.push_field.Given as goal
+use Rattle.sourcemap_compiled_write.proofs.PackingLemmas.{IsPacked}
+use Rattle.sourcemap_compiled_write.proofs.packing.push_field.Given as goal
 
 abbrev pub invariant-loop-number : goal.invariant-loop-number
 invariant-loop-number l = record {

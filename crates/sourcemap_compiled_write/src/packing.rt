@@ -1,6 +1,7 @@
-//! Numbers packed in so many bits each.
-ghost use Rattle.std.specs.Prelude.{◌≡◌, ℕ, ◌≤◌, ◌<◌, ◌^◌, ◌++◌, OnOk, length, slice_index};
-ghost use Rattle.sourcemap_compiled.specs.Packing.{AreNumbers, field_bytes, fields_of};
+//! The numbers that stand for the fields of a block of tokens, packed in so many bits each.
+ghost use Rattle.std.specs.Prelude.{◌≡◌, ℕ, ◌≤◌, ◌<◌, ◌^◌, ◌++◌, OnOk, length, map, slice_index};
+ghost use Rattle.sourcemap_compiled_write.specs.Packing.{base_of, field_bytes, fields_of, number_of, padded};
+ghost use Rattle.sourcemap_compiled_write.specs.Packing.{token_values, width_of};
 
 use sourcemap_tokens::tokens::RawToken;
 use std::alloc::AllocError;
@@ -26,11 +27,6 @@ pub(crate) fn push_field(out: &mut Vec<u8>, numbers: &[u32], width: usize) -> Re
     Ok(())
 }
 
-// The numbers of fields, in the order of the format.
-const LINE: usize = 0;
-
-const RANGE: usize = 6;
-
 /// Returns a field of a token, by its number.
 #[inline(always)]
 fn field_value(token: &RawToken, field: usize) -> u32
@@ -48,12 +44,25 @@ fn field_value(token: &RawToken, field: usize) -> u32
     }
 }
 
+/// Returns the base of the values of a field.
+#[inline(always)]
+pub(crate) fn base_of(tokens: &[RawToken], field: usize) -> u32
+    requires { field < 7 }
+    ensures { result ≡ base_of (token_values tokens.now field) }
+{
+    let mut least = 4294967295u32;
+    for token in tokens {
+        least = least.min(field_value(token, field).wrapping_add(1));
+    }
+    least.wrapping_sub(1)
+}
+
 /// Returns the numbers of a field of a block.
 #[inline(always)]
-fn numbers_of(tokens: &[RawToken], field: usize, base: u32) -> [u32; 64]
+pub(crate) fn numbers_of(tokens: &[RawToken], field: usize, base: u32) -> [u32; 64]
     requires few { length tokens.now ≤ 64 }
     requires field { field < 7 }
-    ensures { AreNumbers field base tokens.now result }
+    ensures { result ≡ padded (map (number_of base) (token_values tokens.now field)) }
 {
     let mut numbers = [0; 64];
     for place in 0..tokens.len() {
@@ -63,7 +72,8 @@ fn numbers_of(tokens: &[RawToken], field: usize, base: u32) -> [u32; 64]
 }
 
 /// Returns the least width that all these numbers fit in.
-fn width_of(numbers: &[u32]) -> u32
+pub(crate) fn width_of(numbers: &[u32]) -> u32
+    ensures value { result ≡ width_of numbers.now }
     ensures narrow { result ≤ 32 }
     ensures fit { (k : ℕ) → slice_index numbers.now k < 2 ^ result }
 {

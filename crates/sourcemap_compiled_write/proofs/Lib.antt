@@ -1,0 +1,3 @@
+pub mod BytesLemmas
+pub mod PackingLemmas
+pub mod StandsLemmas

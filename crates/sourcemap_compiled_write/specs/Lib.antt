@@ -1,0 +1,5 @@
+pub mod Blocks
+pub mod Packing
+pub mod Parts
+pub mod Pieces
+pub mod Texts
