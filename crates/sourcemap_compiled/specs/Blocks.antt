@@ -8,7 +8,8 @@ use Rattle.sourcemap_tokens.specs.Tokens.{destination}
 use Rattle.sourcemap_compiled.specs.Numbers.{bits_at, position_number, u32_at, u64_at}
 use Rattle.sourcemap_compiled.specs.Layout.{head_offset, start_offset, token_count}
 
--- the fields: generated line and column, source id, original line and column, name id, and whether it is a range token
+-- the fields: generated line and column, source id, original line and column, name id, whether it is a range token,
+-- and the scope
 abbrev pub line_field : ℕ
 line_field = 0
 
@@ -30,6 +31,9 @@ name_field = 5
 abbrev pub range_field : ℕ
 range_field = 6
 
+abbrev pub scope_field : ℕ
+scope_field = 7
+
 -- the width of a field: the low six bits of a byte of the head
 abbrev pub width_at : List ℕ → (head field : ℕ) → ℕ
 width_at bytes head field = slice_index bytes (head + 24 + field) % 64
@@ -49,7 +53,7 @@ packed_at bytes head field place =
 abbrev pub value_at : List ℕ → (base head field place : ℕ) → ℕ
 value_at bytes base head field place = (base + packed_at bytes head field place) % 2 ^ 32
 
--- the base of a field, other than the line and the range flag
+-- the base of a field, other than the line, the range flag and the scope
 abbrev pub base_at : List ℕ → (head field : ℕ) → ℕ
 base_at bytes head field = u32_at bytes (head + 4 * field)
 
@@ -81,6 +85,10 @@ position_in bytes line head place = position_number (destination (token_in bytes
 unfoldable pub compiled_token : List ℕ → ℕ → RawToken
 compiled_token bytes index =
     let block = index / 64 in token_in bytes (start_at bytes block / 2 ^ 32) (head_offset bytes block) (index % 64)
+
+-- the scope of the token with this index: 0 if it has none, otherwise the id of its scope plus 1
+abbrev pub scope_number : List ℕ → ℕ → ℕ
+scope_number bytes index = packed_at bytes (head_offset bytes (index / 64)) scope_field (index % 64)
 
 abbrev pub compiled_tokens : List ℕ → List RawToken
 compiled_tokens bytes = map (compiled_token bytes) (range_with_len 0 (token_count bytes))

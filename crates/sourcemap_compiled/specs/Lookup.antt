@@ -6,7 +6,7 @@ use Rattle.sourcemap_compose.specs.Moved.{distance}
 use Rattle.sourcemap_compiled.specs.Layout.{block_count, token_count}
 use Rattle.sourcemap_compiled.specs.Blocks.{compiled_token, compiled_tokens, start_at}
 use Rattle.sourcemap_compiled.specs.Numbers.{position_number}
-use Rattle.sourcemap_compiled.specs.Texts.{compiled_name, compiled_source}
+use Rattle.sourcemap_compiled.specs.Texts.{compiled_name, compiled_scope, compiled_source}
 use Rattle.sourcemap_compiled.specs.declared.errors.CompiledMapError.{CompiledMapError}
 
 -- the generated position of the token with this index, as one number
@@ -32,13 +32,14 @@ pub record CompiledTokenValue : Type 0 where
   pub index : ℕ
   pub extra_columns : ℕ
 
--- what a token says of a generated position: source, line and column in the source, name, and whether the token is a
--- range token. Source and name are none or the bytes of a text, or an error if the file is damaged
+-- what a token says of a generated position: source, line and column in the source, name, scope, and whether the token
+-- is a range token. Source, name and scope are none or the bytes of a text, or an error if the file is damaged
 pub record CompiledMeaning : Type 0 where
   pub source : Result (Option (List ℕ)) CompiledMapError
   pub line : ℕ
   pub column : ℕ
   pub name : Result (Option (List ℕ)) CompiledMapError
+  pub scope : Result (Option (List ℕ)) CompiledMapError
   pub is_range : Bool
 
 -- the meaning of a token
@@ -48,6 +49,7 @@ says t = record {
   line = t.raw.src_line;
   column = min (t.raw.src_col + t.extra_columns) 4294967295;
   name = compiled_name t.bytes t.raw.name_id;
+  scope = compiled_scope t.bytes t.index;
   is_range = t.raw.is_range;
 }
 

@@ -1,7 +1,7 @@
 //! Blocks of packed tokens.
 ghost use Rattle.std.specs.Prelude.{◌≡◌, ◌≤◌, ◌<◌, ◌+◌, ◌-◌, ◌*◌, ◌^◌, length};
-ghost use Rattle.sourcemap_compiled.specs.Blocks.{base_at, packed_at, position_in, token_in, value_at, width_at};
-ghost use Rattle.sourcemap_compiled.specs.Blocks.{widths_before};
+ghost use Rattle.sourcemap_compiled.specs.Blocks.{base_at, packed_at, position_in, scope_field, token_in, value_at};
+ghost use Rattle.sourcemap_compiled.specs.Blocks.{width_at, widths_before};
 ghost use Rattle.sourcemap_compiled.specs.Numbers.{position_number};
 
 use crate::numbers::{bits_at, u32_at};
@@ -21,6 +21,8 @@ const SOURCE_COLUMN: usize = 4;
 const NAME: usize = 5;
 
 const RANGE: usize = 6;
+
+const SCOPE: usize = 7;
 
 /// The number of tokens in a block. The last block may have fewer.
 pub(crate) const BLOCK_SIZE: usize = 64;
@@ -52,6 +54,14 @@ impl<'a> Block<'a> {
             name_id: self.value(self.base(NAME), NAME, place),
             is_range: self.packed(RANGE, place) > 0,
         }
+    }
+
+    /// Returns the scope of the token at a place: 0 for none, otherwise the id plus 1.
+    pub(crate) fn scope(&self, place: usize) -> u64
+        requires { place < 64 }
+        ensures { result ≡ packed_at self.now.bytes.now self.now.head scope_field place }
+    {
+        self.packed(SCOPE, place)
     }
 
     /// Returns the generated position of the token at a place, as one number.
@@ -87,7 +97,7 @@ impl<'a> Block<'a> {
     }
 
     fn value(&self, base: u32, field: usize, place: usize) -> u32
-        requires field { field < 7 }
+        requires field { field < 8 }
         requires place { place < 64 }
         ensures { result ≡ value_at self.now.bytes.now base self.now.head field place }
     {
@@ -97,7 +107,7 @@ impl<'a> Block<'a> {
 
     #[tactic(auto, unfolding(crate::specs::Blocks::packed_at))]
     fn packed(&self, field: usize, place: usize) -> u64
-        requires field { field < 7 }
+        requires field { field < 8 }
         requires place { place < 64 }
         ensures number { result ≡ packed_at self.now.bytes.now self.now.head field place }
         ensures small { result < 2 ^ 63 }
@@ -108,14 +118,14 @@ impl<'a> Block<'a> {
     }
 
     fn base(&self, field: usize) -> u32
-        requires { field < 7 }
+        requires { field < 8 }
         ensures { result ≡ base_at self.now.bytes.now self.now.head field }
     {
         u32_at(self.bytes, self.head + 4 * field)
     }
 
     fn width(&self, field: usize) -> usize
-        requires { field < 7 }
+        requires { field < 8 }
         ensures value { result ≡ width_at self.now.bytes.now self.now.head field }
         ensures narrow { result < 64 }
     {
@@ -124,9 +134,9 @@ impl<'a> Block<'a> {
 
     #[tactic(auto, using(crate::proofs::BlocksLemmas::widths_before_steps))]
     fn widths_before(&self, field: usize) -> usize
-        requires { field < 7 }
+        requires { field < 8 }
         ensures sum { result ≡ widths_before self.now.bytes.now self.now.head field }
-        ensures few { result < 64 * 7 }
+        ensures few { result < 64 * 8 }
     {
         let mut sum = 0;
         for before in 0..field {

@@ -1,9 +1,10 @@
 //! Compiled maps, and what they hold.
 ghost use Rattle.std.specs.Prelude.{◌≡◌, ◌≤◌, ◌<◌, ◌/◌, ◌^◌, Some, IfErr, IfOk, length};
 ghost use Rattle.sourcemap_tokens.specs.Tokens.{destination};
-ghost use Rattle.sourcemap_compiled.specs.Blocks.{compiled_token, start_at};
+ghost use Rattle.sourcemap_compiled.specs.Blocks.{compiled_token, scope_number, start_at};
 ghost use Rattle.sourcemap_compiled.specs.Layout.{IsAccepted, block_count, content_count, head_offset, name_count};
-ghost use Rattle.sourcemap_compiled.specs.Layout.{refusal, source_count, tables_end, tables_start, token_count};
+ghost use Rattle.sourcemap_compiled.specs.Layout.{refusal, scope_count, source_count, tables_end, tables_start};
+ghost use Rattle.sourcemap_compiled.specs.Layout.{token_count};
 ghost use Rattle.sourcemap_compiled.specs.Numbers.{position_number};
 
 use crate::blocks::{BLOCK_SIZE, Block};
@@ -88,6 +89,13 @@ impl<'a> CompiledMap<'a> {
         u32_at(self.bytes, 20)
     }
 
+    /// The number of scopes, which are names of functions. Their ids are the numbers below it.
+    pub fn scope_count(&self) -> u32
+        ensures { result ≡ scope_count (bytes_of self.now) }
+    {
+        u32_at(self.bytes, 52)
+    }
+
     pub(crate) fn content_count(&self) -> u32
         ensures { result ≡ content_count (bytes_of self.now) }
     {
@@ -140,6 +148,14 @@ impl<'a> CompiledMap<'a> {
         self.block(index / BLOCK_SIZE).token(index % BLOCK_SIZE)
     }
 
+    /// Returns the scope of the token with this index: 0 for none, otherwise the id plus 1.
+    pub(crate) fn scope_number(&self, index: usize) -> u64
+        requires { index < token_count (bytes_of self.now) }
+        ensures { result ≡ scope_number (bytes_of self.now) index }
+    {
+        self.block(index / BLOCK_SIZE).scope(index % BLOCK_SIZE)
+    }
+
     /// Returns the generated position of the token with this index, as one number.
     #[tactic(auto, unfolding(crate::specs::Blocks::compiled_token))]
     pub(crate) fn position(&self, index: usize) -> u64
@@ -159,6 +175,7 @@ fn tables_end(bytes: &[u8]) -> usize
     let sources = u32_at(bytes, 16) as usize;
     let names = u32_at(bytes, 20) as usize;
     let contents = u32_at(bytes, 24) as usize;
+    let scopes = u32_at(bytes, 52) as usize;
     let tables = u32_at(bytes, TABLES) as usize;
-    tables + (START_LENGTH + HEAD_LENGTH) * blocks + 4 * (sources + names + contents + 2)
+    tables + (START_LENGTH + HEAD_LENGTH) * blocks + 4 * (sources + names + scopes + contents + 2)
 }

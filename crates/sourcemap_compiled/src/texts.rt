@@ -1,8 +1,8 @@
 //! The texts and the debug id of a compiled map.
 ghost use Rattle.std.specs.Prelude.{◌≡◌, ◌≤◌, ◌<◌, ◌+◌, length};
-ghost use Rattle.sourcemap_compiled.specs.Layout.{compiled_debug_id, text_count, text_offset};
+ghost use Rattle.sourcemap_compiled.specs.Layout.{compiled_debug_id, file_text, text_count, text_offset, token_count};
 ghost use Rattle.sourcemap_compiled.specs.Texts.{ReadsText, compiled_contents, compiled_file, compiled_name};
-ghost use Rattle.sourcemap_compiled.specs.Texts.{compiled_source, text_at};
+ghost use Rattle.sourcemap_compiled.specs.Texts.{compiled_scope, compiled_source, scope_text, text_at};
 
 use crate::errors::CompiledMapError;
 use crate::map::CompiledMap;
@@ -34,6 +34,28 @@ impl<'a> CompiledMap<'a> {
         self.text(self.source_count() as usize + id as usize)
     }
 
+    /// The scope with this id, the name of a function; `None` if no scope has this id. The error is
+    /// `TextOutside` or `InvalidUtf8`.
+    pub fn scope(&self, id: u32) -> Result<Option<&'a str>, CompiledMapError>
+        ensures { ReadsText (scope_text (bytes_of self.now) id) result }
+    {
+        if id >= self.scope_count() {
+            return Ok(None);
+        }
+        self.text(self.source_count() as usize + self.name_count() as usize + id as usize)
+    }
+
+    /// Returns the scope of the token with this index.
+    pub(crate) fn scope_of(&self, index: usize) -> Result<Option<&'a str>, CompiledMapError>
+        requires { index < token_count (bytes_of self.now) }
+        ensures { ReadsText (compiled_scope (bytes_of self.now) index) result }
+    {
+        match self.scope_number(index).checked_sub(1) {
+            Some(id) if id < u64::from(self.scope_count()) => self.scope(id as u32),
+            _ => Ok(None),
+        }
+    }
+
     /// The contents for this source id; `None` if there are none. The error is `TextOutside` or
     /// `InvalidUtf8`.
     pub fn source_contents(&self, id: u32) -> Result<Option<&'a str>, CompiledMapError>
@@ -42,8 +64,7 @@ impl<'a> CompiledMap<'a> {
         if id >= self.content_count() {
             return Ok(None);
         }
-        let first = self.source_count() as usize + self.name_count() as usize + 1;
-        self.text(first + id as usize)
+        self.text(self.file_text() + 1 + id as usize)
     }
 
     /// The name of the generated file, if the map has one. The error is `TextOutside` or
@@ -51,7 +72,7 @@ impl<'a> CompiledMap<'a> {
     pub fn file(&self) -> Result<Option<&'a str>, CompiledMapError>
         ensures { ReadsText (compiled_file (bytes_of self.now)) result }
     {
-        self.text(self.source_count() as usize + self.name_count() as usize)
+        self.text(self.file_text())
     }
 
     /// The debug id, if the map has one.
@@ -83,6 +104,13 @@ impl<'a> CompiledMap<'a> {
             Ok(text) => Ok(Some(text)),
             Err(_) => Err(CompiledMapError::InvalidUtf8),
         }
+    }
+
+    // The number of the text that is the file.
+    fn file_text(&self) -> usize
+        ensures { result ≡ file_text (bytes_of self.now) }
+    {
+        self.source_count() as usize + self.name_count() as usize + self.scope_count() as usize
     }
 
     fn text_offset(&self, text: usize) -> usize

@@ -1,5 +1,6 @@
 //! Tokens of a compiled map with their texts.
-ghost use Rattle.std.specs.Prelude.{◌≡◌};
+ghost use Rattle.std.specs.Prelude.{◌≡◌, ◌<◌};
+ghost use Rattle.sourcemap_compiled.specs.Layout.{token_count};
 
 use crate::errors::CompiledMapError;
 use crate::map::CompiledMap;
@@ -14,10 +15,11 @@ pub struct CompiledToken<'a> {
     pub(crate) raw: RawToken,
     pub(crate) index: usize,
     pub(crate) extra_columns: u32,
+    ghost inside: { index < token_count map.bytes.now },
 }
 
 impl<'a> CompiledToken<'a> {
-    ghost use Rattle.std.specs.Prelude.{◌<◌, ◌↔◌, ◌==◌, IsTrue, not};
+    ghost use Rattle.std.specs.Prelude.{◌↔◌, ◌==◌, IsTrue, not};
     ghost use Rattle.sourcemap_tokens.specs.Tokens.{no_id};
     ghost use Rattle.sourcemap_compiled.specs.Layout.{name_count};
     ghost use Rattle.sourcemap_compiled.specs.Stored.{bytes_of, meaning_of_token, token_value};
@@ -126,6 +128,14 @@ impl<'a> CompiledToken<'a> {
         ensures { result ≡ (token_value self.now).raw.name_id }
     {
         self.raw.name_id
+    }
+
+    /// The scope of the token, the name of a function of a Hermes map; `None` if it has none. The
+    /// error is `TextOutside` or `InvalidUtf8`.
+    pub fn get_scope(&self) -> Result<Option<&'a str>, CompiledMapError>
+        ensures { ReadsText (meaning_of_token self.now).scope result }
+    {
+        self.map.scope_of(self.index)
     }
 
     /// The raw token. Its original column does not include the columns that a lookup adds.
