@@ -21,19 +21,33 @@ use Rattle.sourcemap_compiled_write.proofs.StandsLemmas.{length-pieces, number-t
 
 -- ---- lists of small numbers
 
-abbrev pub AreSmall : List ℕ → Type 0
-AreSmall xs = (k : ℕ) → slice_index xs k < 2 ^ 32
+-- each number has 32 bits
+pub record AreSmall (xs : List ℕ) : Type 0 where
+  pub at : (k : ℕ) → slice_index xs k < 2 ^ 32
 
-pub small-none : AreSmall []
-small-none k = omega arith
+small-none : AreSmall []
+small-none = record { at = λ k. omega arith }
 
-pub small-cons : (x : ℕ) (xs : List ℕ) → x < 2 ^ 32 → AreSmall xs → AreSmall (x ∷ xs)
-small-cons x xs l s zero = l
-small-cons x xs l s (suc k) = s k
+first_or_rest : (x : ℕ) (xs : List ℕ) → x < 2 ^ 32 → AreSmall xs → (k : ℕ) → slice_index (x ∷ xs) k < 2 ^ 32
+first_or_rest x xs l s zero = l
+first_or_rest x xs l s (suc k) = s.at k
+
+small-cons : (x : ℕ) (xs : List ℕ) → x < 2 ^ 32 → AreSmall xs → AreSmall (x ∷ xs)
+small-cons x xs l s = record { at = first_or_rest x xs l s }
+
+-- each number of a list that is written out
+abbrev pub EachSmall : List ℕ → Type 0
+EachSmall [] = Unit {0}
+EachSmall (x ∷ xs) = (x < 2 ^ 32) × EachSmall xs
+
+pub small-list : (xs : List ℕ) → EachSmall xs → AreSmall xs
+small-list [] each = small-none
+small-list (x ∷ xs) each = small-cons x xs each.0 (small-list xs each.1)
 
 small-append : (xs ys : List ℕ) → AreSmall xs → AreSmall ys → AreSmall (xs ++ ys)
 small-append [] ys a b = b
-small-append (x ∷ xs) ys a b = small-cons x (xs ++ ys) (a 0) (small-append xs ys (λ k. a (suc k)) b)
+small-append (x ∷ xs) ys a b =
+    small-cons x (xs ++ ys) (a.at 0) (small-append xs ys (record { at = λ k. a.at (suc k) }) b)
 
 small-zeros : (n : ℕ) → AreSmall (replicate n 0)
 small-zeros zero = small-none
@@ -113,18 +127,17 @@ flag_back true = refl
 flag_back false = refl
 
 module _ (file : List ℕ) (head at : ℕ) (ts : List RawToken) (ss : List ℕ) (near : at < 2 ^ 32)
-    (values : (field : ℕ) → AreSmall (token_values ts field)) (scopes : AreSmall ss)
+    (values : (field : ℕ) → field < 7 → AreSmall (token_values ts field)) (scopes : AreSmall ss)
     (head_there : Stands file head (head_bytes at ts ss)) (body_there : Stands file at (body_bytes ts ss)) where
   head_numbers : AreSmall (at ∷ head_bases ts)
   head_numbers =
-      small-cons _ _ near (small-cons _ _ (omega arith) (small-cons _ _ (omega arith) (small-cons _ _ (omega arith)
-      (small-cons _ _ (omega arith) (small-cons _ _ (omega arith) small-none)))))
+      small-list (at ∷ head_bases ts)
+      (near, (omega arith, (omega arith, (omega arith, (omega arith, (omega arith, tt))))))
 
   bases-small : AreSmall (bases ts)
   bases-small =
-      small-cons _ _ (values 0 0) (small-cons _ _ (omega arith) (small-cons _ _ (omega arith)
-      (small-cons _ _ (omega arith) (small-cons _ _ (omega arith) (small-cons _ _ (omega arith)
-      (small-cons _ _ (omega arith) (small-cons _ _ (omega arith) small-none)))))))
+      small-list (bases ts) ((values 0 (omega arith)).at 0, (omega arith, (omega arith, (omega arith, (omega arith,
+      (omega arith, (omega arith, (omega arith, tt))))))))
 
   numbers_there : Stands file head (flat_map (little_bytes 4) (at ∷ head_bases ts))
   unfolding head_bytes
@@ -139,7 +152,7 @@ module _ (file : List ℕ) (head at : ℕ) (ts : List RawToken) (ss : List ℕ) 
       (omega (arith, many)) head_there
 
   pub head_number : (k : ℕ) → k < 6 → u32_at file (head + 4 * k) ≡ slice_index (at ∷ head_bases ts) k
-  head_number k l = number-there file head (at ∷ head_bases ts) k l (head_numbers k) numbers_there
+  head_number k l = number-there file head (at ∷ head_bases ts) k l (head_numbers.at k) numbers_there
 
   offset_read : u32_at file head ≡ at
   offset_read =
@@ -180,7 +193,7 @@ module _ (file : List ℕ) (head at : ℕ) (ts : List RawToken) (ss : List ℕ) 
       let narrow = width_of-le (field_numbers ts ss field) in
       let there = Stands-piece (field_piece ts ss) file at field 8 l body_there in
       rw (start, width) (bits_at-there file (at + length (pieces (field_piece ts ss) field)) (field_width ts ss field)
-      (field_numbers ts ss field) place m (omega arith) (below_width_of (field_numbers ts ss field) small) there)
+      (field_numbers ts ss field) place m (omega arith) (below_width_of (field_numbers ts ss field) small.at) there)
 
   value_read : (field place base : ℕ) → field < 7 → (field == 7) ≡ false → place < length ts → length ts ≤ 64
       → base ≡ slice_index (bases ts) field
@@ -188,9 +201,9 @@ module _ (file : List ℕ) (head at : ℕ) (ts : List RawToken) (ss : List ℕ) 
   value_read field place base l other m few e =
       let value = slice_index (fields_of (get_or ts place no_token)) field in
       let small : value < 2 ^ 32 = subst (λ (n : ℕ). n < 2 ^ 32) (get_or-token_values ts field place no_token m)
-      (values field place) in
+      ((values field l).at place) in
       rw (e, packed_read field place (omega arith) (omega arith), number-at ts ss field place other m)
-      (value_back (slice_index (bases ts) field) value (bases-small field) small)
+      (value_back (slice_index (bases ts) field) value (bases-small.at field) small)
 
   pub token_read : (line place : ℕ) → place < length ts → length ts ≤ 64 → line ≡ slice_index (token_values ts 0) 0
       → token_in file line head place ≡ get_or ts place no_token

@@ -10,11 +10,11 @@ use Rattle.sourcemap_compiled_write.specs.Blocks.{block_of, body_bytes, field_wi
 use Rattle.sourcemap_compiled_write.specs.Blocks.{width_bytes}
 use Rattle.sourcemap_compiled_write.specs.File.{blocks_of, bodies_of, body_offset, debug_id_bytes, file_bytes, header_bytes}
 use Rattle.sourcemap_compiled_write.specs.File.{header_end, header_numbers, heads_of, length_of, starts_of, tables_offset}
-use Rattle.sourcemap_compiled_write.specs.File.{text_table, texts_of, texts_offset}
+use Rattle.sourcemap_compiled_write.specs.File.{texts_of, texts_offset}
 use Rattle.sourcemap_compiled_write.specs.Packing.{token_values}
 use Rattle.sourcemap_compiled_write.specs.Parts.{Parts}
 use Rattle.sourcemap_compiled_write.specs.Pieces.{pieces}
-use Rattle.sourcemap_compiled_write.specs.Texts.{text_bytes, text_offsets, texts_bytes}
+use Rattle.sourcemap_compiled_write.specs.Texts.{table_bytes, text_bytes, text_offsets, texts_bytes}
 use Rattle.sourcemap_compiled_write.proofs.StandsLemmas.{Stands, Stands-first, Stands-piece, Stands-rest, Stands-whole}
 use Rattle.sourcemap_compiled_write.proofs.StandsLemmas.{length-flat_map-each, length-pieces}
 
@@ -38,6 +38,14 @@ pub length-text_offsets : (offset : ℕ) (texts : List (Option (List ℕ)))
 length-text_offsets offset [] = refl
 length-text_offsets offset (text ∷ texts) = ap suc (length-text_offsets (offset + length (text_bytes text)) texts)
 
+pub length-table : (offset : ℕ) (texts : List (Option (List ℕ)))
+    → length (table_bytes offset texts) ≡ 4 * (length texts + 1)
+unfolding table_bytes
+length-table offset texts =
+    let end = offset + length (texts_bytes texts) in
+    length-numbers (text_offsets offset texts ++ end ∷ [])
+    ∙ omega (arith, length-append (text_offsets offset texts) (end ∷ []), length-text_offsets offset texts)
+
 length-debug_id : (id : Option (List ℕ)) → IfSome id (λ i. length i ≡ 16) → length (debug_id_bytes id) ≡ 16
 length-debug_id None whole = refl
 length-debug_id (Some id) whole = whole
@@ -52,15 +60,8 @@ module _ (p : Parts) where
       length-pieces (λ block. head_bytes (body_offset p block) (block_of p.tokens block) (block_of p.scopes block)) 32
       (λ block. length-head (body_offset p block) (block_of p.tokens block) (block_of p.scopes block)) count
 
-  pub length-text_table : length (text_table p) ≡ 4 * (length (texts_of p) + 1)
-  unfolding text_table
-  length-text_table =
-      let offsets = text_offsets (texts_offset p) (texts_of p) in
-      length-numbers (offsets ++ length_of p ∷ [])
-      ∙ omega (arith, length-append offsets (length_of p ∷ []), length-text_offsets (texts_offset p) (texts_of p))
-
   module _ (id : IfSome p.debug_id (λ i. length i ≡ 16)) where
-    length-header : length (header_bytes p) ≡ 64
+    pub length-header : length (header_bytes p) ≡ 64
     unfolding header_bytes
     length-header =
         length-append (flat_map (little_bytes 4) (header_numbers p))
@@ -72,18 +73,18 @@ module _ (p : Parts) where
     unfolding file_bytes
     length-file =
         let n = blocks_of p in
-        length-append (header_bytes p) (bodies_of p n ++ (starts_of p n ++ (heads_of p n ++ (text_table p
+        length-append (header_bytes p) (bodies_of p n ++ (starts_of p n ++ (heads_of p n ++ (table_bytes (texts_offset p) (texts_of p)
         ++ texts_bytes (texts_of p)))))
         ∙ omega (arith, length-header,
-        length-append (bodies_of p n) (starts_of p n ++ (heads_of p n ++ (text_table p ++ texts_bytes (texts_of p)))),
-        length-append (starts_of p n) (heads_of p n ++ (text_table p ++ texts_bytes (texts_of p))),
-        length-append (heads_of p n) (text_table p ++ texts_bytes (texts_of p)),
-        length-append (text_table p) (texts_bytes (texts_of p)), length-starts n, length-heads n, length-text_table)
+        length-append (bodies_of p n) (starts_of p n ++ (heads_of p n ++ (table_bytes (texts_offset p) (texts_of p) ++ texts_bytes (texts_of p)))),
+        length-append (starts_of p n) (heads_of p n ++ (table_bytes (texts_offset p) (texts_of p) ++ texts_bytes (texts_of p))),
+        length-append (heads_of p n) (table_bytes (texts_offset p) (texts_of p) ++ texts_bytes (texts_of p)),
+        length-append (table_bytes (texts_offset p) (texts_of p)) (texts_bytes (texts_of p)), length-starts n, length-heads n, length-table (texts_offset p) (texts_of p))
 
     -- ---- places
 
     whole_there : Stands (file_bytes p) 0 (header_bytes p ++ (bodies_of p (blocks_of p) ++ (starts_of p (blocks_of p)
-        ++ (heads_of p (blocks_of p) ++ (text_table p ++ texts_bytes (texts_of p))))))
+        ++ (heads_of p (blocks_of p) ++ (table_bytes (texts_offset p) (texts_of p) ++ texts_bytes (texts_of p))))))
     unfolding file_bytes
     whole_there = Stands-whole (file_bytes p)
 
@@ -110,38 +111,38 @@ module _ (p : Parts) where
         (flat_map (little_bytes 4) (header_end p)) (omega (arith, length-debug_id p.debug_id id)) after_numbers
 
     after_header : Stands (file_bytes p) 64 (bodies_of p (blocks_of p) ++ (starts_of p (blocks_of p)
-        ++ (heads_of p (blocks_of p) ++ (text_table p ++ texts_bytes (texts_of p)))))
+        ++ (heads_of p (blocks_of p) ++ (table_bytes (texts_offset p) (texts_of p) ++ texts_bytes (texts_of p)))))
     after_header = Stands-rest (file_bytes p) 0 64 (header_bytes p) _ (omega (arith, length-header)) whole_there
 
     bodies_there : Stands (file_bytes p) 64 (bodies_of p (blocks_of p))
     bodies_there = Stands-first (file_bytes p) 64 (bodies_of p (blocks_of p)) _ after_header
 
     after_bodies : Stands (file_bytes p) (tables_offset p) (starts_of p (blocks_of p) ++ (heads_of p (blocks_of p)
-        ++ (text_table p ++ texts_bytes (texts_of p))))
+        ++ (table_bytes (texts_offset p) (texts_of p) ++ texts_bytes (texts_of p))))
     after_bodies = Stands-rest (file_bytes p) 64 (tables_offset p) (bodies_of p (blocks_of p)) _ refl after_header
 
     starts_there : Stands (file_bytes p) (tables_offset p) (starts_of p (blocks_of p))
     starts_there = Stands-first (file_bytes p) (tables_offset p) (starts_of p (blocks_of p)) _ after_bodies
 
     after_starts : Stands (file_bytes p) (tables_offset p + 8 * blocks_of p) (heads_of p (blocks_of p)
-        ++ (text_table p ++ texts_bytes (texts_of p)))
+        ++ (table_bytes (texts_offset p) (texts_of p) ++ texts_bytes (texts_of p)))
     after_starts = Stands-rest (file_bytes p) (tables_offset p) (tables_offset p + 8 * blocks_of p)
         (starts_of p (blocks_of p)) _ (omega (arith, length-starts (blocks_of p))) after_bodies
 
     heads_there : Stands (file_bytes p) (tables_offset p + 8 * blocks_of p) (heads_of p (blocks_of p))
     heads_there = Stands-first (file_bytes p) (tables_offset p + 8 * blocks_of p) (heads_of p (blocks_of p)) _ after_starts
 
-    after_heads : Stands (file_bytes p) (tables_offset p + 40 * blocks_of p) (text_table p ++ texts_bytes (texts_of p))
+    after_heads : Stands (file_bytes p) (tables_offset p + 40 * blocks_of p) (table_bytes (texts_offset p) (texts_of p) ++ texts_bytes (texts_of p))
     after_heads = Stands-rest (file_bytes p) (tables_offset p + 8 * blocks_of p) (tables_offset p + 40 * blocks_of p)
         (heads_of p (blocks_of p)) _ (omega (arith, length-heads (blocks_of p))) after_starts
 
-    pub text_table_there : Stands (file_bytes p) (tables_offset p + 40 * blocks_of p) (text_table p)
+    pub text_table_there : Stands (file_bytes p) (tables_offset p + 40 * blocks_of p) (table_bytes (texts_offset p) (texts_of p))
     text_table_there =
-        Stands-first (file_bytes p) (tables_offset p + 40 * blocks_of p) (text_table p) _ after_heads
+        Stands-first (file_bytes p) (tables_offset p + 40 * blocks_of p) (table_bytes (texts_offset p) (texts_of p)) _ after_heads
 
     pub texts_there : Stands (file_bytes p) (texts_offset p) (texts_bytes (texts_of p))
-    texts_there = Stands-rest (file_bytes p) (tables_offset p + 40 * blocks_of p) (texts_offset p) (text_table p)
-        (texts_bytes (texts_of p)) (omega (arith, length-text_table)) after_heads
+    texts_there = Stands-rest (file_bytes p) (tables_offset p + 40 * blocks_of p) (texts_offset p) (table_bytes (texts_offset p) (texts_of p))
+        (texts_bytes (texts_of p)) (omega (arith, length-table (texts_offset p) (texts_of p))) after_heads
 
     module _ (block : ℕ) (inside : block < blocks_of p) where
       pub body_there : Stands (file_bytes p) (body_offset p block)

@@ -10,7 +10,7 @@ use Rattle.std.specs.Int.{bytes_low_first}
 use Rattle.std.proofs.Math.Nat.{add-mul-div_left, add-mul-div_right, add-mul-mod_self_left, div-eq_of_lt, div-one}
 use Rattle.std.proofs.Math.Nat.{mod-eq_of_lt}
 use Rattle.std.proofs.Math.Nat.{mul-add, mul_assoc, mul_comm, mul-suc, mul-zero, suc-mul, zero-div, zero-mod, zero-mul}
-use Rattle.std.proofs.lemmas.List.{append-nil, get_or-map, get_or-take, get_or_past, length-take, length_push, map_push}
+use Rattle.std.proofs.lemmas.List.{append-nil, get_or-map, get_or-take, get_or_past, length-take, length-map, length_push, map_push}
 use Rattle.std.proofs.lemmas.List.{set_at}
 use Rattle.std.proofs.lemmas.List.{take_more}
 use Rattle.std.proofs.lemmas.Nat.{leading_length, mul-add-lt, pow-add, pow_pos, shr-shr, shr_below}
@@ -212,6 +212,17 @@ no_token = record {
 pub get_or-token_values : (tokens : List RawToken) (field i : ℕ) (d : RawToken) → i < length tokens
     → get_or (token_values tokens field) i 0 ≡ slice_index (fields_of (get_or tokens i d)) field
 get_or-token_values tokens field i d l = get_or-map (λ t. slice_index (fields_of t) field) tokens i d 0 l
+
+-- values that are small as far as there are tokens
+pub small_all : (tokens : List RawToken) (field n : ℕ) → length tokens ≤ n
+    → ((k : ℕ) → k < n → slice_index (token_values tokens field) k < 2 ^ 32)
+    → (k : ℕ) → slice_index (token_values tokens field) k < 2 ^ 32
+small_all tokens field n l small k = elim (cases_lt k n) [
+  | inl inside ↦ small k inside
+  | inr past ↦
+      let many = length-map tokens (λ t. slice_index (fields_of t) field) in
+      rw (get_or_past (token_values tokens field) k 0 (omega arith)) (omega arith)
+]
 
 -- the numbers of one token more
 pub numbers_more : (base : ℕ) (tokens : List RawToken) (field i : ℕ) (d : RawToken) → i < length tokens

@@ -60,7 +60,15 @@ pieces-suc f n = refl
 pub pieces-more : (f : ℕ → List ℕ) (n : ℕ) → pieces f (n + 1) ≡ pieces f n ++ f n
 pieces-more f n = let same : n + 1 ≡ suc n = omega arith in ap (pieces f) same ∙ pieces-suc f n
 
-pub ruleset pieces_steps = (pieces-none, pieces-more)
+-- one piece more
+pub pieces_step : (bs : List ℕ) (f : ℕ → List ℕ) (n : ℕ) (x y now : List ℕ) → now ≡ x ++ y → x ≡ bs ++ pieces f n
+    → y ≡ f n → now ≡ bs ++ pieces f (n + 1)
+pieces_step bs f n x y now a b c =
+    a ∙ ap (λ (l : List ℕ). l ++ y) b ∙ append_assoc bs (pieces f n) y
+    ∙ ap (λ (l : List ℕ). bs ++ (pieces f n ++ l)) c ∙ ap (λ (l : List ℕ). bs ++ l) (sym (pieces-more f n))
+
+pub pieces_start : (bs : List ℕ) (f : ℕ → List ℕ) → bs ≡ bs ++ pieces f 0
+pieces_start bs f = sym (ap (λ (l : List ℕ). bs ++ l) (pieces-none f) ∙ append-nil bs)
 
 pub length-pieces : (f : ℕ → List ℕ) (size : ℕ) → ((k : ℕ) → length (f k) ≡ size) → (n : ℕ)
     → length (pieces f n) ≡ size * n

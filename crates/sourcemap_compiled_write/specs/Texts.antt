@@ -1,6 +1,7 @@
--- How texts are written, and where they start.
+-- How texts are written, and the table that says where they start.
 use Rattle.std.specs.Prelude.{ℕ, ◌+◌, List, [], ◌∷◌, ◌++◌, length, Option, Some, None}
 use Rattle.std.specs.List.{flat_map}
+use Rattle.byteorder.specs.Endian.{little_bytes}
 
 -- a text and a zero byte; of a missing text nothing
 abbrev pub text_bytes : Option (List ℕ) → List ℕ
@@ -15,3 +16,8 @@ texts_bytes texts = flat_map text_bytes texts
 abbrev pub text_offsets : (offset : ℕ) → List (Option (List ℕ)) → List ℕ
 text_offsets offset [] = []
 text_offsets offset (text ∷ texts) = offset ∷ text_offsets (offset + length (text_bytes text)) texts
+
+-- the table: where each text starts, and where the last one ends
+unfoldable pub table_bytes : (offset : ℕ) → List (Option (List ℕ)) → List ℕ
+table_bytes offset texts =
+    flat_map (little_bytes 4) (text_offsets offset texts ++ (offset + length (texts_bytes texts)) ∷ [])

@@ -4,7 +4,7 @@ ghost use Rattle.std.specs.List.{flat_map};
 ghost use Rattle.byteorder.specs.Endian.{little_bytes};
 ghost use Rattle.sourcemap_compiled.specs.Numbers.{position_number};
 ghost use Rattle.sourcemap_compiled_write.specs.Blocks.{bases, block_of, body_bytes, field_numbers, head_bytes};
-ghost use Rattle.sourcemap_compiled_write.specs.Blocks.{width_bytes};
+ghost use Rattle.sourcemap_compiled_write.specs.Blocks.{start_bytes, width_bytes};
 ghost use Rattle.sourcemap_compiled_write.specs.Packing.{padded, token_values};
 
 use crate::packing::{base_of, numbers_of, push_field, width_of};
@@ -31,13 +31,20 @@ pub(crate) fn push_numbers(out: &mut Vec<u8>, numbers: &[u32]) -> Result<(), All
     Ok(())
 }
 
-/// Returns the start of a block.
-fn start_of(tokens: &[RawToken]) -> u64
-    requires { 0 < length tokens.now }
-    ensures { result ≡ position_number
-        (slice_index (token_values tokens.now 0) 0, slice_index (token_values tokens.now 1) 0) }
+fn position_number(line: u32, column: u32) -> u64
+    ensures { result ≡ position_number (line, column) }
 {
-    (u64::from(tokens[0].dst_line) << 32) + u64::from(tokens[0].dst_col)
+    (u64::from(line) << 32) + u64::from(column)
+}
+
+/// Appends the start of a block.
+pub(crate) fn push_start(starts: &mut Vec<u8>, tokens: &[RawToken]) -> Result<(), AllocError>
+    requires { 0 < length tokens.now }
+    ensures { OnOk result (starts.new.items ≡ starts.old.items ++ start_bytes tokens.now) }
+{
+    let start = position_number(tokens[0].dst_line, tokens[0].dst_col);
+    starts.extend_from_slice(&start.to_le_bytes())?;
+    Ok(())
 }
 
 /// Returns the bases of the fields of a block.
@@ -74,7 +81,8 @@ fn field_numbers(tokens: &[RawToken], scopes: &[u32], field: usize, base: u32) -
     requires few_scopes { length scopes.now ≤ 64 }
     requires field { field < 8 }
     requires base { base ≡ slice_index (bases tokens.now) field }
-    ensures { result ≡ field_numbers tokens.now scopes.now field }
+    ensures numbers { result ≡ field_numbers tokens.now scopes.now field }
+    ensures small { field < 7 → (k : ℕ) → slice_index (token_values tokens.now field) k < 2 ^ 32 }
 {
     match field {
         0 => numbers_of(tokens, 0, base),
@@ -94,16 +102,18 @@ fn push_fields(
     heads: &mut Vec<u8>,
     tokens: &[RawToken],
     scopes: &[u32],
-    bases: &[u32; 8],
+    field_bases: &[u32; 8],
 ) -> Result<(), AllocError>
     requires few { length tokens.now ≤ 64 }
     requires few_scopes { length scopes.now ≤ 64 }
-    requires bases { bases.now ≡ bases tokens.now }
+    requires bases { field_bases.now ≡ bases tokens.now }
     ensures body { OnOk result (out.new.items ≡ out.old.items ++ body_bytes tokens.now scopes.now) }
     ensures widths { OnOk result (heads.new.items ≡ heads.old.items ++ width_bytes tokens.now scopes.now) }
+    ensures small { OnOk result
+        ((field k : ℕ) → field < 7 → slice_index (token_values tokens.now field) k < 2 ^ 32) }
 {
     for field in 0..8 {
-        let numbers = field_numbers(tokens, scopes, field, bases[field]);
+        let numbers = field_numbers(tokens, scopes, field, field_bases[field]);
         let width = width_of(&numbers);
         push_field(out, &numbers, width as usize)?;
         heads.extend_from_slice(&[width as u8])?;
@@ -125,9 +135,12 @@ pub(crate) fn push_block(
     ensures body { OnOk result (out.new.items ≡ out.old.items ++ body_bytes tokens.now scopes.now) }
     ensures head { OnOk result (heads.new.items
         ≡ heads.old.items ++ head_bytes (length out.old.items) tokens.now scopes.now) }
+    ensures small { OnOk result
+        ((field k : ℕ) → field < 7 → slice_index (token_values tokens.now field) k < 2 ^ 32) }
 {
-    let bases = bases_of(tokens);
+    let field_bases = bases_of(tokens);
     push_numbers(heads, &[out.len() as u32])?;
-    push_numbers(heads, &bases[1..6])?;
-    push_fields(out, heads, tokens, scopes, &bases)
+    push_numbers(heads, &field_bases[1..6])?;
+    push_fields(out, heads, tokens, scopes, &field_bases)?;
+    Ok(())
 }

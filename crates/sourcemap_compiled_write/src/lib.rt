@@ -3,4 +3,8 @@
 #![tactic(auto)]
 
 mod blocks;
+pub mod errors;
 mod packing;
+pub mod parts;
+mod texts;
+pub mod write;

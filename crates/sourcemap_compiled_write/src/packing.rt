@@ -13,6 +13,9 @@ pub(crate) fn push_field(out: &mut Vec<u8>, numbers: &[u32], width: usize) -> Re
     requires fit { (k : ℕ) → slice_index numbers.now k < 2 ^ width }
     ensures { OnOk result (out.new.items ≡ out.old.items ++ field_bytes width numbers.now) }
 {
+    if width == 0 {
+        return Ok(());
+    }
     let mut word = 0u64;
     let mut filled = 0;
     for number in numbers {
@@ -62,7 +65,8 @@ pub(crate) fn base_of(tokens: &[RawToken], field: usize) -> u32
 pub(crate) fn numbers_of(tokens: &[RawToken], field: usize, base: u32) -> [u32; 64]
     requires few { length tokens.now ≤ 64 }
     requires field { field < 7 }
-    ensures { result ≡ padded (map (number_of base) (token_values tokens.now field)) }
+    ensures numbers { result ≡ padded (map (number_of base) (token_values tokens.now field)) }
+    ensures small { (k : ℕ) → slice_index (token_values tokens.now field) k < 2 ^ 32 }
 {
     let mut numbers = [0; 64];
     for place in 0..tokens.len() {
