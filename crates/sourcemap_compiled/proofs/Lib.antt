@@ -1,3 +1,4 @@
 pub mod BlocksLemmas
 pub mod LookupLemmas
 pub mod NumbersLemmas
+pub mod SoundnessLemmas

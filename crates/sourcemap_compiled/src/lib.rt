@@ -10,3 +10,4 @@ mod numbers;
 mod search;
 mod texts;
 pub mod token;
+mod verify;

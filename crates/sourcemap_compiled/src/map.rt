@@ -1,11 +1,10 @@
 //! Compiled maps, and what they hold.
-ghost use Rattle.std.specs.Prelude.{◌≡◌, ◌≤◌, ◌<◌, ◌/◌, ◌^◌, Some, IfErr, IfOk, length};
-ghost use Rattle.sourcemap_tokens.specs.Tokens.{destination};
+ghost use Rattle.std.specs.Prelude.{◌≡◌, ◌≤◌, ◌<◌, ◌^◌, Some, IfErr, IfOk, length};
 ghost use Rattle.sourcemap_compiled.specs.Blocks.{compiled_token, scope_number, start_at};
 ghost use Rattle.sourcemap_compiled.specs.Layout.{IsAccepted, block_count, content_count, head_offset, name_count};
 ghost use Rattle.sourcemap_compiled.specs.Layout.{refusal, scope_count, source_count, tables_end, tables_start};
 ghost use Rattle.sourcemap_compiled.specs.Layout.{token_count};
-ghost use Rattle.sourcemap_compiled.specs.Numbers.{position_number};
+ghost use Rattle.sourcemap_compiled.specs.Lookup.{position_of};
 
 use crate::blocks::{BLOCK_SIZE, Block};
 use crate::errors::CompiledMapError;
@@ -117,7 +116,20 @@ impl<'a> CompiledMap<'a> {
         (self.token_count() as usize).div_ceil(BLOCK_SIZE)
     }
 
-    /// Returns the position of the first token of a block, as one number.
+    /// Returns where a block starts, or 0 if there is no such block.
+    #[inline(always)]
+    pub(crate) fn start_or_zero(&self, block: usize) -> u64
+        ensures { block < block_count (bytes_of self.now) → result ≡ start_at (bytes_of self.now) block }
+    {
+        if block < self.block_count() {
+            self.start(block)
+        } else {
+            0
+        }
+    }
+
+    /// Returns where a block starts.
+    #[inline(always)]
     pub(crate) fn start(&self, block: usize) -> u64
         requires { block < block_count (bytes_of self.now) }
         ensures { result ≡ start_at (bytes_of self.now) block }
@@ -125,27 +137,30 @@ impl<'a> CompiledMap<'a> {
         u64_at(self.bytes, self.tables() + START_LENGTH * block)
     }
 
+    #[inline(always)]
     pub(crate) fn block(&self, block: usize) -> Block<'a>
         requires { block < block_count (bytes_of self.now) }
         ensures bytes { result.bytes.now ≡ bytes_of self.now }
-        ensures line { result.line ≡ start_at (bytes_of self.now) block / 2 ^ 32 }
+        ensures start { result.start ≡ start_at (bytes_of self.now) block }
         ensures head { result.head ≡ head_offset (bytes_of self.now) block }
     {
         let heads = self.tables() + START_LENGTH * self.block_count();
         Block {
             bytes: self.bytes,
-            line: (self.start(block) >> 32) as u32,
+            start: self.start(block),
             head: heads + HEAD_LENGTH * block,
         }
     }
 
-    /// Returns the token with this index.
-    #[tactic(auto, unfolding(crate::specs::Blocks::compiled_token))]
-    pub(crate) fn token(&self, index: usize) -> RawToken
-        requires { index < token_count (bytes_of self.now) }
+    /// Returns the token with this index, whose generated position is known.
+    #[inline(always)]
+    pub(crate) fn token(&self, index: usize, position: u64) -> RawToken
+        requires within { index < token_count (bytes_of self.now) }
+        requires position { position ≡ position_of (bytes_of self.now) index }
         ensures { result ≡ compiled_token (bytes_of self.now) index }
     {
-        self.block(index / BLOCK_SIZE).token(index % BLOCK_SIZE)
+        self.block(index / BLOCK_SIZE)
+            .token(index % BLOCK_SIZE, position)
     }
 
     /// Returns the scope of the token with this index: 0 for none, otherwise the id plus 1.
@@ -160,9 +175,15 @@ impl<'a> CompiledMap<'a> {
     #[tactic(auto, unfolding(crate::specs::Blocks::compiled_token))]
     pub(crate) fn position(&self, index: usize) -> u64
         requires { index < token_count (bytes_of self.now) }
-        ensures { result ≡ position_number (destination (compiled_token (bytes_of self.now) index)) }
+        ensures { result ≡ position_of (bytes_of self.now) index }
     {
-        self.block(index / BLOCK_SIZE).position(index % BLOCK_SIZE)
+        let block = self.block(index / BLOCK_SIZE);
+        let place = index % BLOCK_SIZE;
+        if place > 0 {
+            block.position(place)
+        } else {
+            block.start
+        }
     }
 }
 

@@ -19,10 +19,11 @@ pub struct CompiledToken<'a> {
 }
 
 impl<'a> CompiledToken<'a> {
-    ghost use Rattle.std.specs.Prelude.{◌↔◌, ◌==◌, IsTrue, not};
+    ghost use Rattle.std.specs.Prelude.{◌↔◌, ◌==◌, IsOk, IsTrue, not};
     ghost use Rattle.sourcemap_tokens.specs.Tokens.{no_id};
     ghost use Rattle.sourcemap_compiled.specs.Layout.{name_count};
     ghost use Rattle.sourcemap_compiled.specs.Stored.{bytes_of, meaning_of_token, token_value};
+    ghost use Rattle.sourcemap_compiled.specs.Soundness.{IsSound};
     ghost use Rattle.sourcemap_compiled.specs.Texts.{ReadsText};
 
     /// The map of the token.
@@ -95,7 +96,8 @@ impl<'a> CompiledToken<'a> {
     /// The source with the token's source id, resolved; `None` if no source has this id. The error
     /// is `TextOutside` or `InvalidUtf8`.
     pub fn get_source(&self) -> Result<Option<&'a str>, CompiledMapError>
-        ensures { ReadsText (meaning_of_token self.now).source result }
+        ensures text { ReadsText (meaning_of_token self.now).source result }
+        ensures sound { IsSound (token_value self.now).bytes → IsOk result }
     {
         self.map.source(self.raw.src_id)
     }
@@ -111,7 +113,8 @@ impl<'a> CompiledToken<'a> {
     /// The name with the token's name id; `None` if no name has this id. The error is `TextOutside`
     /// or `InvalidUtf8`.
     pub fn get_name(&self) -> Result<Option<&'a str>, CompiledMapError>
-        ensures { ReadsText (meaning_of_token self.now).name result }
+        ensures text { ReadsText (meaning_of_token self.now).name result }
+        ensures sound { IsSound (token_value self.now).bytes → IsOk result }
     {
         self.map.name(self.raw.name_id)
     }
@@ -133,7 +136,8 @@ impl<'a> CompiledToken<'a> {
     /// The scope of the token, the name of a function of a Hermes map; `None` if it has none. The
     /// error is `TextOutside` or `InvalidUtf8`.
     pub fn get_scope(&self) -> Result<Option<&'a str>, CompiledMapError>
-        ensures { ReadsText (meaning_of_token self.now).scope result }
+        ensures text { ReadsText (meaning_of_token self.now).scope result }
+        ensures sound { IsSound (token_value self.now).bytes → IsOk result }
     {
         self.map.scope_of(self.index)
     }

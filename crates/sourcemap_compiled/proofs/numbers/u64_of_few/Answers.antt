@@ -1,7 +1,7 @@
 use Rattle.std.proofs.Common.{◌∙◌}
 use Rattle.sourcemap_compiled.specs.Numbers.{u64_at}
 use Rattle.sourcemap_compiled.proofs.NumbersLemmas.{little_from-same}
-use Rattle.sourcemap_compiled.proofs.numbers.number_of_few.Goals as goal
+use Rattle.sourcemap_compiled.proofs.numbers.u64_of_few.Goals as goal
 
 pub returns : goal.returns
 unfolding u64_at
