@@ -1,9 +1,10 @@
 -- The parts of the file, one appended after the other.
 use Rattle.std.proofs.Common.{◌≡◌, refl, sym, ap, subst, ◌∙◌, ℕ, ◌+◌, ◌-◌, ◌*◌, ◌^◌, ◌<◌, ◌≤◌, List, [], ◌∷◌, ◌++◌}
-use Rattle.std.proofs.Common.{length, slice_index, drop, arith, append_assoc, length-append, Option, inl, inr}
+use Rattle.std.proofs.Common.{length, slice_index, take, drop, arith, append_assoc, length-append, Option}
+use Rattle.std.proofs.Common.{inl, inr}
 use Rattle.std.specs.List.{flat_map}
 use Rattle.std.proofs.lemmas.Bool.{cases_lt}
-use Rattle.std.proofs.lemmas.List.{append-nil, drop_at}
+use Rattle.std.proofs.lemmas.List.{append-nil, drop_all, drop_at, take_all}
 use Rattle.std.proofs.lemmas.List.Concat.{flat_map-append}
 use Rattle.byteorder.specs.Endian.{little_bytes}
 use Rattle.sourcemap_tokens.specs.declared.tokens.RawToken.{RawToken}
@@ -114,6 +115,13 @@ small_more ts block before here field k l m = elim (cases_lt k (64 * block)) [
 ]
 
 -- ---- the whole file
+
+-- a list in place of one of the same length
+pub all_replaced : (n : ℕ) (now items : List ℕ) → n ≡ length items → length now ≡ length items
+    → take n (now ++ drop (length now) items) ≡ now
+all_replaced n now items many kept =
+    ap (λ (l : List ℕ). take n (now ++ l)) (drop_all (length now) items (omega arith))
+    ∙ ap (take n) (append-nil now) ∙ take_all n now (omega arith)
 
 pub file_joined : (p : Parts) (zeros a b c whole : List ℕ) → length zeros ≡ 64
     → a ≡ zeros ++ (bodies_of p (blocks_of p) ++ (starts_of p (blocks_of p) ++ heads_of p (blocks_of p)))
