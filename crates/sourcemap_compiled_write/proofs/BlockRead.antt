@@ -1,5 +1,5 @@
 -- What the reader reads of a block that was written.
-use Rattle.std.proofs.Common.{◌≡◌, refl, sym, ap, subst, ◌∙◌, ℕ, zero, suc, ◌+◌, ◌-◌, ◌*◌, ◌/◌, ◌%◌, ◌^◌, ◌<◌, ◌≤◌}
+use Rattle.std.proofs.Common.{◌≡◌, refl, sym, ap, subst, ◌∙◌, ℕ, zero, suc, ◌+◌, ◌-◌, ◌*◌, ◌%◌, ◌^◌, ◌<◌, ◌≤◌}
 use Rattle.std.proofs.Common.{List, [], ◌∷◌, ◌++◌, length, slice_index, get_or, map, replicate, arith, length-append}
 use Rattle.std.proofs.Common.{Bool, true, false, ◌==◌, nat_lt, if◌then◌else◌}
 use Rattle.std.specs.List.{flat_map}
@@ -11,7 +11,7 @@ use Rattle.sourcemap_compiled.specs.Numbers.{u32_at}
 use Rattle.sourcemap_compiled.specs.Blocks.{packed_at, token_in, width_at, widths_before}
 use Rattle.sourcemap_compiled_write.specs.Blocks.{bases, body_bytes, field_numbers, field_width, head_bases, head_bytes}
 use Rattle.sourcemap_compiled_write.specs.Blocks.{width_bytes}
-use Rattle.sourcemap_compiled_write.specs.Packing.{field_bytes, fields_of, number_of, padded, token_values, width_of}
+use Rattle.sourcemap_compiled_write.specs.Packing.{field_bytes, fields_of, number_of, padded, token_values}
 use Rattle.sourcemap_compiled_write.specs.Pieces.{pieces}
 use Rattle.sourcemap_compiled_write.proofs.PackingLemmas.{below_width_of, get_or-token_values, no_token, number_of_small}
 use Rattle.sourcemap_compiled_write.proofs.PackingLemmas.{value_back, width_of-le}
@@ -136,8 +136,22 @@ module _ (file : List ℕ) (head at : ℕ) (ts : List RawToken) (ss : List ℕ) 
 
   bases-small : AreSmall (bases ts)
   bases-small =
-      small-list (bases ts) ((values 0 (omega arith)).at 0, (omega arith, (omega arith, (omega arith, (omega arith,
-      (omega arith, (omega arith, (omega arith, tt))))))))
+      small-list (bases ts) (
+        (values 0 (omega arith)).at 0,
+        (
+          omega arith,
+          (
+            omega arith,
+            (
+              omega arith,
+              (
+                omega arith,
+                (omega arith, (omega arith, (omega arith, tt))),
+              ),
+            ),
+          ),
+        ),
+      )
 
   numbers_there : Stands file head (flat_map (little_bytes 4) (at ∷ head_bases ts))
   unfolding head_bytes

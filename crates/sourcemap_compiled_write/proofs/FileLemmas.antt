@@ -1,5 +1,5 @@
 -- Where the parts of a file stand that was written, and how long they are.
-use Rattle.std.proofs.Common.{◌≡◌, refl, sym, ap, subst, ◌∙◌, ℕ, zero, suc, ◌+◌, ◌-◌, ◌*◌, ◌/◌, ◌%◌, ◌^◌, ◌<◌, ◌≤◌}
+use Rattle.std.proofs.Common.{◌≡◌, refl, ap, subst, ◌∙◌, ℕ, suc, ◌+◌, ◌*◌, ◌<◌}
 use Rattle.std.proofs.Common.{List, [], ◌∷◌, ◌++◌, length, slice_index, arith, length-append, Some, None, Option, IfSome}
 use Rattle.std.specs.List.{flat_map}
 use Rattle.byteorder.specs.Endian.{little_bytes}
@@ -66,8 +66,13 @@ module _ (p : Parts) where
     length-header =
         length-append (flat_map (little_bytes 4) (header_numbers p))
         (debug_id_bytes p.debug_id ++ flat_map (little_bytes 4) (header_end p))
-        ∙ omega (arith, length-append (debug_id_bytes p.debug_id) (flat_map (little_bytes 4) (header_end p)),
-        length-numbers (header_numbers p), length-numbers (header_end p), length-debug_id p.debug_id id)
+        ∙ omega (
+          arith,
+          length-append (debug_id_bytes p.debug_id) (flat_map (little_bytes 4) (header_end p)),
+          length-numbers (header_numbers p),
+          length-numbers (header_end p),
+          length-debug_id p.debug_id id,
+        )
 
     pub length-file : length (file_bytes p) ≡ length_of p
     unfolding file_bytes
@@ -75,11 +80,17 @@ module _ (p : Parts) where
         let n = blocks_of p in
         length-append (header_bytes p) (bodies_of p n ++ (starts_of p n ++ (heads_of p n ++ (table_bytes (texts_offset p) (texts_of p)
         ++ texts_bytes (texts_of p)))))
-        ∙ omega (arith, length-header,
-        length-append (bodies_of p n) (starts_of p n ++ (heads_of p n ++ (table_bytes (texts_offset p) (texts_of p) ++ texts_bytes (texts_of p)))),
-        length-append (starts_of p n) (heads_of p n ++ (table_bytes (texts_offset p) (texts_of p) ++ texts_bytes (texts_of p))),
-        length-append (heads_of p n) (table_bytes (texts_offset p) (texts_of p) ++ texts_bytes (texts_of p)),
-        length-append (table_bytes (texts_offset p) (texts_of p)) (texts_bytes (texts_of p)), length-starts n, length-heads n, length-table (texts_offset p) (texts_of p))
+        ∙ omega (
+          arith,
+          length-header,
+          length-append (bodies_of p n) (starts_of p n ++ (heads_of p n ++ (table_bytes (texts_offset p) (texts_of p) ++ texts_bytes (texts_of p)))),
+          length-append (starts_of p n) (heads_of p n ++ (table_bytes (texts_offset p) (texts_of p) ++ texts_bytes (texts_of p))),
+          length-append (heads_of p n) (table_bytes (texts_offset p) (texts_of p) ++ texts_bytes (texts_of p)),
+          length-append (table_bytes (texts_offset p) (texts_of p)) (texts_bytes (texts_of p)),
+          length-starts n,
+          length-heads n,
+          length-table (texts_offset p) (texts_of p),
+        )
 
     -- ---- places
 

@@ -1,12 +1,12 @@
 -- What the reader reads of a file that was written: the counts, the tokens, the scopes, the texts.
-use Rattle.std.proofs.Common.{◌≡◌, refl, sym, ap, subst, ◌∙◌, ℕ, zero, suc, ◌+◌, ◌-◌, ◌*◌, ◌/◌, ◌%◌, ◌^◌, ◌<◌, ◌≤◌, min}
+use Rattle.std.proofs.Common.{◌≡◌, refl, sym, ap, subst, ◌∙◌, ℕ, suc, ◌+◌, ◌-◌, ◌*◌, ◌/◌, ◌%◌, ◌^◌, ◌<◌, ◌≤◌, min}
 use Rattle.std.proofs.Common.{List, [], ◌∷◌, ◌++◌, length, slice_index, get_or, map, take, drop, arith, length-append}
-use Rattle.std.proofs.Common.{length-drop, length-take, take-append-drop, ◌==◌, ◌||◌, not, nat_lt, if◌then◌else◌, true, false}
+use Rattle.std.proofs.Common.{take-append-drop, ◌==◌, ◌||◌, not, nat_lt, if◌then◌else◌, true, false}
 use Rattle.std.proofs.Common.{Option, Some, None, Result, Ok, Err, IfSome, inl, inr, option_map, slice_get, slice_range}
 use Rattle.std.specs.List.{range_with_len}
 use Rattle.std.proofs.lemmas.Bool.{cases_eq, cases_lt, eq-eqb, ne_eqb}
 use Rattle.std.proofs.lemmas.Bool.Decides.{nat_tests}
-use Rattle.std.proofs.lemmas.List.{drop-map, get_or-drop, get_or-take, get_or_past, length-map, take-map}
+use Rattle.std.proofs.lemmas.List.{get_or-drop, get_or-take, get_or_past, length-map}
 use Rattle.std.proofs.lemmas.Option.{slice_get_within}
 use Rattle.std.proofs.lemmas.List.FromFn.{fill_by_all}
 use Rattle.sourcemap_tokens.specs.declared.tokens.RawToken.{RawToken}
@@ -28,7 +28,7 @@ use Rattle.sourcemap_compiled.specs.declared.errors.CompiledMapError.{CompiledMa
 use Rattle.sourcemap_compiled.specs.declared.errors.CompiledMapError.TheVariants.{Truncated, WrongExtent, WrongMagic}
 use Rattle.sourcemap_compiled.specs.declared.errors.CompiledMapError.TheVariants.{TextOutside, WrongVersion}
 use Rattle.sourcemap_compiled_write.specs.Blocks.{block_of, body_bytes, head_bytes, start_bytes}
-use Rattle.sourcemap_compiled_write.specs.File.{AreWritable, blocks_of, body_offset, bodies_of, debug_id_bytes}
+use Rattle.sourcemap_compiled_write.specs.File.{AreWritable, blocks_of, body_offset, debug_id_bytes}
 use Rattle.sourcemap_compiled_write.specs.File.{debug_id_number, file_bytes, header_end, header_numbers, length_of}
 use Rattle.sourcemap_compiled_write.specs.File.{tables_offset, texts_of, texts_offset}
 use Rattle.sourcemap_compiled_write.specs.Meaning.{parts_meaning, scope_in}
@@ -44,7 +44,7 @@ use Rattle.sourcemap_compiled_write.proofs.FileLemmas.{text_table_there, texts_t
 use Rattle.sourcemap_compiled_write.proofs.PackingLemmas.{get_or-token_values, no_token}
 use Rattle.sourcemap_compiled_write.proofs.StandsLemmas.{Stands, Stands-item, number-there, range-there, u64_at-there}
 use Rattle.sourcemap_compiled_write.proofs.StandsLemmas.{length-pieces-le}
-use Rattle.sourcemap_compiled_write.proofs.TextsLemmas.{item-first, item-past, item-rest, item-there, length-texts-append}
+use Rattle.sourcemap_compiled_write.proofs.TextsLemmas.{item-first, item-rest, item-there, length-texts-append}
 use Rattle.sourcemap_compiled_write.proofs.TextsLemmas.{length-texts_take, offset-at, text-there, text_by}
 use Rattle.sourcemap_compiled_write.proofs.WriteLemmas.{length-texts_of}
 
@@ -99,11 +99,11 @@ first_place packed t line column place same a b = elim (cases_eq place 0) [
 accepted_by : (len magic version end tables : ℕ) → 64 ≤ len → magic ≡ compiled_magic → version ≡ compiled_version
     → end ≡ len → tables ≤ len
     → (if nat_lt len 64 then Some Truncated
-      else if not (magic == compiled_magic) then Some WrongMagic
-      else if not (version == compiled_version) then Some (WrongVersion version)
-      else if nat_lt len end then Some Truncated
-      else if nat_lt end len || nat_lt len tables then Some WrongExtent
-      else None) ≡ None
+    else if not (magic == compiled_magic) then Some WrongMagic
+    else if not (version == compiled_version) then Some (WrongVersion version)
+    else if nat_lt len end then Some Truncated
+    else if nat_lt end len || nat_lt len tables then Some WrongExtent
+    else None) ≡ None
 accepted_by len magic version end tables a b c d e = grind (arith, nat_tests)
 
 id_number_small : (id : Option (List ℕ)) → debug_id_number id < 2 ^ 32
@@ -122,7 +122,7 @@ read_between : (bytes : List ℕ) (read_start read_end start end : ℕ) (text : 
     → Stands bytes start (text_bytes text)
     → ◌≡◌ {A = Result (Option (List ℕ)) CompiledMapError}
     (if nat_lt read_end read_start || nat_lt (length bytes) read_end then Err TextOutside
-      else if read_start == read_end then Ok None else Ok (Some (slice_range bytes read_start (read_end - 1))))
+    else if read_start == read_end then Ok None else Ok (Some (slice_range bytes read_start (read_end - 1))))
     (Ok text)
 read_between bytes read_start read_end start end text a b e l s = rw (a, b) (text-there bytes start end text e l s)
 
@@ -154,13 +154,38 @@ module _ (p : Parts) (w : AreWritable p) where
 
   numbers : AreSmall (header_numbers p)
   numbers =
-      small-list (header_numbers p) (omega arith, (omega arith, (total, (w.few, (omega (arith, total, many_texts),
-      (omega (arith, total, many_texts), (omega (arith, total, many_texts), (id_number, tt))))))))
+      small-list (header_numbers p) (
+        omega arith,
+        (
+          omega arith,
+          (
+            total,
+            (
+              w.few,
+              (
+                omega (arith, total, many_texts),
+                (omega (arith, total, many_texts), (omega (arith, total, many_texts), (id_number, tt))),
+              ),
+            ),
+          ),
+        ),
+      )
 
   numbers_end : AreSmall (header_end p)
   numbers_end =
-      small-list (header_end p) (omega (arith, total), (omega (arith, total, many_texts), (omega arith, (omega arith,
-      tt))))
+      small-list (header_end p) (
+        omega (arith, total),
+        (
+          omega (arith, total, many_texts),
+          (
+            omega arith,
+            (
+              omega arith,
+              tt,
+            ),
+          ),
+        ),
+      )
 
   -- a number of the header
   header_number : (k : ℕ) → k < 8 → u32_at file (0 + 4 * k) ≡ slice_index (header_numbers p) k
@@ -217,14 +242,18 @@ module _ (p : Parts) (w : AreWritable p) where
     values field l = small-values p.tokens block field (record { at = λ k. w.values field k l })
 
     start_read : start_at file block
-        ≡ position_number (slice_index (token_values (block_of p.tokens block) 0) 0,
-        slice_index (token_values (block_of p.tokens block) 1) 0)
+        ≡ position_number (
+          slice_index (token_values (block_of p.tokens block) 0) 0,
+          slice_index (token_values (block_of p.tokens block) 1) 0,
+        )
     unfolding start_bytes
     start_read =
         let line = (values 0 (omega arith)).at 0 in
         let column = (values 1 (omega arith)).at 0 in
-        let first = position_number (slice_index (token_values (block_of p.tokens block) 0) 0,
-        slice_index (token_values (block_of p.tokens block) 1) 0) in
+        let first = position_number (
+          slice_index (token_values (block_of p.tokens block) 0) 0,
+          slice_index (token_values (block_of p.tokens block) 1) 0,
+        ) in
         let small : first < 2 ^ 64 = omega arith in
         let there : tables_offset p + 8 * block ≡ start_offset file block = omega (arith, tables_read) in
         u64_at-there file (start_offset file block) first small

@@ -1,5 +1,5 @@
 -- The parts of the file, one appended after the other.
-use Rattle.std.proofs.Common.{◌≡◌, refl, sym, ap, subst, ◌∙◌, ℕ, ◌+◌, ◌-◌, ◌*◌, ◌^◌, ◌<◌, ◌≤◌, List, [], ◌∷◌, ◌++◌}
+use Rattle.std.proofs.Common.{◌≡◌, refl, sym, ap, subst, ◌∙◌, ℕ, ◌+◌, ◌-◌, ◌*◌, ◌^◌, ◌<◌, List, [], ◌∷◌, ◌++◌}
 use Rattle.std.proofs.Common.{length, slice_index, take, drop, arith, append_assoc, length-append, Option}
 use Rattle.std.proofs.Common.{inl, inr}
 use Rattle.std.specs.List.{flat_map}
@@ -25,8 +25,11 @@ pub length-texts_of : (p : Parts) → length (texts_of p)
     ≡ length p.sources + length p.names + length p.scope_names + length p.contents + 1
 length-texts_of p =
     length-append p.sources (p.names ++ (p.scope_names ++ (p.file ∷ p.contents)))
-    ∙ omega (arith, length-append p.names (p.scope_names ++ (p.file ∷ p.contents)),
-    length-append p.scope_names (p.file ∷ p.contents))
+    ∙ omega (
+      arith,
+      length-append p.names (p.scope_names ++ (p.file ∷ p.contents)),
+      length-append p.scope_names (p.file ∷ p.contents),
+    )
 
 abbrev pub size : List (Option (List ℕ)) → ℕ
 size texts = length (texts_bytes texts)
@@ -35,8 +38,12 @@ pub size-texts_of : (p : Parts) → size (texts_of p)
     ≡ size p.sources + size p.names + size p.scope_names + size (p.file ∷ []) + size p.contents
 size-texts_of p =
     length-texts-append p.sources (p.names ++ (p.scope_names ++ (p.file ∷ p.contents)))
-    ∙ omega (arith, length-texts-append p.names (p.scope_names ++ (p.file ∷ p.contents)),
-    length-texts-append p.scope_names (p.file ∷ p.contents), length-texts-append (p.file ∷ []) p.contents)
+    ∙ omega (
+      arith,
+      length-texts-append p.names (p.scope_names ++ (p.file ∷ p.contents)),
+      length-texts-append p.scope_names (p.file ∷ p.contents),
+      length-texts-append (p.file ∷ []) p.contents,
+    )
 
 join_texts : (bs : List ℕ) (xs ys : List (Option (List ℕ)))
     → bs ++ texts_bytes xs ++ texts_bytes ys ≡ bs ++ texts_bytes (xs ++ ys)

@@ -1,4 +1,4 @@
-use Rattle.std.proofs.Common.{ℕ, ◌≡◌, refl, arith}
+use Rattle.std.proofs.Common.{◌≡◌, refl, arith}
 use Rattle.sourcemap_compiled_write.proofs.BlockLemmas.{field_numbers-scope, field_numbers-token, field_small}
 use Rattle.sourcemap_compiled_write.proofs.blocks.field_numbers.Goals as goal
 

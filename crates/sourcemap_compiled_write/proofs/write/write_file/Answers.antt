@@ -1,4 +1,4 @@
-use Rattle.std.proofs.Common.{◌≡◌, ◌∙◌, ◌+◌, ◌<◌, ◌≤◌, ◌^◌, ◌++◌, List, ℕ, ap, drop, length, replicate, rules, inr, arith}
+use Rattle.std.proofs.Common.{◌≡◌, ◌∙◌, ◌+◌, ◌++◌, List, ℕ, ap, drop, length, replicate, rules, inr, arith}
 use Rattle.std.specs.List.{flat_map}
 use Rattle.byteorder.specs.Endian.{little_bytes}
 use Rattle.std.proofs.lemmas.Result.{err_from_is_err_and}
@@ -18,9 +18,9 @@ pub returns-in_err-tables-clause-refused : goal.returns-in_err-tables-clause-ref
 returns-in_err-tables-clause-refused c =
     let p = err_from_is_err_and c.from_residual-in_err-tables.result c.from_residual-in_err-tables.ensures.1 in
     rw (p.1, p.2) (λ same.
-        let long = length-file (parts_value c.args.parts.now) c.id_bytes-id.ensures.whole in
-        let past = c.in_err-tables.ensures.refused same in
-        inr (omega arith))
+    let long = length-file (parts_value c.args.parts.now) c.id_bytes-id.ensures.whole in
+    let past = c.in_err-tables.ensures.refused same in
+    inr (omega arith))
 
 pub put_header-requires-clause-whole : goal.put_header-requires-clause-whole
 put_header-requires-clause-whole c =
