@@ -1,0 +1,9 @@
+pub mod BlockLemmas
+pub mod BlockRead
+pub mod BytesLemmas
+pub mod FileLemmas
+pub mod PackingLemmas
+pub mod ReadBack
+pub mod StandsLemmas
+pub mod TextsLemmas
+pub mod WriteLemmas
