@@ -1,0 +1,7 @@
+//! Checks whether bytes are a valid map by ECMA-426.
+#![tactic(auto)]
+
+pub mod check;
+mod keys;
+mod sections;
+pub mod tree;
