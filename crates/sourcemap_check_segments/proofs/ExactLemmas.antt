@@ -257,6 +257,12 @@ Has-page counts own n before (first ∷ lines) f (suc j) line at h =
 
 -- A text.
 
+breaks_at : (counts : Counts) (page : List (List (List ℕ))) (line : List (List ℕ)) (segment : List ℕ)
+    (rule : SegmentRule) (l j i k : ℕ) → l ≡ j → i ≡ k
+    → breaks counts rule (joined (take j page) ++ take (suc k) line) (take (suc k) line) segment ≡ true
+    → breaks counts rule (joined (take l page) ++ take (i + 1) line) (take (i + 1) line) segment ≡ true
+breaks_at counts page line segment rule l j i k e f h = rw (e, f, add-one) h
+
 pub IsBrokenRule-found : (counts : Counts) (own : ℕ) (text : List ℕ) (f : Finding)
     → Contains (findings_of counts own text) f → IsBrokenRule counts own text f
 IsBrokenRule-found counts own text f h =
@@ -272,7 +278,8 @@ IsBrokenRule-found counts own text f h =
         segment = p.in_line.segment;
         line_at = ap (slice_get (page_of text)) line_is ∙ p.at;
         segment_at = ap (slice_get p.line) index_is ∙ p.in_line.at;
-        broken = rw (line_is, index_is, add-one) p.in_line.broken;
+        broken = breaks_at counts (page_of text) p.line p.in_line.segment p.in_line.rule f.line p.j f.index p.in_line.k
+            line_is index_is p.in_line.broken;
       };
     }
 

@@ -130,6 +130,13 @@ pub column_sum : (segments : List (List ℕ)) (bytes : List ℕ) (old number res
 column_sum segments bytes old number result f g h is e d =
     to_z-of_z w128 result h ∙ (is ∙ (unwrapped old number f g ∙ sum_step 0 segments bytes old number e d))
 
+pub next_sum : (segments : List (List ℕ)) (bytes : List ℕ) (old number result : ℤ) → SFits w64 number → SFits w128 result
+    → result ≡ old +ℤ to_z w64 (of_z w64 number) → old ≡ sum_at 0 segments → number ≡ delta 0 bytes
+    → to_z w128 (of_z w128 result) ≡ sum_at 0 (segments ++ bytes ∷ [])
+next_sum segments bytes old number result g h is e d =
+    to_z-of_z w128 result h
+    ∙ (is ∙ (ap (λ z. old +ℤ z) (to_z-of_z w64 number g) ∙ sum_step 0 segments bytes old number e d))
+
 pub through_sum : (k : ℕ) (before here : List (List ℕ)) (bytes : List ℕ) (old number result : ℤ) → SFits w128 old
     → SFits w64 number → SFits w128 result → result ≡ to_z w128 (of_z w128 old) +ℤ to_z w64 (of_z w64 number)
     → old ≡ sum_at k (before ++ here) → number ≡ delta k bytes
