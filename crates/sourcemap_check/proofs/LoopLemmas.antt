@@ -11,10 +11,10 @@ use Rattle.sourcemap_check_report.specs.Report.{Reports}
 use Rattle.sourcemap_check_segments.specs.declared.last.Position.{Position}
 use Rattle.sourcemap_check.specs.declared.sections.Previous.{Previous}
 use Rattle.sourcemap_check.specs.declared.tree.Checked.{Checked}
-use Rattle.sourcemap_check.specs.Trees.{Tree, Sections, no_sections, bare, mapped, with_section}
-use Rattle.sourcemap_check.specs.Positions.{start_of, moved_by, later_of, last_of, last_in}
+use Rattle.sourcemap_check.specs.Trees.{Tree, tree, Sections, no_sections, bare, mapped, with_section, tree_of}
+use Rattle.sourcemap_check.specs.Positions.{start_of, moved_by, later_of, last_of, last_in, text_last}
 use Rattle.sourcemap_check.specs.Findings.{section_findings, sections_findings, tree_findings, none_before, map_count}
-use Rattle.sourcemap_check.specs.Findings.{section_count}
+use Rattle.sourcemap_check.specs.Findings.{section_count, key_findings, text_findings}
 use Rattle.sourcemap_check.specs.Steps.{ChecksTree, ChecksInner, ChecksNone, ChecksSections}
 
 -- Rules one after another.
@@ -137,3 +137,43 @@ SectionsSoFar-more most all own old ss index previous s (Some t) left checked mi
       counted = let c = so_far.counted in omega (arith, count, c);
       last_is = ap (λ e. last_in (later_of last (moved_by (start_of s) e)) left) checks.last_is ∙ so_far.last_is;
     }
+
+-- A whole map.
+
+pub sections_none : (most : ℕ) (all : List Finding) (own : ℕ) (mid : Checked) → Reports most all mid.report
+    → ChecksSections most all own mid mid no_sections None
+sections_none most all own mid reports = record {
+  reports = Reports-none most all mid.report reports;
+  counted = omega arith;
+  last_is = refl;
+}
+
+tree_of_parts : (most : ℕ) (all : List Finding) (d : Data) (own : ℕ) (old mid new : Checked) (ss : Sections)
+    (last : Option Position) → own ≡ length old.maps.items → length mid.maps.items ≡ length old.maps.items + 1
+    → ChecksSections most ((all ++ key_findings own d) ++ text_findings own d) own mid new ss last
+    → ChecksTree most all old new (tree d ss) (later_of last (text_last d))
+tree_of_parts most all d own old mid new ss last own_is pushed checks =
+    let P : ℕ → ℕ → Type 0 = λ k next. Reports most (((all ++ key_findings k d) ++ text_findings k d)
+    ++ sections_findings k 0 none_before next ss) new.report in
+    let at_own : P (length old.maps.items) (length mid.maps.items) =
+    subst (λ k. P k (length mid.maps.items)) own_is checks.reports in
+    let at_next : P (length old.maps.items) (length old.maps.items + 1) =
+    subst (λ next. P (length old.maps.items) next) pushed at_own in
+    record {
+      reports = subst (λ fs. Reports most fs new.report)
+          (ap (λ fs. fs ++ sections_findings (length old.maps.items) 0 none_before (length old.maps.items + 1) ss)
+          (append_assoc all (key_findings (length old.maps.items) d) (text_findings (length old.maps.items) d))
+          ∙ append_assoc all (key_findings (length old.maps.items) d ++ text_findings (length old.maps.items) d)
+          (sections_findings (length old.maps.items) 0 none_before (length old.maps.items + 1) ss)) at_next;
+      counted = let e = checks.counted in omega (arith, e, pushed);
+      last_is = ap (λ l. later_of l (text_last d)) checks.last_is;
+    }
+
+pub tree_checked : (most : ℕ) (all : List Finding) (d : Data) (own : ℕ) (old mid new : Checked) (ss : Sections)
+    (last : Option Position) → own ≡ length old.maps.items → length mid.maps.items ≡ length old.maps.items + 1
+    → tree_of d ≡ tree d ss
+    → ChecksSections most ((all ++ key_findings own d) ++ text_findings own d) own mid new ss last
+    → ChecksTree most all old new (tree_of d) (later_of last (text_last d))
+tree_checked most all d own old mid new ss last own_is pushed is checks =
+    subst (λ t. ChecksTree most all old new t (later_of last (text_last d))) (sym is)
+    (tree_of_parts most all d own old mid new ss last own_is pushed checks)

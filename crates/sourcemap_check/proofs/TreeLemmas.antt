@@ -1,6 +1,9 @@
 -- Trees, and the keys that they come from.
 use Rattle.std.proofs.Common.{◌≡◌, ℕ, suc, ◌+◌, ◌<◌, ◌≤◌, max, List, Option, Some, None, Ordering, Less, Equal, Greater}
-use Rattle.std.proofs.Common.{nat_cmp, arith, refl, ap, ◌∙◌, sym, true, false, IsTrue}
+use Rattle.std.proofs.Common.{nat_cmp, arith, refl, ap, ◌∙◌, sym, true, false, zero, [], ◌∷◌, length, get_or, drop}
+use Rattle.std.proofs.lemmas.List.{drop_more}
+use Rattle.serde_json.specs.View.{view, items_view}
+use Rattle.serde_json.specs.declared.value.Value.{Value}
 use Rattle.std.specs.Prelude.{codes, option_and_then, is_some}
 use Rattle.std.specs.Cmp.Lexicographic.{slice_cmp}
 use Rattle.std.specs.Ordering.{match_ordering}
@@ -9,7 +12,7 @@ use Rattle.serde_json.specs.Data.{Members, no_members, member, depth, items_dept
 use Rattle.serde_json.specs.Find.{get, get_member, as_array, as_object}
 use Rattle.sourcemap_check_keys.specs.Values.{list_at}
 use Rattle.sourcemap_check.specs.Trees.{Tree, tree, Sections, no_sections, tree_of, sections_in, sections_of, sections_from}
-use Rattle.sourcemap_check.specs.Trees.{inner_of, inner_in, map_tree}
+use Rattle.sourcemap_check.specs.Trees.{inner_of, inner_in, map_tree, with_section}
 
 -- The sections of a map.
 
@@ -151,3 +154,24 @@ depth_in-get key d (Some v) e = let h = depth-get key d v e in omega (arith, h)
 pub depth-list_at : (key : List ℕ) (d : Data) (ds : Items) → list_at key d ≡ Some ds → items_depth ds + 1 < depth d + 1
 depth-list_at key d ds e =
     depth_of_list (get key d) (depth d + 1) ds (depth_in-get key d (get key d) refl) e
+
+-- Lists of sections.
+
+pub tree_of-sections : (d : Data) (ds : Items) → list_at (codes "sections") d ≡ Some ds → tree_of d ≡ tree d (sections_from ds)
+tree_of-sections d ds e = tree_of-list d ∙ ap (λ o. tree d (sections_listed o)) e
+
+pub tree_of-bare : (d : Data) → list_at (codes "sections") d ≡ None → tree_of d ≡ tree d no_sections
+tree_of-bare d e = tree_of-list d ∙ ap (λ o. tree d (sections_listed o)) e
+
+pub section_next : (vs : List Value) (i : ℕ) (v : Value) → i < length vs → v ≡ get_or vs i v
+    → sections_from (items_view (drop i vs))
+    ≡ with_section (view v) (inner_of (view v)) (sections_from (items_view (drop (i + 1) vs)))
+section_next vs i v h e =
+    ap (λ us. sections_from (items_view us)) (drop_more vs i v h)
+    ∙ ap (λ u. with_section (view u) (inner_of (view u)) (sections_from (items_view (drop (i + 1) vs)))) (sym e)
+
+pub depth_item : (vs : List Value) (i : ℕ) (v : Value) → i < length vs → v ≡ get_or vs i v
+    → depth (view v) ≤ items_depth (items_view vs)
+depth_item [] i v h e = absurd (omega arith)
+depth_item (u ∷ vs) zero v h e = let k = ap (λ w. depth (view w)) e in omega (arith, k)
+depth_item (u ∷ vs) (suc i) v h e = let k = depth_item vs i v (omega arith) e in omega (arith, k)

@@ -1,5 +1,7 @@
 //! Checks bytes.
-ghost use Rattle.std.specs.Prelude.{◌≡◌, ◌∷◌, [], List, IfOk, IfErr, OnOk};
+ghost use Rattle.std.specs.Prelude.{◌≡◌, ◌≢◌, ◌∷◌, [], List, IfOk, IfErr, OnOk, Some, None, IsNone, IsUtf8};
+ghost use Rattle.std.specs.Prelude.{MatchOption, MatchResult};
+ghost use Rattle.serde_json.specs.Read.{read as read_text};
 ghost use Rattle.serde_json.specs.View.{view};
 ghost use Rattle.sourcemap_errors.specs.declared.errors.Error.TheVariants.{OutOfMemory};
 ghost use Rattle.sourcemap_check_report.specs.Report.{Reports};
@@ -49,6 +51,31 @@ fn add_alone(report: &mut Report, most: usize, rule: Rule) -> Result<()>
     report.push(most, finding)
 }
 
+// The JSON value of bytes, or none if they are no JSON text. The only error is `OutOfMemory`.
+fn read_value(alloc: Global, bytes: &[u8]) -> Result<Option<Value>>
+    ensures value { IfOk result (λ found. MatchOption found
+        (IsUtf8 bytes.now → read_text bytes.now ≡ None)
+        (λ value. IsUtf8 bytes.now × (read_text bytes.now ≡ Some (view value)))) }
+    ensures memory { IfErr result (λ e. e ≡ OutOfMemory) }
+{
+    match Value::from_slice(alloc, bytes) {
+        Ok(value) => Ok(Some(value)),
+        Err(error) => none_unless_memory(Error::from(error)),
+    }
+}
+
+// No value, unless memory ran out.
+fn none_unless_memory(error: Error) -> Result<Option<Value>>
+    ensures { MatchResult result
+        (λ found. IsNone found × (error ≢ OutOfMemory))
+        (λ e. (e ≡ OutOfMemory) × (error ≡ OutOfMemory)) }
+{
+    match error {
+        Error::OutOfMemory => Err(Error::OutOfMemory),
+        _ => Ok(None),
+    }
+}
+
 /// Checks whether bytes are a valid map by ECMA-426. Returns the findings, at most `options.most`
 /// of each rule, and how many each rule has. The only error is `OutOfMemory`.
 pub fn check(alloc: Global, bytes: &[u8], options: Options) -> Result<Checked>
@@ -60,14 +87,9 @@ pub fn check(alloc: Global, bytes: &[u8], options: Options) -> Result<Checked>
         report: Report::new(alloc),
         maps: Vec::new(alloc),
     };
-    match Value::from_slice(alloc, bytes) {
-        Ok(value) => check_value(&mut checked, options.most, &value)?,
-        Err(error) => {
-            if let Error::OutOfMemory = Error::from(error) {
-                return Err(Error::OutOfMemory);
-            }
-            add_alone(&mut checked.report, options.most, Rule::NotJson)?;
-        }
+    match read_value(alloc, bytes)? {
+        Some(value) => check_value(&mut checked, options.most, &value)?,
+        None => add_alone(&mut checked.report, options.most, Rule::NotJson)?,
     }
     Ok(checked)
 }

@@ -3,5 +3,6 @@
 
 pub mod check;
 mod keys;
+pub mod laws;
 mod sections;
 pub mod tree;

@@ -55,7 +55,7 @@ counts_more all finding counts count h within e rule =
       | inr differs ↦
           let none : ◌≡◌ {A = ℕ} (cond (number_of finding.rule == number_of rule) 1 0) 0 = rw (ne_eqb _ _ differs) refl in
           let there : slice_index (set counts (number_of finding.rule) count) (number_of rule)
-              ≡ slice_index counts (number_of rule) =
+          ≡ slice_index counts (number_of rule) =
           get_or-set_other counts (number_of finding.rule) (number_of rule) count 0 (λ q. differs (sym q)) in
           omega (arith, there, more, none, own)
     ]

@@ -160,11 +160,11 @@ Reports-rule counts own n index most all before here bytes rules i rule is_broke
     let finding : SegmentRule → Finding = λ r. record { rule = Segment r; map = own; line = n; index = index } in
     let test : SegmentRule → Bool = λ r. breaks counts r (before ++ (here ++ bytes ∷ [])) (here ++ bytes ∷ []) bytes in
     let one : map finding (cond is_broken (rule ∷ []) [])
-        ≡ map finding (cond (test (get_or rules i rule)) (get_or rules i rule ∷ []) []) =
+    ≡ map finding (cond (test (get_or rules i rule)) (get_or rules i rule ∷ []) []) =
     ap (λ b. map finding (cond b (rule ∷ []) [])) is ∙ ap (λ r. map finding (cond (test r) (r ∷ []) [])) at in
     let more : (all ++ found counts own n index before here bytes (take i rules))
-        ++ map finding (cond is_broken (rule ∷ []) [])
-        ≡ all ++ found counts own n index before here bytes (take (i + 1) rules) =
+    ++ map finding (cond is_broken (rule ∷ []) [])
+    ≡ all ++ found counts own n index before here bytes (take (i + 1) rules) =
     append_assoc all (found counts own n index before here bytes (take i rules))
     (map finding (cond is_broken (rule ∷ []) []))
     ∙ ap (λ fs. all ++ fs) (ap (λ fs. found counts own n index before here bytes (take i rules) ++ fs) one

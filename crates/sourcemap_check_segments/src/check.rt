@@ -56,7 +56,15 @@ fn add_if(
         return Ok(());
     }
     let Place { map, line, index } = place;
-    report.push(most, Finding { rule: Rule::Segment(rule), map, line, index })
+    report.push(
+        most,
+        Finding {
+            rule: Rule::Segment(rule),
+            map,
+            line,
+            index,
+        },
+    )
 }
 
 // Adds the findings of a segment. The sums include the segment.

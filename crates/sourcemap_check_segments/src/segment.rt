@@ -86,7 +86,13 @@ fn with_byte(later: Raws, byte: u8) -> Raws
     ensures { (bytes : List ℕ) → DescribesBytes bytes later → DescribesBytes (byte ∷ bytes) result }
 {
     let Some(digit) = value_of_digit(byte) else {
-        return with_number(&Raws { foreign: true, ..later }, 0);
+        return with_number(
+            &Raws {
+                foreign: true,
+                ..later
+            },
+            0,
+        );
     };
     if digit >= 32 {
         with_digit(&later, u64::from(digit % 32))

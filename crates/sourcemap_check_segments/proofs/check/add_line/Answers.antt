@@ -49,9 +49,10 @@ returns c =
     let segments = segments_of-some c.args.text.now some in
     record {
       added = λ all before sums reports.
-          let so_far = rw c.in_default.is at (c.loop-rest.invariant.so_far all before sums reports) in
-          (rw segments (LineSoFar-sums _ _ _ _ all before _ _ _ _ so_far),
-          rw segments (LineSoFar-reports _ _ _ _ all before _ _ _ _ so_far));
+          let so_far = rw c.in_default.is at (c.loop-rest.invariant.so_far all before sums reports) in (
+            rw segments (LineSoFar-sums _ _ _ _ all before _ _ _ _ so_far),
+            rw segments (LineSoFar-reports _ _ _ _ all before _ _ _ _ so_far),
+          );
       within = c.loop-rest.invariant.within;
       few = omega (arith, c.loop-rest.invariant.count);
       memory = tt;
