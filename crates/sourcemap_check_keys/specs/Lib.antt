@@ -1,0 +1,3 @@
+pub mod MapRules
+pub mod SectionRules
+pub mod Values

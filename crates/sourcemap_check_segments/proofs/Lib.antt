@@ -1,0 +1,3 @@
+pub mod ExactLemmas
+pub mod FindingLemmas
+pub mod SegmentLemmas

@@ -1,0 +1,5 @@
+pub mod Findings
+pub mod Last
+pub mod Rules
+pub mod Segments
+pub mod Steps
