@@ -59,8 +59,11 @@ mod errors;
 mod ffi;
 #[allow(unsafe_code)]
 mod handle;
+#[allow(unsafe_code)]
+mod helgrind;
 mod hermes;
 mod local;
+mod once;
 pub mod ram_bundle;
 mod sourceview;
 mod types;

@@ -5,7 +5,6 @@ use std::collections::BTreeMap;
 use std::fmt;
 use std::fs::{self, File};
 use std::io::Read;
-use std::marker::PhantomData;
 use std::ops::Range;
 use std::path::Path;
 
@@ -69,11 +68,19 @@ pub struct RamBundleModuleIter<'a> {
     ram_bundle: &'a RamBundle<'a>,
 }
 
-/// The modules of a RAM bundle, each with a file name, its text and its map.
+/// The modules of a RAM bundle, each with a file name, its text and its map. A module is read
+/// when it is asked for.
 pub struct SplitRamBundleModuleIter<'a> {
     split: SplitHandle,
-    items: Range<usize>,
-    ram_bundle: PhantomData<&'a ()>,
+    ids: Range<usize>,
+    bundle: Whole<'a>,
+}
+
+/// A bundle in the indexed form.
+enum Whole<'a> {
+    Indexed(&'a BundleHandle),
+    /// What a bundle of files is in that form.
+    Image(BundleHandle),
 }
 
 impl<'a> RamBundle<'a> {
@@ -156,19 +163,18 @@ impl<'a> RamBundle<'a> {
         }
     }
 
-    fn split(&self, smi: &SourceMapIndex) -> Result<SplitHandle> {
-        let index = smi.handle();
-        match &self.repr {
-            Repr::Indexed(indexed) => indexed.handle.split(index),
-            Repr::Unbundle(unbundle) => BundleHandle::open(&unbundle.image()?)?.split(index),
-        }
+    fn whole(&self) -> Result<Whole<'_>> {
+        Ok(match &self.repr {
+            Repr::Indexed(indexed) => Whole::Indexed(&indexed.handle),
+            Repr::Unbundle(unbundle) => Whole::Image(BundleHandle::open(&unbundle.image()?)?),
+        })
     }
 }
 
 impl Clone for Indexed<'_> {
     fn clone(&self) -> Self {
         Indexed {
-            handle: must(BundleHandle::open(&self.bytes)),
+            handle: must(self.handle.share()),
             bytes: self.bytes.clone(),
         }
     }
@@ -323,20 +329,28 @@ impl Iterator for SplitRamBundleModuleIter<'_> {
     type Item = Result<(String, SourceView, SourceMap)>;
 
     fn next(&mut self) -> Option<Self::Item> {
-        let item = self.items.next()?;
-        Some(split_item(&self.split, item))
+        let bundle = match &self.bundle {
+            Whole::Indexed(bundle) => bundle,
+            Whole::Image(bundle) => bundle,
+        };
+        let module = |id| self.split.module(bundle, id).transpose();
+        let (text, map) = match self.ids.find_map(module)? {
+            Ok(module) => module,
+            Err(error) => return Some(Err(error)),
+        };
+        let name = map.file().unwrap_or_default().to_owned();
+        Some(Ok((
+            name,
+            SourceView::of_text(text),
+            SourceMap::of_handle(map),
+        )))
     }
-}
-
-fn split_item(split: &SplitHandle, item: usize) -> Result<(String, SourceView, SourceMap)> {
-    let (name, text) = split.item(item)?;
-    let map = SourceMap::of_handle(split.map(item)?);
-    Ok((name.to_owned(), SourceView::of_text(text), map))
 }
 
 /// Splits a bundle into its modules, each with a file name, its text and its map, by
 /// the index map of the bundle. The file name is the number in decimal digits, without
-/// leading zeros, and `.js`.
+/// leading zeros, and `.js`. The index map is flattened at once, and a module is split off when
+/// the iterator comes to it.
 ///
 /// A module begins on the line that the list [`SourceMapIndex::x_facebook_offsets`]
 /// has for its number. The iterator skips modules that are missing. A module for which
@@ -357,11 +371,10 @@ pub fn split_ram_bundle<'a>(
     ram_bundle: &'a RamBundle<'_>,
     smi: &SourceMapIndex,
 ) -> Result<SplitRamBundleModuleIter<'a>> {
-    let split = ram_bundle.split(smi)?;
     Ok(SplitRamBundleModuleIter {
-        items: 0..split.item_count(),
-        split,
-        ram_bundle: PhantomData,
+        split: SplitHandle::open(smi.handle())?,
+        ids: 0..ram_bundle.module_count(),
+        bundle: ram_bundle.whole()?,
     })
 }
 
