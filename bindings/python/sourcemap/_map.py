@@ -293,9 +293,11 @@ class Map(HandleOwner):
         return tuple(lines)
 
     @property
-    def module_paths(self) -> Tuple[str, ...]:
-        """Of the index map of a RAM bundle: the paths of its modules. Empty if it has no such list; `WrongKind` of
+    def module_paths(self) -> Optional[Tuple[str, ...]]:
+        """Of the index map of a RAM bundle: the paths of its modules. None if it has no such list; `WrongKind` of
         other maps."""
+        if not self._read(library.module_path_count, byref(c_size_t())):
+            return None
         paths: List[str] = []
         while (path := self._text(library.module_path, len(paths))) is not None:
             paths.append(path)
@@ -481,6 +483,20 @@ class Map(HandleOwner):
         """Of a Hermes map: the name of the function at an offset of the bytecode; None if it is not known. If the
         functions of a source are not in order, the name may be wrong or missing. `WrongKind` of any other map."""
         return self._text(library.hermes_function_name, uint32('offset', offset))
+
+    def scope_for(self, source: int, line: int, column: int) -> Optional[str]:
+        """Of a Hermes map: the name of the function that contains a position of the source with this id; None if it is
+        not known. So a token has a name on whichever generated line it is. If the functions of a source are not in
+        order, the name may be wrong or missing. `WrongKind` of any other map.
+
+        >>> import sourcemap
+        >>> map = sourcemap.Map.loads('{"sources":["a.js"],"mappings":";AAAA",'
+        ...                           '"x_facebook_sources":[[{"names":["main"],"mappings":"AAA"}]]}')
+        >>> token = map.lookup(1, 0)
+        >>> map.scope_for(token.source_id, token.line, token.column)
+        'main'
+        """
+        return self._text(library.scope_for, uint32('source', source), uint32('line', line), uint32('column', column))
 
     # Changes
 

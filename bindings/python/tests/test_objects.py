@@ -32,7 +32,7 @@ CALLS = {
           lambda map: map.lookup(0, 0), lambda map: map.lookup_text(0, 0), lambda map: map.lookup_many([(0, 0)]),
           lambda map: map.lookup_many([]),
           lambda map: map.trace('0:0'), lambda map: map.function_name(0, 0),
-          lambda map: map.hermes_function_name(0), Map.rewrite, Map.flatten, lambda map: map.shift(1),
+          lambda map: map.hermes_function_name(0), lambda map: map.scope_for(0, 0, 0), Map.rewrite, Map.flatten, lambda map: map.shift(1),
           lambda map: map.compose(Map.loads(README)), lambda map: Map.loads(README).compose(map), set_file,
           lambda map: map.set_source(0, 'a'), lambda map: map.set_contents(0, None),
           lambda map: map.ignore_source(0), Map.remove_names, Map.dumps, lambda map: map.dump('/nowhere'),
