@@ -1,10 +1,10 @@
 //! RAM bundles of React Native.
 
-use std::borrow::Cow;
 use std::collections::BTreeMap;
 use std::fmt;
 use std::fs::{self, File};
 use std::io::Read;
+use std::marker::PhantomData;
 use std::ops::Range;
 use std::path::Path;
 
@@ -44,9 +44,10 @@ enum Repr<'a> {
 }
 
 struct Indexed<'a> {
+    /// Has a copy of the bytes.
     handle: BundleHandle,
-    /// What a clone is made of.
-    bytes: Cow<'a, [u8]>,
+    size: usize,
+    bytes: PhantomData<&'a [u8]>,
 }
 
 #[derive(Clone)]
@@ -86,12 +87,12 @@ enum Whole<'a> {
 impl<'a> RamBundle<'a> {
     /// Reads an indexed bundle.
     pub fn parse_indexed_from_slice(bytes: &'a [u8]) -> Result<Self> {
-        RamBundle::parse_indexed(Cow::Borrowed(bytes))
+        RamBundle::parse_indexed(bytes)
     }
 
     /// Reads an indexed bundle.
     pub fn parse_indexed_from_vec(bytes: Vec<u8>) -> Result<Self> {
-        RamBundle::parse_indexed(Cow::Owned(bytes))
+        RamBundle::parse_indexed(&bytes)
     }
 
     /// Reads an indexed bundle from a file.
@@ -112,9 +113,12 @@ impl<'a> RamBundle<'a> {
         Ok(RamBundle { repr })
     }
 
-    fn parse_indexed(bytes: Cow<'a, [u8]>) -> Result<Self> {
-        let handle = BundleHandle::open(&bytes)?;
-        let repr = Repr::Indexed(Indexed { handle, bytes });
+    fn parse_indexed(bytes: &[u8]) -> Result<Self> {
+        let repr = Repr::Indexed(Indexed {
+            handle: BundleHandle::open(bytes)?,
+            size: bytes.len(),
+            bytes: PhantomData,
+        });
         Ok(RamBundle { repr })
     }
 
@@ -175,7 +179,8 @@ impl Clone for Indexed<'_> {
     fn clone(&self) -> Self {
         Indexed {
             handle: must(self.handle.share()),
-            bytes: self.bytes.clone(),
+            size: self.size,
+            bytes: PhantomData,
         }
     }
 }
@@ -183,7 +188,7 @@ impl Clone for Indexed<'_> {
 impl fmt::Debug for Indexed<'_> {
     fn fmt(&self, f: &mut fmt::Formatter<'_>) -> fmt::Result {
         f.debug_struct("Indexed")
-            .field("size", &self.bytes.len())
+            .field("size", &self.size)
             .field("modules", &self.handle.module_count())
             .finish()
     }

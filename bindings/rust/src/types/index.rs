@@ -146,26 +146,41 @@ impl SourceMapIndex {
     }
 
     pub(crate) fn debug_id(&self) -> Option<DebugId> {
-        self.handle().debug_id()
+        match self.handle.get() {
+            Some(handle) => handle.debug_id(),
+            None => self.debug_id,
+        }
     }
 
     pub(crate) fn set_debug_id(&mut self, debug_id: Option<DebugId>) {
-        must(self.handle_mut().set_debug_id(debug_id));
+        match self.handle.get_mut() {
+            Some(handle) => must(handle.set_debug_id(debug_id)),
+            None => self.debug_id = debug_id,
+        }
     }
 
     /// Returns the name of the generated file.
     pub fn get_file(&self) -> Option<&str> {
-        self.handle().file()
+        match self.handle.get() {
+            Some(handle) => handle.file(),
+            None => self.file.as_deref(),
+        }
     }
 
     /// Sets or removes the name of the generated file.
     pub fn set_file(&mut self, value: Option<&str>) {
-        must(self.handle_mut().set_file(value));
+        match self.handle.get_mut() {
+            Some(handle) => must(handle.set_file(value)),
+            None => self.file = value.map(str::to_owned),
+        }
     }
 
     /// Returns how many sections there are, but at most 4294967295.
     pub fn get_section_count(&self) -> u32 {
-        self.handle().counts().sections
+        match self.sections.get() {
+            Some(sections) => u32::try_from(sections.len()).unwrap_or(u32::MAX),
+            None => self.handle().counts().sections,
+        }
     }
 
     /// Returns the section with this number, counted from 0, or none if there is no
@@ -174,9 +189,9 @@ impl SourceMapIndex {
         self.section_list().get(idx as usize)
     }
 
-    /// Returns the section with this number, to be changed. The next call that the
-    /// library answers then builds the index map anew. Lookups of tokens, and calls
-    /// that return sections, do not build it.
+    /// Returns the section with this number, to be changed. The next call that writes,
+    /// flattens, splits by, shifts or compares the index map, or names a function, then builds
+    /// it anew, with copies of all sections.
     pub fn get_section_mut(&mut self, idx: u32) -> Option<&mut SourceMapSection> {
         self.get_section(idx)?;
         self.drop_handle();

@@ -347,6 +347,10 @@ impl SourceMap {
         self.handle.tokens(first, tokens)
     }
 
+    fn raw_tokens(&self) -> Vec<RawToken> {
+        self.tokens().map(|token| token.get_raw_token()).collect()
+    }
+
     fn raw_token(&self, index: u32) -> Option<RawToken> {
         let mut token = [RawToken::ZERO];
         (self.read_tokens(index, &mut token) == 1).then(|| token[0])
@@ -397,11 +401,16 @@ impl fmt::Debug for SourceMap {
     fn fmt(&self, f: &mut fmt::Formatter<'_>) -> fmt::Result {
         f.debug_struct("SourceMap")
             .field("file", &self.get_file())
+            .field("tokens", &self.raw_tokens())
+            .field("names", &self.names().collect::<Vec<_>>())
             .field("source_root", &self.get_source_root())
+            .field("sources", &self.sources().collect::<Vec<_>>())
+            .field(
+                "sources_content",
+                &self.source_contents().collect::<Vec<_>>(),
+            )
+            .field("ignore_list", &self.ignore_list().collect::<Vec<_>>())
             .field("debug_id", &self.get_debug_id())
-            .field("sources", &self.get_source_count())
-            .field("names", &self.get_name_count())
-            .field("tokens", &self.get_token_count())
             .finish()
     }
 }
