@@ -28,7 +28,8 @@ def page_text(name: str, generated: str, map: Map, map_path: Optional[Path] = No
     to."""
     before, _, rest = TEMPLATE.read_text('utf-8').replace('{{TITLE}}', html.escape(name)).partition('{{DATA}}')
     # In a script element `<` may begin its end tag. In JSON it occurs only in strings.
-    data = json.dumps(_page_data(generated, map, map_path), ensure_ascii=False, separators=(',', ':')).replace('<', '\\u003c')
+    fields = _page_data(generated, map, map_path)
+    data = json.dumps(fields, ensure_ascii=False, separators=(',', ':')).replace('<', '\\u003c')
     return f'{before}{data}{rest}'
 
 

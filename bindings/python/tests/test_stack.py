@@ -411,8 +411,8 @@ class Traces(unittest.TestCase):
     def test_paths_of_sources(self) -> None:
         """A source that leads to a file is printed as its path; others as the map has them."""
         map = json.loads(example.MAP)
-        rows = [('../src/app.js', f'{self.root}/src/app.js'), ('/srv/a b.js', '/srv/a b.js'), ('x.js', f'{self.root}/dist/x.js'),
-                ('file:///srv/a%20b.js', '/srv/a b.js'), ('webpack:///./x.js', 'webpack:///./x.js'),
+        rows = [('../src/app.js', f'{self.root}/src/app.js'), ('x.js', f'{self.root}/dist/x.js'),
+                ('/srv/a b.js', '/srv/a b.js'), ('file:///srv/a%20b.js', '/srv/a b.js'), ('webpack:///./x.js', 'webpack:///./x.js'),
                 ('https://h/x.js', 'https://h/x.js'), ('', ''), ('#x', '#x')]
         for source, printed in rows:
             with self.subTest(source):
@@ -421,7 +421,8 @@ class Traces(unittest.TestCase):
                 self.assertEqual(translator.translate('a@dist/app.min.js:1:21')[0], f'readAll@{printed}:2:9')
         command = [sys.executable, '-m', 'sourcemap', 'stack', '--root', str(self.root)]
         self.map.write_text(example.MAP, 'utf-8')
-        done = subprocess.run(command, input=SPIDERMONKEY_TRACE, stdout=subprocess.PIPE, check=True, cwd=FOLDER, text=True)
+        done = subprocess.run(command, input=SPIDERMONKEY_TRACE, stdout=subprocess.PIPE, check=True, cwd=FOLDER,
+                              text=True)
         self.assertEqual(done.stdout.partition('\n')[0], f'readAll@{self.root}/src/app.js:2:9')
 
     def test_paths_with_a_query(self) -> None:
@@ -445,7 +446,8 @@ class Traces(unittest.TestCase):
         rows = [
             ('gone.js', f'the map of gone.js: neither the file nor a map beside it is there, or below {self.root}'),
             ('bare.js', f'the map of {bare}: {bare} refers to no map, and there is no bare.js.map'),
-            ('lost.js', f"the map of {lost}: {lost} refers to 'none.map', which is not there, and there is no lost.js.map"),
+            ('lost.js', f"the map of {lost}: {lost} refers to 'none.map', which is not there, "
+                        'and there is no lost.js.map'),
         ]
         trace = ''.join(f'a@{file}:1:1\nb@{file}:1:2\n' for file, _ in rows)
         errors = io.StringIO()
