@@ -1,6 +1,6 @@
 -- The text of a module, the modules that are skipped, and splits with more modules.
-use Rattle.std.proofs.Common.{◌≡◌, ◌∙◌, ap, refl, ℕ, ◌+◌, ◌≤◌, List, [], ◌∷◌, length, filter_map, Bool, true, false, Option}
-use Rattle.std.proofs.Common.{Some, None, Result, Ok, Err, inl, inr, arith}
+use Rattle.std.proofs.Common.{◌≡◌, ◌∙◌, ap, refl, ℕ, ◌+◌, ◌≤◌, List, [], ◌∷◌, length, filter_map, Bool, true, false}
+use Rattle.std.proofs.Common.{Option, Some, None, Result, Ok, Err, inl, inr, arith}
 use Rattle.std.specs.List.{cons_option}
 use Rattle.std.specs.Str.{IsUtf8, is_utf8}
 use Rattle.std.proofs.lemmas.Str.{IsUtf8-from_is_utf8, is_utf8-from_IsUtf8}
@@ -29,23 +29,23 @@ pub length-filter_map : {X Y : Type 0} (h : X → Option Y) (xs : List X) → le
 length-filter_map h [] = omega arith
 length-filter_map h (x ∷ xs) = omega (arith, fewer (h x) (filter_map h xs), length-filter_map h xs)
 
-with_modules : List (Result ModuleValue Error) → Result SplitValue Error → Result SplitValue Error
+abbrev with_modules : List (Result ModuleValue Error) → Result SplitValue Error → Result SplitValue Error
 with_modules modules (Ok split) = Ok (record split { modules = modules })
 with_modules modules (Err e) = Err e
 
-with_modules-with_offsets : (flat : MapValue) (modules : List (Result ModuleValue Error)) (offsets : Option (List (Option ℕ)))
+with_modules-is : (flat : MapValue) (modules : List (Result ModuleValue Error)) (offsets : Option (List (Option ℕ)))
     → with_modules modules (with_offsets flat [] offsets) ≡ with_offsets flat modules offsets
-with_modules-with_offsets flat modules None = refl
-with_modules-with_offsets flat modules (Some offsets) = refl
+with_modules-is flat modules None = refl
+with_modules-is flat modules (Some offsets) = refl
 
 pub splits-Ok : (i : IndexValue) (modules : List (Result ModuleValue Error)) (split : SplitValue)
     → Splits i [] (Ok split) → Splits i modules (Ok (record split { modules = modules }))
 splits-Ok i modules split (inl (flat, flattened, is)) =
-    inl (flat, flattened, ap (with_modules modules) is ∙ with_modules-with_offsets flat modules i.parts.x_facebook_offsets)
+    inl (flat, flattened, ap (with_modules modules) is ∙ with_modules-is flat modules i.parts.x_facebook_offsets)
 splits-Ok i modules split (inr none) = absurd none
 
 pub splits-Err : (i : IndexValue) (modules : List (Result ModuleValue Error)) (e : Error)
     → Splits i [] (Err e) → Splits i modules (Err e)
 splits-Err i modules e (inl (flat, flattened, is)) =
-    inl (flat, flattened, ap (with_modules modules) is ∙ with_modules-with_offsets flat modules i.parts.x_facebook_offsets)
+    inl (flat, flattened, ap (with_modules modules) is ∙ with_modules-is flat modules i.parts.x_facebook_offsets)
 splits-Err i modules e (inr refused) = inr refused

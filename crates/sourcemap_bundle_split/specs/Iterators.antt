@@ -14,7 +14,11 @@ abbrev pub splitter_value : BundleSplitter → SplitValue
 splitter_value s = record { flat = s.maps; offsets = s.offsets.items; modules = [] }
 
 abbrev pub split_value : SplitRamBundleModuleIter → SplitValue
-split_value it = record { flat = it.splitter.maps; offsets = it.splitter.offsets.items; modules = modules_left it.modules }
+split_value it = record {
+  flat = it.splitter.maps;
+  offsets = it.splitter.offsets.items;
+  modules = modules_left it.modules;
+}
 
 -- for each module that is left and is not skipped: the module with its first line, or the error for it
 abbrev pub modules_and_lines_left : SplitRamBundleModuleIter → List (Result (ModuleValue × ℕ) Error)

@@ -1,7 +1,8 @@
 -- Split bundles, and the items that their iterators return. An item is the name, the text and the map of a module, or
 -- an error.
 use Rattle.std.specs.Prelude.{◌≡◌, ◌≤◌, ℕ, ◌&&◌, if◌then◌else◌, List, [], ◌∷◌, ◌++◌, codes, length, map, filter_map}
-use Rattle.std.specs.Prelude.{slice_get, Option, Some, None, is_some, option_map, MatchOption, Result, Ok, Err, IfOk, string_bytes}
+use Rattle.std.specs.Prelude.{slice_get, Option, Some, None, is_some, option_map, MatchOption}
+use Rattle.std.specs.Prelude.{Result, Ok, Err, IfOk, string_bytes}
 use Rattle.std.specs.Fmt.{decimal}
 use Rattle.std.specs.List.{AllByRecursion}
 use Rattle.std.specs.Str.{is_utf8}

@@ -12,9 +12,10 @@ use Rattle.sourcemap_bundle_split.proofs.split.split_ram_bundle.Goals as goal
 pub returns-in-Ok-clause-answer : goal.returns-in-Ok-clause-answer
 returns-in-Ok-clause-answer c =
     let i = index_value c.args.map.now in
+    let modules = modules_of c.args.bundle.now in
     let value = splitter_value c.in-Ok.splitter in
-    subst (λ modules. Splits i (modules_of c.args.bundle.now) (Ok (record value { modules = modules }))) (sym c.iter_modules.ensures.left)
-    (splits-Ok i (modules_of c.args.bundle.now) value c.in-Ok.ensures.answer)
+    subst (λ left. Splits i modules (Ok (record value { modules = left }))) (sym c.iter_modules.ensures.left)
+    (splits-Ok i modules value c.in-Ok.ensures.answer)
 
 pub returns-in-Ok-clause-bound : goal.returns-in-Ok-clause-bound
 returns-in-Ok-clause-bound c =
@@ -29,4 +30,6 @@ returns-in-Ok-clause-bound c =
 
 pub returns-in-Err-clause-answer : goal.returns-in-Err-clause-answer
 returns-in-Err-clause-answer c =
-    UnlessMemory-weaker c.in-Err.error (splits-Err (index_value c.args.map.now) (modules_of c.args.bundle.now) c.in-Err.error) c.in-Err.ensures.answer
+    let e = c.in-Err.error in
+    let more = splits-Err (index_value c.args.map.now) (modules_of c.args.bundle.now) e in
+    UnlessMemory-weaker e more c.in-Err.ensures.answer
