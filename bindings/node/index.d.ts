@@ -26,6 +26,11 @@ export interface SourceMapV3 {
   ignoreList?: number[];
 }
 
+/** What a map that is passed in may have beside. */
+export interface XInput {
+  x_google_ignoreList?: SourceMapV3['ignoreList'];
+}
+
 export interface EncodedSourceMap extends SourceMapV3 {
   mappings: string;
   rangeMappings?: string;
@@ -46,6 +51,11 @@ export interface SectionedSourceMap {
   sections: Section[];
 }
 
+export type EncodedSourceMapXInput = EncodedSourceMap & XInput;
+export type DecodedSourceMapXInput = DecodedSourceMap & XInput;
+export type SectionXInput = Section;
+export type SectionedSourceMapXInput = SectionedSourceMap;
+
 type ReadonlyDeep<T> = T extends (infer Item)[]
   ? readonly ReadonlyDeep<Item>[]
   : T extends object
@@ -54,7 +64,12 @@ type ReadonlyDeep<T> = T extends (infer Item)[]
 type Input<T> = T | ReadonlyDeep<T>;
 
 /** A map: its JSON, as text or as UTF-8 bytes such as a Buffer; the object that JSON describes; or a TraceMap. */
-export type SourceMapInput = string | Uint8Array | Input<EncodedSourceMap> | Input<DecodedSourceMap> | TraceMap;
+export type SourceMapInput =
+  | string
+  | Uint8Array
+  | Input<EncodedSourceMapXInput>
+  | Input<DecodedSourceMapXInput>
+  | TraceMap;
 export type SectionedSourceMapInput = SourceMapInput | Input<SectionedSourceMap>;
 
 /** A generated position: the line counts from 1, the column from 0. */
@@ -72,6 +87,8 @@ export interface Needle {
 export interface SourceNeedle extends Needle {
   source: string;
 }
+/** A `SourceNeedle` that may have no column. */
+export type LineNeedle = Omit<SourceNeedle, 'column'> & Partial<Pick<SourceNeedle, 'column'>>;
 
 export interface OriginalMapping {
   source: string | null;
@@ -79,6 +96,7 @@ export interface OriginalMapping {
   column: number;
   name: string | null;
 }
+export type Mapping = OriginalMapping;
 export interface InvalidOriginalMapping {
   source: null;
   line: null;
@@ -141,12 +159,17 @@ export declare class SourceMapError extends Error {
   constructor(message: string, code: SourceMapErrorCode, number?: number, options?: { cause?: unknown });
 }
 
+/** The fields of a `TraceMap`. */
+export interface SourceMap extends SourceMapV3 {
+  resolvedSources: string[];
+}
+
 /**
  * A map that is not an index map. The constructor reads all mappings. If it refuses the
  * map, it throws a SourceMapError, or a TypeError because of a wrong type. It does not
  * check the ids in mappings that are passed decoded.
  */
-export declare class TraceMap {
+export declare class TraceMap implements SourceMap {
   version: SourceMapV3['version'];
   file: SourceMapV3['file'];
   names: SourceMapV3['names'];
@@ -194,9 +217,10 @@ export declare function generatedPositionFor(
 
 /**
  * All generated positions of the original position that is closest to this one on
- * its line. The default bias is LEAST_UPPER_BOUND.
+ * its line, or without a column of the first one on the line. The default bias is
+ * LEAST_UPPER_BOUND.
  */
-export declare function allGeneratedPositionsFor(map: TraceMap, needle: SourceNeedle): GeneratedMapping[];
+export declare function allGeneratedPositionsFor(map: TraceMap, needle: LineNeedle): GeneratedMapping[];
 
 /**
  * The segment of the closest token at a position or before it on the line, null if

@@ -13,7 +13,7 @@ static uint8_t *read_file(const char *path, size_t *length)
         long size = ftell(file);
         rewind(file);
         /* one byte more, so that an empty file has an address too */
-        if (size >= 0 && (bytes = malloc((size_t)size + 1)) != NULL)
+        if (size >= 0 && (bytes = (uint8_t *)malloc((size_t)size + 1)) != NULL)
             *length = fread(bytes, 1, (size_t)size, file);
     }
     if (file)
@@ -24,19 +24,22 @@ static uint8_t *read_file(const char *path, size_t *length)
 /* A number of decimal digits, at most 4294967295. */
 static int read_number(const char *word, uint32_t *number)
 {
-    unsigned long long value;
+    double value;
     size_t digits = strspn(word, "0123456789");
     if (digits == 0 || digits > 10 || word[digits] != '\0')
         return 0;
-    value = strtoull(word, NULL, 10);
+    value = strtod(word, NULL);
+    if (value > 4294967295.0)
+        return 0;
     *number = (uint32_t)value;
-    return value <= UINT32_MAX;
+    return 1;
 }
 
 static int print_original(sm_map *map, uint32_t line, uint32_t column)
 {
-    sm_found found = { 0 };
+    sm_found found;
     sm_text source = SM_TEXT_EMPTY, name = SM_TEXT_EMPTY;
+    memset(&found, 0, sizeof found);
     if (sm_lookup(map, line, column, &found) != SM_OK) {
         puts("none");
         return 1;
@@ -54,11 +57,12 @@ static int print_original(sm_map *map, uint32_t line, uint32_t column)
 int main(int count, char **words)
 {
     sm_map map = SM_EMPTY;
-    sm_error error = { 0 };
+    sm_error error;
     size_t length = 0;
     int status = 1;
     uint8_t *bytes;
     uint32_t line, column;
+    memset(&error, 0, sizeof error);
     if (count != 4 || !read_number(words[2], &line) || !read_number(words[3], &column)) {
         fputs("usage: lookup MAP LINE COLUMN\n", stderr);
         return 2;

@@ -44,8 +44,8 @@
 **   - What two arguments of one call point to does not overlap.
 **   - A handle is used by one call at a time. It may be handed to another
 **     thread, with the synchronisation that the platform asks for. Two handles are
-**     independent, even if they hold one map by sm_share(): each thread may use
-**     its own.
+**     independent, even if they hold one map, view or bundle by sm_share(): each
+**     thread may use its own.
 **   - malloc, realloc and free of the process are those of one allocator. The
 **     memory that they return is aligned as C asks.
 **   - No call is made in a signal handler.
@@ -68,7 +68,7 @@ extern "C" {
 ** docs/DIFFERENCES.md and in bindings/c/README.md. SM_INTERFACE is the version of this
 ** interface: sm_interface() returns that of the linked library. */
 #define SM_VERSION "9.3.2"
-#define SM_INTERFACE 1u
+#define SM_INTERFACE 2u
 
 /* SM_NONE is the id of no source and of no name. In a map that was opened, SM_NONE is
 ** also the original line and column of a token without a source. In a list of the
@@ -139,10 +139,14 @@ typedef sm_handle sm_builder; /* a map that is being built */
 typedef sm_handle sm_sections; /* sections of an index map that is being made */
 typedef sm_handle sm_view;    /* a text with the table of its lines */
 typedef sm_handle sm_bundle;  /* a RAM bundle */
-typedef sm_handle sm_split;   /* the modules of a RAM bundle with their maps */
+typedef sm_handle sm_split;   /* what makes the maps of the modules of a RAM bundle */
 typedef sm_handle sm_bytes;   /* a text that a call made */
 
+#ifdef __cplusplus
+#define SM_EMPTY {}
+#else
 #define SM_EMPTY { 0, false }
+#endif
 
 /* A borrowed text. */
 typedef struct sm_text {
@@ -240,8 +244,7 @@ uint32_t sm_interface(void);
 uint32_t sm_kind(sm_handle *handle);
 
 /* Drops what the handle holds, if anything. The handle is empty afterwards, and may
-** be filled anew. A map that another handle shares stays in that handle. Never
-** fails. */
+** be filled anew. What another handle shares stays in that handle. Never fails. */
 void sm_close(sm_handle *handle);
 
 /* Fills `map` with the map that these bytes hold: JSON, after a junk header if
@@ -261,10 +264,11 @@ sm_code sm_open(sm_map *map, const uint8_t *bytes, size_t length, sm_error *erro
 ** the bytes in it, as sm_open() does. */
 sm_code sm_open_url(sm_map *map, const uint8_t *url, size_t length, sm_error *error);
 
-/* Fills `other` with the map that `map` holds, without a copy. Each of the two
-** handles may then be used by a thread of its own; a change of one is not seen
-** by the other. Returns SM_OK, or SM_WRONG_KIND if `map` holds no map. */
-sm_code sm_share(sm_map *map, sm_map *other, sm_error *error);
+/* Fills `other` with the map, the view or the bundle that `handle` holds, without a
+** copy. Each of the two handles may then be used by a thread of its own; a change of
+** one is not seen by the other. Returns SM_OK, or SM_WRONG_KIND if `handle` holds
+** none of these. */
+sm_code sm_share(sm_handle *handle, sm_handle *other, sm_error *error);
 
 /* Writes to `answer` whether the bytes hold a source map. The call checks that the
 ** bytes hold a JSON object, and which of its keys are present and not null. The only
@@ -371,6 +375,11 @@ sm_code sm_module_offsets(sm_map *map, uint32_t first, uint32_t *offsets, size_t
 ** SM_WRONG_KIND if the handle holds no index map. */
 sm_code sm_module_path(sm_map *map, uint32_t id, sm_text *text);
 
+/* Of the index map of a RAM bundle: writes how many paths of modules it has, which may be
+** none. SM_ABSENT if the map has no list of paths, SM_WRONG_KIND if the handle holds no
+** index map; then `paths` is as it was. */
+sm_code sm_module_path_count(sm_map *map, size_t *paths);
+
 /*
 ** LOOK UP
 **
@@ -463,6 +472,13 @@ sm_code sm_function_name(sm_map *map, uint32_t line, uint32_t column, const uint
 ** map. If the functions of the source that the offset leads to are not in order, the
 ** name may be wrong or missing. */
 sm_code sm_hermes_function_name(sm_map *map, uint32_t offset, sm_text *text);
+
+/* Writes to `text` the name that a Hermes map has for the function that contains an
+** original position. `source` is an id. So the position may be that of any token, on
+** whichever generated line. The text is borrowed from `map`. SM_ABSENT if there is no
+** name; SM_WRONG_KIND if the handle holds no Hermes map. If the functions of the source
+** are not in order, the name may be wrong or missing. */
+sm_code sm_scope_for(sm_map *map, uint32_t source, uint32_t line, uint32_t column, sm_text *text);
 
 /*
 ** CHANGE
@@ -834,37 +850,24 @@ sm_code sm_bundle_startup(sm_bundle *bundle, sm_text *bytes, sm_error *error);
 ** holds no bundle. On each of these `bytes` is as it was. */
 sm_code sm_bundle_module(sm_bundle *bundle, size_t id, sm_text *bytes, sm_error *error);
 
-/* Fills `split` with the modules of a bundle, each with its name, its text and its map.
-** `index` is the index map of the bundle. The split keeps nothing of the two other
-** handles. Items count from 0, and are not numbered as modules are. A missing module
-** has no item. A module that sm_bundle_module() can read has no item if the index map
-** has null instead of the module's line. sm_sections_finish() and sm_module_offsets()
-** use SM_NONE for null. Each other module has an item. For an invalid module
-** sm_split_item() and sm_split_map() fail. A module is invalid if sm_bundle_module()
-** returns SM_RANGE or SM_INVALID_BUNDLE_ENTRY for it, or if its text is not UTF-8. A
-** module is also invalid if its number is past the end of the list of lines in the
-** index map, or if the flattened index map has no token at or before the start of the
-** module's first line. Returns SM_OK; SM_NOT_A_BUNDLE if the index map has no list of
+/* Fills `split` with a flat copy of `index`, the index map of a bundle, and with the lines
+** at which the modules of the bundle begin. sm_split_map() then makes the map of one
+** module after another. Returns SM_OK; SM_NOT_A_BUNDLE if the index map has no list of
 ** lines; SM_CANNOT_FLATTEN if sm_flatten() would return it for `index`; SM_WRONG_KIND
-** if `bundle` holds no bundle, or `index` no index map.
-** Twelve bytes may claim 4294967295 modules: look at sm_bundle_count() before you split
-** a bundle from an untrusted origin. */
-sm_code sm_bundle_split(sm_bundle *bundle, sm_map *index, sm_split *split, sm_error *error);
+** if `index` holds no index map. */
+sm_code sm_split_open(sm_split *split, sm_map *index, sm_error *error);
 
-/* Writes how many items the split has, invalid ones too. SM_WRONG_KIND if the handle
-** holds no split; then `items` is as it was. */
-sm_code sm_split_count(sm_split *split, size_t *items);
-
-/* The name and the text of an item. Both are borrowed from `split`. SM_ABSENT if
-** there is no such item; SM_INVALID_BUNDLE_ENTRY if its module is invalid, whatever
-** the reason; SM_WRONG_KIND if the handle holds no split. Then `name` and `text` are
-** as they were. */
-sm_code sm_split_item(sm_split *split, size_t item, sm_text *name, sm_text *text, sm_error *error);
-
-/* Fills `map` with the map of an item, which is shared with `split` and not copied.
-** Returns SM_OK; SM_ABSENT if there is no such item; SM_INVALID_BUNDLE_ENTRY if its
-** module is invalid, whatever the reason; SM_WRONG_KIND if `split` holds no split. */
-sm_code sm_split_map(sm_split *split, size_t item, sm_map *map, sm_error *error);
+/* Fills `map` with the map of module `id` of a bundle. The tokens are those of the flat map
+** on the lines of the module, counted from its first line. sm_file() of `map` is the name
+** of the module: its number and `.js`. sm_bundle_module() has its text. SM_ABSENT if the
+** module is missing, or if the index map has null instead of the module's line.
+** sm_sections_finish() and sm_module_offsets() use SM_NONE for null.
+** SM_INVALID_BUNDLE_ENTRY if the module is invalid, whatever the reason:
+** sm_bundle_module() returns an error for it, its text is not UTF-8, its number is past
+** the end of the list of lines, or the flat map has no token at or before the start of its
+** first line. SM_WRONG_KIND if `split` was not filled by sm_split_open(), or `bundle` holds
+** no bundle. `split` is as it was, whatever the call returns. */
+sm_code sm_split_map(sm_split *split, sm_bundle *bundle, size_t id, sm_map *map, sm_error *error);
 
 #ifdef __cplusplus
 }

@@ -132,8 +132,7 @@ void describe(sm_handle *handle, char *text, size_t size)
         snprintf(text, size, "a bundle of %lu", (unsigned long)items);
         break;
     case SM_KIND_SPLIT:
-        sm_split_count(handle, &items);
-        snprintf(text, size, "a split of %lu", (unsigned long)items);
+        snprintf(text, size, "a split");
         break;
     case SM_KIND_BUILDER:
         snprintf(text, size, "a builder");

@@ -57,6 +57,7 @@ ASK(lookup_source, sm_lookup_source(handle, 0, 0, &text))
 ASK(lookup_name, sm_lookup_name(handle, 0, 0, &text))
 FILL(lookup_text, bytes, sm_lookup_text(handle, 0, 0, &bytes, &error))
 ASK(hermes_function_name, sm_hermes_function_name(handle, 0, &text))
+ASK(scope_for, sm_scope_for(handle, 0, 0, 0, &text))
 FILL(trace, answers, sm_trace(handle, BYTES("0:0\n"), &answers, &error))
 ASK(rewrite, sm_rewrite(handle, true, true, &text, 0, &error))
 ASK(flatten, sm_flatten(handle, &error))
@@ -74,6 +75,7 @@ ASK(bytes_text, sm_bytes_text(handle, &text))
 WRITE(section_start_of, sm_section_start, start, sm_section_start_of(handle, 0, &start))
 ASK(section_url, sm_section_url(handle, 0, &text))
 ASK(module_path, sm_module_path(handle, 0, &text))
+WRITE(module_path_count, size_t, paths, sm_module_path_count(handle, &paths))
 FILL(section, map, sm_section(handle, 0, &map, &error))
 FILL(sections_finish, map,
         sm_sections_finish(handle, &map, false, NO_BYTES, 0, false, NO_OFFSETS, 0, false, &text, 0, &error))
@@ -94,8 +96,7 @@ ASK(view_slice, sm_view_slice(handle, 0, 0, 0, &text))
 WRITE(bundle_count, size_t, modules, sm_bundle_count(handle, &modules))
 ASK(bundle_startup, sm_bundle_startup(handle, &text, &error))
 ASK(bundle_module, sm_bundle_module(handle, 0, &text, &error))
-WRITE(split_count, size_t, items, sm_split_count(handle, &items))
-FILL(split_map, map, sm_split_map(handle, 0, &map, &error))
+FILL(split_open, split, sm_split_open(&split, handle, &error))
 
 static sm_code ignore_list(sm_handle *handle)
 {
@@ -169,17 +170,17 @@ static sm_code compose_reversed(sm_handle *adjustment, sm_handle *map)
     return sm_compose(map, adjustment, &error);
 }
 
-static sm_code split_both(sm_handle *bundle, sm_handle *index)
+static sm_code split_both(sm_handle *split, sm_handle *bundle)
 {
-    sm_split split = SM_EMPTY;
-    sm_code code = sm_bundle_split(bundle, index, &split, &error);
-    sm_close(&split);
+    sm_map map = SM_EMPTY;
+    sm_code code = sm_split_map(split, bundle, 0, &map, &error);
+    sm_close(&map);
     return code;
 }
 
-static sm_code split_reversed(sm_handle *index, sm_handle *bundle)
+static sm_code split_reversed(sm_handle *bundle, sm_handle *split)
 {
-    return split_both(bundle, index);
+    return split_both(split, bundle);
 }
 
 static sm_code name_both(sm_handle *map, sm_handle *view)
@@ -212,8 +213,8 @@ ASK(equal, call_with(handle, SM_KIND_REGULAR, equal_both))
 ASK(equal_other, call_with(handle, SM_KIND_REGULAR, equal_reversed))
 ASK(compose, call_with(handle, SM_KIND_REGULAR, compose_both))
 ASK(compose_adjustment, call_with(handle, SM_KIND_REGULAR, compose_reversed))
-ASK(bundle_split, call_with(handle, SM_KIND_INDEX, split_both))
-ASK(bundle_split_index, call_with(handle, SM_KIND_BUNDLE, split_reversed))
+ASK(split_map, call_with(handle, SM_KIND_BUNDLE, split_both))
+ASK(split_map_bundle, call_with(handle, SM_KIND_SPLIT, split_reversed))
 ASK(function_name, call_with(handle, SM_KIND_VIEW, name_both))
 ASK(function_name_view, call_with(handle, SM_KIND_REGULAR, name_reversed))
 
@@ -224,15 +225,8 @@ static sm_code builder_add_tokens(sm_handle *handle)
     return sm_builder_add_tokens(handle, &token, 1, &error) == 1 ? SM_OK : error.code;
 }
 
-static sm_code split_item(sm_handle *handle)
-{
-    sm_text other = SM_TEXT_EMPTY;
-    clear_text();
-    return sm_split_item(handle, 0, &text, &other, &error);
-}
-
 const struct export_row EXPORTS[] = {
-    { "sm_share", share, MAPS, false },
+    { "sm_share", share, MAPS | KIND(SM_KIND_VIEW) | KIND(SM_KIND_BUNDLE), false },
     { "sm_equal", equal, MAPS, false },
     { "sm_equal, its other map", equal_other, MAPS, false },
     { "sm_hermes_map", hermes_map, KIND(SM_KIND_HERMES), false },
@@ -257,6 +251,7 @@ const struct export_row EXPORTS[] = {
     { "sm_function_name", function_name, MAPS, false },
     { "sm_function_name, its view", function_name_view, KIND(SM_KIND_VIEW), false },
     { "sm_hermes_function_name", hermes_function_name, KIND(SM_KIND_HERMES), false },
+    { "sm_scope_for", scope_for, KIND(SM_KIND_HERMES), false },
     { "sm_rewrite", rewrite, LISTS, true },
     { "sm_flatten", flatten, KIND(SM_KIND_INDEX), true },
     { "sm_compose", compose, KIND(SM_KIND_REGULAR), true },
@@ -276,6 +271,7 @@ const struct export_row EXPORTS[] = {
     { "sm_section_url", section_url, KIND(SM_KIND_INDEX), false },
     { "sm_module_offsets", module_offsets, KIND(SM_KIND_INDEX), false },
     { "sm_module_path", module_path, KIND(SM_KIND_INDEX), false },
+    { "sm_module_path_count", module_path_count, KIND(SM_KIND_INDEX), false },
     { "sm_section", section, KIND(SM_KIND_INDEX), false },
     { "sm_sections_add", sections_add, KIND(SM_KIND_SECTIONS), true },
     { "sm_sections_add, its map", sections_add_map, MAPS, false },
@@ -298,22 +294,17 @@ const struct export_row EXPORTS[] = {
     { "sm_bundle_count", bundle_count, KIND(SM_KIND_BUNDLE), false },
     { "sm_bundle_startup", bundle_startup, KIND(SM_KIND_BUNDLE), false },
     { "sm_bundle_module", bundle_module, KIND(SM_KIND_BUNDLE), false },
-    { "sm_bundle_split", bundle_split, KIND(SM_KIND_BUNDLE), false },
-    { "sm_bundle_split, its index map", bundle_split_index, KIND(SM_KIND_INDEX), false },
-    { "sm_split_count", split_count, KIND(SM_KIND_SPLIT), false },
-    { "sm_split_item", split_item, KIND(SM_KIND_SPLIT), false },
+    { "sm_split_open", split_open, KIND(SM_KIND_INDEX), false },
     { "sm_split_map", split_map, KIND(SM_KIND_SPLIT), false },
+    { "sm_split_map, its bundle", split_map_bundle, KIND(SM_KIND_BUNDLE), false },
 };
 const size_t EXPORTS_COUNT = sizeof EXPORTS / sizeof EXPORTS[0];
 
 static void fill_split(sm_handle *handle)
 {
-    sm_bundle bundle = SM_EMPTY;
     sm_map index = SM_EMPTY;
-    fill(&bundle, SM_KIND_BUNDLE);
     fill(&index, SM_KIND_INDEX);
-    CHECK_NUMBER(sm_bundle_split(&bundle, &index, handle, &error), SM_OK);
-    sm_close(&bundle);
+    CHECK_NUMBER(sm_split_open(handle, &index, &error), SM_OK);
     sm_close(&index);
 }
 

@@ -42,7 +42,7 @@ static void test_outputs(void)
     CHECK_NUMBER(sm_count(&empty, &counts), SM_WRONG_KIND);
     CHECK(counts.tokens == 1 && counts.sections == 5);
     CHECK_NUMBER(sm_view_count(&map, &number), SM_WRONG_KIND);
-    CHECK_NUMBER(sm_split_count(&empty, &number), SM_WRONG_KIND);
+    CHECK_NUMBER(sm_module_path_count(&map, &number), SM_WRONG_KIND);
     CHECK_NUMBER(number, 7);
     CHECK_ERROR(sm_share(&empty, &map, &error), &error, SM_WRONG_KIND, "the handle holds nothing that has this call");
     CHECK_ERROR(sm_write(&empty, &map, &error), &error, SM_WRONG_KIND, "the handle holds nothing that has this call");

@@ -253,6 +253,16 @@ static void test_function_names(void)
     CHECK_NUMBER(sm_function_name(&map, 0, 0, BYTES(""), &view, &name), SM_OK);
     CHECK_TEXT(name, "<global>");
     CHECK_NUMBER(sm_function_name(&map, 1, 0, BYTES(""), &view, &name), SM_ABSENT);
+    /* `foo` begins at 1:5 of the source */
+    CHECK_NUMBER(sm_scope_for(&map, 0, 1, 5, &name), SM_OK);
+    CHECK_TEXT(name, "foo");
+    CHECK_NUMBER(sm_scope_for(&map, 0, 1, 4, &name), SM_OK);
+    CHECK_TEXT(name, "<global>");
+    CHECK_NUMBER(sm_scope_for(&map, 0, SM_NONE, SM_NONE, &name), SM_OK);
+    CHECK_TEXT(name, "foo");
+    CHECK_NUMBER(sm_scope_for(&map, 1, 1, 5, &name), SM_ABSENT);
+    CHECK_NUMBER(sm_scope_for(&map, SM_NONE, 1, 5, &name), SM_ABSENT);
+    CHECK_TEXT(name, "foo");
     OPEN(&map, INDEX_MAP);
     CHECK_NUMBER(sm_function_name(&map, 0, 9, BYTES("b"), &view, &name), SM_ABSENT);
     sm_close(&map);

@@ -257,8 +257,14 @@ static void test_modules(void)
     CHECK_TEXT(path, "before");
     CHECK_NUMBER(sm_module_path(&map, 1, &path), SM_OK);
     CHECK_TEXT(path, "b.js");
+    CHECK_NUMBER(sm_module_path_count(&map, &written), SM_OK);
+    CHECK_NUMBER(written, 2);
+    OPEN(&map, "{\"sections\":[],\"x_metro_module_paths\":[]}");
+    CHECK_NUMBER(sm_module_path_count(&map, &written), SM_OK);
+    CHECK_NUMBER(written, 0);
     OPEN(&map, INDEX_MAP);
     written = 99;
+    CHECK_NUMBER(sm_module_path_count(&map, &written), SM_ABSENT);
     CHECK_NUMBER(sm_module_offsets(&map, 0, offsets, 4, &written), SM_ABSENT);
     CHECK_NUMBER(sm_module_path(&map, 0, &path), SM_ABSENT);
     CHECK(offsets[0] == 7 && written == 99);

@@ -185,13 +185,14 @@ static void prepare_odd_bundle(struct handles *h)
     OPEN(&h->other, ODD_BUNDLE_MAP);
 }
 
-/* The split of the bundle, which replaces it. */
+/* The index map of the bundle makes way for a split, the bundle for the index map. */
 static void split_subject(struct handles *h)
 {
     sm_split split = SM_EMPTY;
     sm_error error = { 0 };
-    CHECK_NUMBER(sm_bundle_split(&h->subject, &h->other, &split, &error), SM_OK);
-    sm_close(&h->subject);
+    CHECK_NUMBER(sm_split_open(&split, &h->other, &error), SM_OK);
+    sm_close(&h->other);
+    h->other = h->subject;
     h->subject = split;
 }
 
@@ -259,9 +260,10 @@ CALL(write_segment, sm_write_segment(NUMBERS, 5, &h->out, error))
 CALL(debug_id_text, sm_debug_id_text(&ID, &h->out, error))
 CALL(write_too_large, sm_write_segment(TOO_LARGE, 2, &h->out, error))
 CALL(bundle_open, sm_bundle_open(&h->out, BYTES(BUNDLE), error))
-CALL(bundle_split, sm_bundle_split(&h->subject, &h->other, &h->out, error))
-CALL(split_map, sm_split_map(&h->subject, 0, &h->out, error))
-CALL(invalid_split_map, sm_split_map(&h->subject, 1, &h->out, error))
+CALL(split_open, sm_split_open(&h->out, &h->other, error))
+CALL(split_map, sm_split_map(&h->subject, &h->other, 0, &h->out, error))
+CALL(missing_split_map, sm_split_map(&h->subject, &h->other, 1, &h->out, error))
+CALL(invalid_split_map, sm_split_map(&h->subject, &h->other, 2, &h->out, error))
 
 /* A call that borrows a text, and fails: the text is as it was. */
 #define BORROW(name, expression)                            \
@@ -278,15 +280,6 @@ BORROW(bundle_module, sm_bundle_module(&h->subject, 0, &bytes, error))
 BORROW(missing_module, sm_bundle_module(&h->subject, 1, &bytes, error))
 BORROW(invalid_module, sm_bundle_module(&h->subject, 2, &bytes, error))
 BORROW(no_module, sm_bundle_module(&h->subject, 3, &bytes, error))
-
-static sm_code invalid_item(struct handles *h, sm_error *error)
-{
-    sm_text name = text_of("before"), text = text_of("before");
-    sm_code code = sm_split_item(&h->subject, 1, &name, &text, error);
-    CHECK_TEXT(name, "before");
-    CHECK_TEXT(text, "before");
-    return code;
-}
 
 static sm_code detect(struct handles *h, sm_error *error)
 {
@@ -403,15 +396,15 @@ static const struct refusal_row ROWS[] = {
     { "print a debug id", prepare_none, debug_id_text, SM_OK, NULL, DEBUG_ID },
     { "write a number that is too large", prepare_none, write_too_large, SM_VLQ_OVERFLOW, NULL, NULL },
     { "open a bundle", prepare_none, bundle_open, SM_OK, NULL, "a bundle of 1" },
-    { "split a bundle", prepare_bundle, bundle_split, SM_OK, NULL, "a split of 1" },
+    { "open a split", prepare_bundle, split_open, SM_OK, NULL, "a split" },
     { "startup code past the end", prepare_short_bundle, bundle_startup, SM_RANGE, NULL, NULL },
     { "a module past the end", prepare_short_bundle, bundle_module, SM_RANGE, NULL, NULL },
     { "a missing module", prepare_odd_bundle, missing_module, SM_ABSENT, NULL, NULL },
     { "an invalid module", prepare_odd_bundle, invalid_module, SM_INVALID_BUNDLE_ENTRY, NULL, NULL },
     { "no such module", prepare_odd_bundle, no_module, SM_INVALID_BUNDLE_INDEX, NULL, NULL },
-    { "an invalid item", prepare_odd_split, invalid_item, SM_INVALID_BUNDLE_ENTRY, NULL, NULL },
-    { "map of an item", prepare_split, split_map, SM_OK, NULL, MODULE_MAP },
-    { "map of an invalid item", prepare_odd_split, invalid_split_map, SM_INVALID_BUNDLE_ENTRY, NULL, NULL },
+    { "map of a module", prepare_split, split_map, SM_OK, NULL, MODULE_MAP },
+    { "map of a missing module", prepare_odd_split, missing_split_map, SM_ABSENT, NULL, NULL },
+    { "map of an invalid module", prepare_odd_split, invalid_split_map, SM_INVALID_BUNDLE_ENTRY, NULL, NULL },
 };
 
 struct descriptions {
@@ -677,9 +670,9 @@ static void test_without_memory(void)
     static const char *const FREE[] = {
         "sm_count", "sm_file", "sm_source_root", "sm_get_debug_id", "sm_source", "sm_name", "sm_contents",
         "sm_ignore_list", "sm_tokens", "sm_lookup", "sm_lookup_many", "sm_lookup_span", "sm_lookup_index",
-        "sm_lookup_source", "sm_lookup_name", "sm_hermes_function_name", "sm_bytes_text", "sm_section_start_of",
-        "sm_section_url", "sm_module_offsets", "sm_module_path", "sm_builder_source", "sm_view_text",
-        "sm_view_count", "sm_view_line", "sm_view_slice", "sm_bundle_count", "sm_split_count"
+        "sm_lookup_source", "sm_lookup_name", "sm_hermes_function_name", "sm_scope_for", "sm_bytes_text",
+        "sm_section_start_of", "sm_section_url", "sm_module_offsets", "sm_module_path", "sm_module_path_count",
+        "sm_builder_source", "sm_view_text", "sm_view_count", "sm_view_line", "sm_view_slice", "sm_bundle_count"
     };
     size_t row, name;
     uint32_t kind;

@@ -28,11 +28,11 @@ function checkPosition(line, column) {
   if (column < 0) throw new SourceMapError(COLUMN_TOO_LOW, 'BAD_POSITION');
 }
 
-/** Checks a position that is looked up, and its bias. */
-function checkNeedle(needle) {
+/** Checks a position that is looked up, and its bias. With `isWhole` false it needs no column. */
+function checkNeedle(needle, isWhole = true) {
   if (!isObject(needle)) refuse('the position', 'an object with `line` and `column`', needle);
   const { line, column, bias } = needle;
-  checkPosition(line, column);
+  checkPosition(line, !isWhole && column === undefined ? 0 : column);
   if (bias !== undefined && bias !== null) checkNumber('`bias`', bias);
 }
 

@@ -86,9 +86,12 @@ function generatedPositionFor(map, needle) {
 
 function allGeneratedPositionsFor(map, needle) {
   const tokens = tokensOf(map);
-  checkNeedle(needle);
-  const { source, line, column, bias } = needle;
-  const found = tokens.findAllBySource(sourceIndex(map, source), line - 1, column, bias !== GREATEST_LOWER_BOUND);
+  checkNeedle(needle, false);
+  const { source, line, bias } = needle;
+  const isUpper = bias !== GREATEST_LOWER_BOUND;
+  // without a column: the first token of the line is the closest one after it, and none is before it
+  const { column = isUpper ? 0 : -1 } = needle;
+  const found = tokens.findAllBySource(sourceIndex(map, source), line - 1, column, isUpper);
   return Array.from(found, (index) => generatedOf(tokens, index));
 }
 

@@ -128,6 +128,10 @@ for (const [form, map] of Object.entries(forms)) {
       assert.deepEqual(all(10), []);
       assert.deepEqual(all(10, GREATEST_LOWER_BOUND), nine);
       assert.deepEqual(allGeneratedPositionsFor(tracer, { source: 'c.js', line: 1, column: 9 }), []);
+      // without a column: those of the first token on the line; none is before it
+      const first = { source: 'a.js', line: 1 };
+      assert.deepEqual(allGeneratedPositionsFor(tracer, first), [{ line: 1, column: 0 }]);
+      assert.deepEqual(allGeneratedPositionsFor(tracer, { ...first, bias: GREATEST_LOWER_BOUND }), []);
     });
 
     test('calls back with each token in generated order', () => {
@@ -383,7 +387,9 @@ describe('an argument of the wrong type', () => {
       refuses(ask({ line: '1' }), "`line` must be a number, not '1'");
       refuses(ask({ line: NaN }), '`line` must be a number, not NaN');
       refuses(ask({ line: 1n }), '`line` must be a number, not 1n');
-      refuses(ask({ column: undefined }), '`column` must be a number, not undefined');
+      if (name !== 'allGeneratedPositionsFor') {
+        refuses(ask({ column: undefined }), '`column` must be a number, not undefined');
+      }
       refuses(ask({ column: null }), '`column` must be a number, not null');
       refuses(ask({ column: [3] }), '`column` must be a number, not [Array]');
       refuses(ask({ bias: 'upper' }), "`bias` must be a number, not 'upper'");

@@ -67,6 +67,7 @@ test('has the calls of the package that it replaces', async (t) => {
 const TYPES = `
 import { TraceMap, AnyMap, FlattenMap, SourceMapError, LEAST_UPPER_BOUND } from 'furzehearth-sourcemap';
 import { originalPositionFor, originalPositionsFor, encodedMap, decodedMap, allGeneratedPositionsFor } from 'furzehearth-sourcemap';
+import type { Mapping, SourceMap, SectionedSourceMapXInput, EncodedSourceMapXInput, DecodedSourceMapXInput } from 'furzehearth-sourcemap';
 const map = new TraceMap({ version: 3, sources: ['a'], names: [], mappings: 'AAAA' } as const, null);
 const found = originalPositionFor(map, { line: 1, column: 0, bias: LEAST_UPPER_BOUND });
 if (found.line !== null) { const line: number = found.line; const source: string | null = found.source; }
@@ -74,6 +75,13 @@ const flat: TraceMap = AnyMap({ version: 3, sections: [{ offset: { line: 0, colu
 const again: TraceMap = new FlattenMap(decodedMap(flat));
 const words: Uint32Array = originalPositionsFor(again, new Uint32Array(2));
 const lines: number[] = allGeneratedPositionsFor(again, { source: 'a', line: 1, column: 0 }).map((each) => each.line);
+const first: number = allGeneratedPositionsFor(again, { source: 'a', line: 1 }).length;
+const fields: SourceMap = again;
+const old: EncodedSourceMapXInput = { ...encodedMap(map), x_google_ignoreList: [0] };
+const inputs: [DecodedSourceMapXInput, SectionedSourceMapXInput] = [
+  { ...old, mappings: [] }, { version: 3, sections: [{ offset: { line: 0, column: 0 }, map: old }] } ];
+const mapping: Mapping = { source: fields.resolvedSources[0] ?? null, line: first, column: 0, name: null };
+const opened: TraceMap[] = [new TraceMap(old), new TraceMap(inputs[0]), AnyMap(inputs[1])];
 const bytes: TraceMap[] = [new TraceMap(new Uint8Array(0)), AnyMap(new Uint8Array(0), 'd/out.map')];
 try { new TraceMap('') } catch (error) { if (error instanceof SourceMapError && error.code === 'BAD_JSON') { error.number } }
 // @ts-expect-error: a bias is 1 or -1

@@ -112,7 +112,14 @@ class Builder(HandleOwner):
             line: Optional[int] = None, column: Optional[int] = None, name: Optional[str] = None,
             is_range: bool = False) -> None:
         """Adds a token, and its source and name if they are new. If the call fails, the source and the name may have
-        been added."""
+        been added.
+
+        >>> import sourcemap
+        >>> builder = sourcemap.Builder()
+        >>> builder.add(0, 5, source='a.js', line=1, column=2, name='main')
+        >>> str(builder.finish().lookup(0, 7))
+        'a.js:1:2 name=main'
+        """
         token = NewToken(generated_line, generated_column, line, column,
                          None if source is None else self.add_source(source),
                          None if name is None else self.add_name(name), is_range)

@@ -81,15 +81,26 @@ class Bundle(HandleOwner, Sequence[Optional[bytes]]):
     def split(self, index: Map) -> Split:
         """The modules of the bundle, each with its name, its text and its map; `index` is the index map of the bundle.
 
-        A missing module has no item. A module for which the index map has null instead of a line has no item either,
-        unless reading the module from the bundle fails. Raises `NotARamBundle` if the index map has no
-        `module_offsets`, and `CannotFlatten` as `Map.flatten` does. A bundle of 12 bytes may claim 4294967295 modules:
-        check `len(bundle)` before you split an untrusted bundle.
+        A module is split off when it is read. Raises `NotARamBundle` if the index map has no `module_offsets`, and
+        `CannotFlatten` as `Map.flatten` does.
+
+        >>> import sourcemap
+        >>> bundle = sourcemap.Bundle(bytes.fromhex('e5d10bfb 01000000 00000000 00000000 04000000 78797a 00'))
+        >>> index = sourcemap.Map.loads('{"version":3,"x_facebook_offsets":[0],"sections":[{"offset":{"line":0,'
+        ...                             '"column":0},"map":{"sources":["a.js"],"mappings":"AAAA"}}]}')
+        >>> [(module.name, module.text) for module in bundle.split(index) if module]
+        [('0.js', 'xyz')]
         """
         made = Split._empty()
+        made._bundle = self._share()
         with index.share() as shared:
-            self._run(library.bundle_split, shared._at, made._at)
+            run(library.split_open, made._at, shared._at)
         return made
+
+    def _share(self) -> Bundle:
+        other = Bundle._empty()
+        self._run(library.share, other._at)
+        return other
 
     def __repr__(self) -> str:
         return '<sourcemap.Bundle: closed>' if self.closed else f'<sourcemap.Bundle: {len(self)} modules>'
@@ -103,34 +114,43 @@ class Module(NamedTuple):
     map: Map
 
 
-class Split(HandleOwner, Sequence[Module]):
-    """The modules of a bundle with their maps, as a sequence, which `Bundle.split` makes. If a module is invalid,
-    reading its item raises `InvalidRamBundleEntry`."""
+class Split(HandleOwner, Sequence[Optional[Module]]):
+    """The modules of a bundle with their maps, as a sequence, which `Bundle.split` makes. An item is one module by its
+    number. It is None if the module is missing, or if the index map has null instead of its line. If the module is
+    invalid, reading its item raises `InvalidRamBundleEntry`."""
+
+    _bundle: Bundle
+
+    def close(self) -> None:
+        super().close()
+        self._bundle.close()
 
     def __len__(self) -> int:
-        items = c_size_t()
-        self._read(library.split_count, byref(items))
-        return items.value
+        """How many module numbers the bundle has."""
+        with self._lock:
+            self._check_open()
+            return len(self._bundle)
 
     @overload
-    def __getitem__(self, index: int) -> Module: ...
+    def __getitem__(self, index: int) -> Optional[Module]: ...
 
     @overload
-    def __getitem__(self, index: slice) -> List[Module]: ...
+    def __getitem__(self, index: slice) -> List[Optional[Module]]: ...
 
-    def __getitem__(self, index: Union[int, slice]) -> Union[Module, List[Module]]:
+    def __getitem__(self, index: Union[int, slice]) -> Union[Optional[Module], List[Optional[Module]]]:
         if isinstance(index, slice):
             return [self._item(each) for each in range(*index.indices(len(self)))]
         return self._item(position_in(self, index))
 
-    def _item(self, number: int) -> Module:
-        name, text = empty_text(), empty_text()
+    def _item(self, number: int) -> Optional[Module]:
         made = Map._empty()
         with self._lock:
-            self._run_locked(library.split_item, number, byref(name), byref(text))
-            texts = copy_text(name).decode(), copy_text(text).decode()
-            self._run_locked(library.split_map, number, made._at)
-        return Module(*texts, made._refresh())
+            try:
+                self._run_locked(library.split_map, self._bundle._at, number, made._at)
+            except errors.Absent:
+                return None
+            text = self._bundle[number] or b''
+        return Module(made._refresh().file or '', text.decode(), made)
 
     def __repr__(self) -> str:
         return '<sourcemap.Split: closed>' if self.closed else f'<sourcemap.Split: {len(self)} modules>'

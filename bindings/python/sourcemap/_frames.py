@@ -18,8 +18,8 @@ Other engines may count columns from 0: traces of these need the option `--colum
 from __future__ import annotations
 
 import re
-from dataclasses import dataclass
-from typing import NamedTuple, Optional
+from dataclasses import dataclass, replace
+from typing import List, NamedTuple, Optional, Tuple
 
 FIRST_LINE = 1
 FIRST_COLUMN = 1
@@ -42,7 +42,9 @@ class Frame:
 
     `line` and `column` are as they were printed; `column` is None if none was. `name` is the span of the function's
     identifier. It is None if the frame has no name, or one that is no identifier, or if the frame has the form
-    `FILE line LINE > eval`. `location` is the span of file, line and column.
+    `FILE line LINE > eval`. `location` is the span of file, line and column. `indent` is how many characters a
+    terminal shows before the frame itself. `is_new` says that the frame is a constructor's: V8 puts `new` before its
+    name.
     """
 
     text: str
@@ -51,6 +53,8 @@ class Frame:
     column: Optional[int]
     location: Span
     name: Optional[Span]
+    indent: int = 0
+    is_new: bool = False
 
     def function(self) -> Optional[str]:
         """The identifier of the function, as the engine printed it; None if there is none."""
@@ -67,6 +71,10 @@ class Frame:
         return text
 
 
+# The colours of a terminal.
+_COLOUR = re.compile('\x1b\\[[0-9;]*m')
+# What tools put before each line of a program: `web-1  | ` (docker compose), `[api] ` (concurrently).
+_PREFIX = re.compile(r'(?:[\w.-]+ *\||\[[^\]]*\]) ')
 # `at NAME (LOCATION)` or `at LOCATION`. Node prints ` {` after the last frame of an error with properties of its own.
 _AT = re.compile(r'\s*at (?:(?P<name>.+?) \((?P<inside>.*)\)|(?P<bare>.+?))(?: \{)?\s*', re.DOTALL)
 _EVAL = re.compile(r'eval at (?P<name>.+?) \((?P<inside>.*)\)(?:, (?P<own>.*))?', re.DOTALL)
@@ -87,6 +95,36 @@ def parse_frame(text: str) -> Optional[Frame]:
     """The frame on a line, which is given without its end; None if the line is no frame."""
     if len(text) > LONGEST_FRAME:
         return None
+    plain, places = _without_colours(text)
+    prefix = _PREFIX.match(plain)
+    first = 0 if prefix is None else prefix.end()
+    own = plain[first:]
+    frame = _parse_own(own)
+    if frame is None:
+        return None
+
+    def moved(span: Span) -> Span:
+        return Span(places[first + span.start], places[first + span.end - 1] + 1)
+
+    name = None if frame.name is None else moved(frame.name)
+    is_new = frame.name is not None and own[: frame.name.start].endswith('new ')
+    indent = first + len(own) - len(own.lstrip())
+    return replace(frame, text=text, location=moved(frame.location), name=name, indent=indent, is_new=is_new)
+
+
+def _without_colours(text: str) -> Tuple[str, List[int]]:
+    """The text without the colours of a terminal, and where in the text each of its characters is."""
+    kept: List[int] = []
+    end = 0
+    for colour in _COLOUR.finditer(text):
+        kept.extend(range(end, colour.start()))
+        end = colour.end()
+    kept.extend(range(end, len(text)))
+    return ''.join(text[place] for place in kept) if end > 0 else text, kept
+
+
+def _parse_own(text: str) -> Optional[Frame]:
+    """The frame in a text without colours and without a prefix."""
     at = _AT.fullmatch(text)
     if at is not None:
         return _parse_at(text, at)

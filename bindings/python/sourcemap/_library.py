@@ -13,9 +13,9 @@ from pathlib import Path
 from typing import Any, Callable, cast
 
 VARIABLE = 'SOURCEMAP_LIBRARY_DIR'
-FILES = ('libsourcemap.so', 'libsourcemap.so.1', 'libsourcemap.dylib')
+FILES = ('libsourcemap.so', 'libsourcemap.so.2', 'libsourcemap.dylib')
 BUILT = Path(__file__).resolve().parents[2] / 'c' / 'out'
-INTERFACE = 1
+INTERFACE = 2
 
 NONE = 0xFFFFFFFF
 
@@ -118,6 +118,7 @@ tokens = _call(_short, 'sm_tokens', c_size_t, P, c_uint32, P, c_size_t)
 token_text = _call(_short, 'sm_token_text', CODE, P, c_uint32, P, P)
 module_offsets = _call(_short, 'sm_module_offsets', CODE, P, c_uint32, P, c_size_t, P)
 module_path = _call(_short, 'sm_module_path', CODE, P, c_uint32, P)
+module_path_count = _call(_short, 'sm_module_path_count', CODE, P, P)
 
 # for one position; without argtypes, since ctypes would take half of the call's time to convert the arguments
 lookup_one = _short['sm_lookup_many']
@@ -131,6 +132,7 @@ lookup_text = _call(_short, 'sm_lookup_text', CODE, P, c_uint32, c_uint32, P, P)
 trace = _call(_long, 'sm_trace', CODE, P, P, c_size_t, P, P)
 function_name = _call(_short, 'sm_function_name', CODE, P, c_uint32, c_uint32, P, c_size_t, P, P)
 hermes_function_name = _call(_short, 'sm_hermes_function_name', CODE, P, c_uint32, P)
+scope_for = _call(_short, 'sm_scope_for', CODE, P, c_uint32, c_uint32, c_uint32, P)
 
 rewrite = _call(_long, 'sm_rewrite', CODE, P, c_bool, c_bool, P, c_size_t, P)
 flatten = _call(_long, 'sm_flatten', CODE, P, P)
@@ -190,7 +192,5 @@ bundle_open = _call(_long, 'sm_bundle_open', CODE, P, P, c_size_t, P)
 bundle_count = _call(_short, 'sm_bundle_count', CODE, P, P)
 bundle_startup = _call(_short, 'sm_bundle_startup', CODE, P, P, P)
 bundle_module = _call(_short, 'sm_bundle_module', CODE, P, c_size_t, P, P)
-bundle_split = _call(_long, 'sm_bundle_split', CODE, P, P, P, P)
-split_count = _call(_short, 'sm_split_count', CODE, P, P)
-split_item = _call(_short, 'sm_split_item', CODE, P, c_size_t, P, P, P)
-split_map = _call(_short, 'sm_split_map', CODE, P, c_size_t, P, P)
+split_open = _call(_long, 'sm_split_open', CODE, P, P, P)
+split_map = _call(_long, 'sm_split_map', CODE, P, P, c_size_t, P, P)

@@ -153,7 +153,15 @@ class Map(HandleOwner):
 
     def share(self: AnyMap) -> AnyMap:
         """Another `Map` with the same content, without a copy, such as for another thread. A change of one is not seen
-        by the other: the first change copies what they share. `copy.copy` and `copy.deepcopy` do the same."""
+        by the other: the first change copies what they share. `copy.copy` and `copy.deepcopy` do the same.
+
+        >>> import sourcemap
+        >>> map = sourcemap.Map.load('bundle.js.map')
+        >>> other = map.share()
+        >>> other.remove_names()
+        >>> list(map.names), list(other.names)
+        (['x', 'alert'], [])
+        """
         other = self._empty()
         self._run(library.share, other._at)
         return other._refresh()
@@ -205,7 +213,14 @@ class Map(HandleOwner):
     @property
     def file(self) -> Optional[str]:
         """The name of the generated file; None if the map names none. It is `'<invalid>'` if the JSON has a `file` that
-        is neither a text nor null. May be set; None removes it."""
+        is neither a text nor null. May be set; None removes it.
+
+        >>> import sourcemap
+        >>> map = sourcemap.Map.load('bundle.js.map')
+        >>> map.file = 'bundle.js'
+        >>> map.file
+        'bundle.js'
+        """
         return self._text(library.file)
 
     @file.setter
@@ -215,7 +230,14 @@ class Map(HandleOwner):
     @property
     def source_root(self) -> Optional[str]:
         """What `sources` are resolved against; None if the map has no `sourceRoot`, as every index map. May be set, but
-        an index map then raises `WrongKind`; None removes it."""
+        an index map then raises `WrongKind`; None removes it.
+
+        >>> import sourcemap
+        >>> map = sourcemap.Map.load('bundle.js.map')
+        >>> map.source_root = '/src'
+        >>> list(map.sources)
+        ['/src/coolstuff.js']
+        """
         return self._text(library.source_root)
 
     @source_root.setter
@@ -224,7 +246,14 @@ class Map(HandleOwner):
 
     @property
     def debug_id(self) -> Optional[uuid.UUID]:
-        """The debug id; None if there is none. May be set; None removes it."""
+        """The debug id; None if there is none. May be set; None removes it.
+
+        >>> import sourcemap, uuid
+        >>> map = sourcemap.Map.load('bundle.js.map')
+        >>> map.debug_id = uuid.UUID(int=42)
+        >>> map.debug_id
+        UUID('00000000-0000-0000-0000-00000000002a')
+        """
         id = library.DebugId()
         return uuid.UUID(bytes=bytes(id.bytes)) if self._read(library.get_debug_id, byref(id)) else None
 
@@ -238,17 +267,34 @@ class Map(HandleOwner):
 
         An index map has no sources, names, contents, ignore list and tokens of its own: to read them raises
         `WrongKind`. Look at its sections, or flatten it.
+
+        >>> import sourcemap
+        >>> map = sourcemap.Map.load('bundle.js.map')
+        >>> list(map.sources), map.sources[0]
+        (['coolstuff.js'], 'coolstuff.js')
         """
         return LazySequence(lambda: self._count_of('sources'), self._source)
 
     @property
     def names(self) -> Sequence[str]:
-        """The names by id. Each is read when it is used."""
+        """The names by id. Each is read when it is used.
+
+        >>> import sourcemap
+        >>> map = sourcemap.Map.load('bundle.js.map')
+        >>> list(map.names)
+        ['x', 'alert']
+        """
         return LazySequence(lambda: self._count_of('names'), self._name)
 
     @property
     def contents(self) -> Sequence[Optional[str]]:
-        """The contents of each source, by its id; None for a source without contents. Each is read when it is used."""
+        """The contents of each source, by its id; None for a source without contents. Each is read when it is used.
+
+        >>> import sourcemap
+        >>> map = sourcemap.Map.load('bundle.js.map')
+        >>> list(map.contents)
+        [None]
+        """
         return LazySequence(lambda: self._count_of('sources'), lambda id: self._text(library.contents, id))
 
     def _source(self, id: int) -> str:
@@ -265,7 +311,14 @@ class Map(HandleOwner):
 
     @property
     def ignore_list(self) -> Tuple[int, ...]:
-        """The ids on the ignore list, in rising order. An id may name no source. `ignore_source` adds one."""
+        """The ids on the ignore list, in rising order. An id may name no source. `ignore_source` adds one.
+
+        >>> import sourcemap
+        >>> map = sourcemap.Map.load('bundle.js.map')
+        >>> map.ignore_source(0)
+        >>> map.ignore_list
+        (0,)
+        """
         count = self._count_of('ignored')
         ids = (c_uint32 * max(count, 1))()
         with self._lock:
@@ -274,7 +327,14 @@ class Map(HandleOwner):
 
     @property
     def sections(self) -> Tuple[Section, ...]:
-        """The sections of an index map; empty for other maps. They stay as they are when the map is changed."""
+        """The sections of an index map; empty for other maps. They stay as they are when the map is changed.
+
+        >>> import sourcemap
+        >>> index = sourcemap.Map.loads('{"version":3,"sections":[{"offset":{"line":2,"column":0},'
+        ...                             '"map":{"sources":["a.js"],"mappings":"AAAA"}}]}')
+        >>> [(section.line, section.map.sources[0]) for section in index.sections]
+        [(2, 'a.js')]
+        """
         index = self.share()
         return tuple(Section(index, id) for id in range(index._counts().sections))
 
@@ -282,7 +342,13 @@ class Map(HandleOwner):
     def module_offsets(self) -> Optional[Tuple[Optional[int], ...]]:
         """Of the index map of a RAM bundle: the line at which each module begins. An item is None if no module has its
         number, or if the line is 4294967295. The whole is None if the index map has no such list. Raises `WrongKind` of
-        other maps."""
+        other maps.
+
+        >>> import sourcemap
+        >>> index = sourcemap.Map.loads('{"version":3,"sections":[],"x_facebook_offsets":[0,null,7]}')
+        >>> index.module_offsets
+        (0, None, 7)
+        """
         lines: List[Optional[int]] = []
         block = (c_uint32 * BLOCK)()
         written = c_size_t(BLOCK)
@@ -293,9 +359,17 @@ class Map(HandleOwner):
         return tuple(lines)
 
     @property
-    def module_paths(self) -> Tuple[str, ...]:
-        """Of the index map of a RAM bundle: the paths of its modules. Empty if it has no such list; `WrongKind` of
-        other maps."""
+    def module_paths(self) -> Optional[Tuple[str, ...]]:
+        """Of the index map of a RAM bundle: the paths of its modules. None if it has no such list; `WrongKind` of
+        other maps.
+
+        >>> import sourcemap
+        >>> index = sourcemap.Map.loads('{"version":3,"sections":[],"x_metro_module_paths":["a.js"]}')
+        >>> index.module_paths
+        ('a.js',)
+        """
+        if not self._read(library.module_path_count, byref(c_size_t())):
+            return None
         paths: List[str] = []
         while (path := self._text(library.module_path, len(paths))) is not None:
             paths.append(path)
@@ -325,7 +399,13 @@ class Map(HandleOwner):
 
     def tokens(self) -> Iterator[Token]:
         """An iterator over the tokens in order. It has those of the map at the time of the call: a later change or
-        `close` does not matter."""
+        `close` does not matter.
+
+        >>> import sourcemap
+        >>> map = sourcemap.Map.load('bundle.js.map')
+        >>> [(token.generated_column, str(token)) for token in map.tokens()][:2]
+        [(0, 'coolstuff.js:0:0'), (3, 'coolstuff.js:0:4 name=x')]
+        """
         self._count_of('tokens')
         return self._read_tokens(self.share())
 
@@ -470,6 +550,11 @@ class Map(HandleOwner):
         maps the name is guessed from the tokens, the generated text in `view` and the minified name of the function. In
         an index map `view` is read at the positions of the tokens in the map of their section: the start of the section
         is not added.
+
+        >>> import sourcemap
+        >>> map = sourcemap.Map.loads('{"sources":["a.js"],"names":["main"],"mappings":"AAAA,SAASA"}')
+        >>> map.function_name(0, 12, 'a', sourcemap.View('function a(){}'))
+        'main'
         """
         line, column = uint32('line', line), uint32('column', column)
         text = View('') if view is None else view
@@ -479,8 +564,29 @@ class Map(HandleOwner):
 
     def hermes_function_name(self, offset: int) -> Optional[str]:
         """Of a Hermes map: the name of the function at an offset of the bytecode; None if it is not known. If the
-        functions of a source are not in order, the name may be wrong or missing. `WrongKind` of any other map."""
+        functions of a source are not in order, the name may be wrong or missing. `WrongKind` of any other map.
+
+        >>> import sourcemap
+        >>> map = sourcemap.Map.loads('{"sources":["a.js"],"mappings":"AAAA",'
+        ...                           '"x_facebook_sources":[[{"names":["main"],"mappings":"AAA"}]]}')
+        >>> map.hermes_function_name(5)
+        'main'
+        """
         return self._text(library.hermes_function_name, uint32('offset', offset))
+
+    def scope_for(self, source: int, line: int, column: int) -> Optional[str]:
+        """Of a Hermes map: the name of the function that contains a position of the source with this id; None if it is
+        not known. So a token has a name on whichever generated line it is. If the functions of a source are not in
+        order, the name may be wrong or missing. `WrongKind` of any other map.
+
+        >>> import sourcemap
+        >>> map = sourcemap.Map.loads('{"sources":["a.js"],"mappings":";AAAA",'
+        ...                           '"x_facebook_sources":[[{"names":["main"],"mappings":"AAA"}]]}')
+        >>> token = map.lookup(1, 0)
+        >>> map.scope_for(token.source_id, token.line, token.column)
+        'main'
+        """
+        return self._text(library.scope_for, uint32('source', source), uint32('line', line), uint32('column', column))
 
     # Changes
 
@@ -528,23 +634,52 @@ class Map(HandleOwner):
     def compose(self, later: Map) -> None:
         """Adjusts this regular map by `later`, the regular map of a later text that was made of this map's generated
         text. The map then maps positions of the later text to the sources of this map. `IncompatibleSourceMap` if a
-        token would pass column 4294967295; `WrongKind` if either map is not regular."""
+        token would pass column 4294967295; `WrongKind` if either map is not regular.
+
+        >>> import sourcemap
+        >>> map = sourcemap.Map.load('bundle.js.map')
+        >>> later = sourcemap.Map.loads('{"sources":["bundle.js"],"names":[],"mappings":";AAAA"}')
+        >>> map.compose(later)
+        >>> str(map.lookup(1, 5))
+        'coolstuff.js:0:4 name=x'
+        """
         with later.share() as shared:
             self._change(library.compose, shared._at)
 
     def shift(self, lines: int) -> None:
         """Moves each section of an index map so many lines further down. `PastLimit` if one would pass line 4294967295;
-        `WrongKind` of other maps."""
+        `WrongKind` of other maps.
+
+        >>> import sourcemap
+        >>> index = sourcemap.Map.loads('{"version":3,"sections":[{"offset":{"line":2,"column":0}}]}')
+        >>> index.shift(3)
+        >>> index.sections
+        (<sourcemap.Section 5:0>,)
+        """
         self._change(library.shift, uint32('lines', lines))
 
     def set_source(self, id: int, text: str) -> None:
         """Sets the text of the source of this id, which the map resolves against `source_root`. `Absent` if there is no
-        such source; `WrongKind` of an index map."""
+        such source; `WrongKind` of an index map.
+
+        >>> import sourcemap
+        >>> map = sourcemap.Map.load('bundle.js.map')
+        >>> map.set_source(0, 'a.js')
+        >>> str(map.lookup(0, 5))
+        'a.js:0:4 name=x'
+        """
         self._change(library.set_source, uint32('id', id), *pointer_to(text))
 
     def set_contents(self, id: int, text: Optional[str]) -> None:
         """Sets the contents of the source of this id; None removes them. `Absent` if there is no such source;
-        `WrongKind` of an index map."""
+        `WrongKind` of an index map.
+
+        >>> import sourcemap
+        >>> map = sourcemap.Map.load('bundle.js.map')
+        >>> map.set_contents(0, 'var x;')
+        >>> list(map.contents)
+        ['var x;']
+        """
         self._change(library.set_contents, uint32('id', id), *optional(text))
 
     def ignore_source(self, id: int) -> None:
@@ -553,7 +688,14 @@ class Map(HandleOwner):
         self._change(library.ignore_source, uint32('id', id))
 
     def remove_names(self) -> None:
-        """Removes all names. Tokens keep their name ids, which then name nothing."""
+        """Removes all names. Tokens keep their name ids, which then name nothing.
+
+        >>> import sourcemap
+        >>> map = sourcemap.Map.load('bundle.js.map')
+        >>> map.remove_names()
+        >>> str(map.lookup(0, 5))
+        'coolstuff.js:0:4'
+        """
         self._change(library.remove_names)
 
     # Writing
@@ -568,6 +710,11 @@ class Map(HandleOwner):
 
         A token on line L is written after L bytes of `;`, up to 4 GB: look at the last token before you write an
         untrusted map.
+
+        >>> import sourcemap
+        >>> map = sourcemap.Map.loads('{"sources":["a.js"],"mappings":"AAAA"}')
+        >>> map.dumps()
+        b'{"mappings":"AAAA","names":[],"sources":["a.js"],"version":3}'
         """
         return self._write(library.write)
 
@@ -578,5 +725,11 @@ class Map(HandleOwner):
             file.write(text)
 
     def to_data_url(self) -> str:
-        """The map as a `data:` URL."""
+        """The map as a `data:` URL.
+
+        >>> import sourcemap
+        >>> map = sourcemap.Map.load('bundle.js.map')
+        >>> sourcemap.Map.from_data_url(map.to_data_url()).equals(map)
+        True
+        """
         return self._write(library.write_url).decode()

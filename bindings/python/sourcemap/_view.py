@@ -57,7 +57,12 @@ class View(HandleOwner, Sequence[str]):
     def slice(self, line: int, column: int, span: int) -> Optional[str]:
         """The part of a line from `column` up to the column `span` UTF-16 units later. If it would begin or end inside
         a surrogate pair, it begins or ends after the pair. None if there is no such line, or the part passes the end of
-        the line."""
+        the line.
+
+        >>> import sourcemap
+        >>> sourcemap.View('let a;\\nlet b;').slice(1, 4, 1)
+        'b'
+        """
         return self._text(library.view_slice, uint32('line', line), uint32('column', column), uint32('span', span))
 
     def __repr__(self) -> str:

@@ -10,9 +10,9 @@ import argparse
 import html
 import json
 from pathlib import Path
-from typing import Dict, Optional
+from typing import Dict, Iterator, Optional
 
-from ._generated import find_map, open_map
+from ._generated import find_map, open_map, source_path
 from ._library import NONE
 from ._map import Map
 
@@ -22,22 +22,39 @@ TEMPLATE = Path(__file__).with_name('page.html')
 LAST_LINE = 10_000_000
 
 
-def page_text(name: str, generated: str, map: Map) -> str:
-    """The HTML of the page of a generated text and its map, which must not be an index map. `name` is the title."""
+def page_text(name: str, generated: str, map: Map, map_path: Optional[Path] = None) -> str:
+    """The HTML of the page of a generated text and its map, which must not be an index map. `name` is the title. If
+    `map_path` is the file of the map, contents that the map does not have are read from the files that its sources lead
+    to."""
     before, _, rest = TEMPLATE.read_text('utf-8').replace('{{TITLE}}', html.escape(name)).partition('{{DATA}}')
     # In a script element `<` may begin its end tag. In JSON it occurs only in strings.
-    data = json.dumps(_page_data(generated, map), ensure_ascii=False, separators=(',', ':')).replace('<', '\\u003c')
+    fields = _page_data(generated, map, map_path)
+    data = json.dumps(fields, ensure_ascii=False, separators=(',', ':')).replace('<', '\\u003c')
     return f'{before}{data}{rest}'
 
 
-def _page_data(generated: str, map: Map) -> Dict[str, object]:
+def _page_data(generated: str, map: Map, map_path: Optional[Path]) -> Dict[str, object]:
     return {
         'generated': generated,
         'mappings': _mappings(map),
         'sources': list(map.sources),
-        'contents': list(map.contents),
+        'contents': list(_contents(map, map_path)),
         'names': list(map.names),
     }
+
+
+def _contents(map: Map, map_path: Optional[Path]) -> Iterator[Optional[str]]:
+    for source, contents in zip(map.sources, map.contents):
+        yield contents if contents is not None or map_path is None else _text_of(source, map_path)
+
+
+def _text_of(source: str, map_path: Path) -> Optional[str]:
+    """The text of the file that a source leads to; None if there is none that can be read as UTF-8."""
+    path = source_path(source, map_path)
+    try:
+        return None if path is None else Path(path).read_text('utf-8')
+    except (OSError, ValueError):
+        return None
 
 
 def _mappings(map: Map) -> str:
@@ -47,15 +64,6 @@ def _mappings(map: Map) -> str:
     mappings = json.loads(map.dumps())['mappings']
     assert isinstance(mappings, str)
     return mappings
-
-
-def _map_for(generated: Path, text: bytes, map: Optional[Path]) -> Map:
-    if map is not None:
-        return open_map(map)
-    found = find_map(generated, text)
-    if found is None:
-        raise FileNotFoundError(f'{generated} refers to no map that is there, and there is no {generated}.map')
-    return found
 
 
 def add_arguments(parser: argparse.ArgumentParser) -> None:
@@ -78,7 +86,8 @@ def add_arguments(parser: argparse.ArgumentParser) -> None:
 def run(arguments: argparse.Namespace) -> int:
     """Writes the page. Returns the exit status; errors are raised."""
     text = arguments.generated.read_bytes()
-    with _map_for(arguments.generated, text, arguments.map) as map:
-        page = page_text(arguments.generated.name, text.decode('utf-8'), map)
+    found = find_map(arguments.generated, text) if arguments.map is None else open_map(arguments.map)
+    with found.map as map:
+        page = page_text(arguments.generated.name, text.decode('utf-8'), map, found.path)
     arguments.output.write_bytes(page.encode('utf-8'))
     return 0

@@ -8,12 +8,13 @@ the function that is called.
 from __future__ import annotations
 
 import argparse
+import re
 import sys
 from pathlib import Path
 from typing import Dict, Iterable, Iterator, List, NamedTuple, Optional, Tuple
 
 from ._frames import FIRST_COLUMN, FIRST_LINE, Frame, parse_frame
-from ._generated import Finder, Generated, open_map
+from ._generated import Finder, Generated, open_map, printable, source_path
 from ._library import NONE
 from ._map import Map
 from ._tokens import Token
@@ -22,6 +23,10 @@ from .errors import SourceMapError
 
 # Of a longer line of a source only this many characters are printed: those around the column, or the first ones.
 LONGEST_LINE = 100
+
+# What Node prints above a trace: `FILE:LINE`, then that line of the generated text, then marks below a column of it.
+_HEAD = re.compile(r'.+:[0-9]+')
+_MARKS = re.compile(r'\s*\^+\s*')
 
 
 class Original(NamedTuple):
@@ -40,12 +45,16 @@ class Original(NamedTuple):
 
 class Translator:
     """Translates the lines of a trace. `columns_from` is the number that the trace uses for the first column of a line.
-    `context` is how many lines of the source to print above a frame's line, and how many below it."""
+    `context` is how many lines of the source to print above a frame's line, and how many below it. `with_paths` says
+    whether a source that leads to a file is printed as the path of this file, or as the map has it."""
 
-    def __init__(self, finder: Finder, columns_from: int = FIRST_COLUMN, context: int = 1) -> None:
+    def __init__(
+        self, finder: Finder, columns_from: int = FIRST_COLUMN, context: int = 1, with_paths: bool = False
+    ) -> None:
         self._finder = finder
         self._columns_from = columns_from
         self._context = context
+        self._with_paths = with_paths
         self._contents: Dict[Tuple[Map, int], Optional[View]] = {}
         self.frames = 0
         """How many of the lines so far were frames, those without a map included."""
@@ -68,7 +77,10 @@ class Translator:
         if original is None:
             return [frame.text]
         function = None if column is None else original_function(frame, generated, line, column)
-        text = frame.rewrite(original.location(), None if function is None else printable(function))
+        named = original
+        if self._with_paths:
+            named = original._replace(source=source_path(original.source, generated.path) or original.source)
+        text = frame.rewrite(named.location(), None if function is None else printable(function))
         return [text, *self._excerpt(frame, generated.map, original)]
 
     def _position(self, frame: Frame) -> Optional[Tuple[int, Optional[int]]]:
@@ -82,7 +94,7 @@ class Translator:
         view = self._contents_of(map, original.source_id)
         if view is None or original.line >= len(view):
             return []
-        indent = ' ' * (len(frame.text) - len(frame.text.lstrip()) + 4)
+        indent = ' ' * (frame.indent + 4)
         return [indent + line for line in excerpt(view, original.line, original.column, self._context)]
 
     def _contents_of(self, map: Map, source: int) -> Optional[View]:
@@ -128,7 +140,31 @@ def only_original_line(map: Map, line: int) -> Optional[Original]:
 def original_function(frame: Frame, generated: Generated, line: int, column: int) -> Optional[str]:
     """The original name of a frame's function; None if the library does not find it."""
     minified = frame.function()
-    return None if minified is None else generated.map.function_name(line, column, minified, generated.view)
+    if minified is None:
+        return None
+    found = generated.map.function_name(line, column, minified, generated.view)
+    return original_class(minified, generated, line, column) if found is None and frame.is_new else found
+
+
+def original_class(minified: str, generated: Generated, line: int, column: int) -> Optional[str]:
+    """The original name of the class with a minified name that begins last before a generated position: the name of the
+    token at the minified one. None if there is none."""
+    if generated.view is None:
+        return None
+    name = re.escape(minified)
+    pattern = re.compile(rf'(?<![\w$.])(?:class\s+(?P<class>{name})(?![\w$])|(?P<value>{name})\s*=\s*class(?![\w$]))')
+    for number in range(min(line, len(generated.view) - 1), -1, -1):
+        text = generated.view.slice(line, 0, column) if number == line else generated.view[number]
+        last = None
+        for last in pattern.finditer(text or ''):
+            pass
+        if last is not None:
+            start = last.start('class') if last['class'] is not None else last.start('value')
+            units = len(last.string[:start].encode('utf-16-le')) // 2
+            token = generated.map.lookup(number, units)
+            is_there = token is not None and (token.generated_line, token.generated_column) == (number, units)
+            return token.name if token is not None and is_there else None
+    return None
 
 
 def excerpt(view: View, line: int, column: Optional[int], context: int) -> List[str]:
@@ -153,18 +189,48 @@ def shorten(line: str, start: int) -> str:
     return printable(line[start : start + LONGEST_LINE].expandtabs(4))
 
 
-def printable(text: str) -> str:
-    """The text with U+FFFD for each character that is not printable. A terminal might take such a character for a
-    command."""
-    return ''.join(unit if unit.isprintable() else '\N{REPLACEMENT CHARACTER}' for unit in text)
+def cut_heads(lines: Iterable[str]) -> Iterator[str]:
+    """The lines of a trace. A long line of the generated text above it, and the marks below that line, are cut as lines
+    of sources are."""
+    previous = ''
+    long: Optional[str] = None
+    for line in lines:
+        if long is not None:
+            yield from _cut(long, line)
+            long = None
+        elif len(line) > LONGEST_LINE + 2 and _HEAD.fullmatch(previous.rstrip('\r\n')) is not None:
+            long = line
+        else:
+            yield line
+        previous = line
+    if long is not None:
+        yield from _cut(long, '')
+
+
+def _cut(line: str, marks: str) -> Iterator[str]:
+    text, end = _without_end(line)
+    if _MARKS.fullmatch(marks) is None:
+        yield shorten(text, 0) + end
+        if marks:
+            yield marks
+        return
+    column = marks.index('^')
+    start = max(0, column - LONGEST_LINE * 2 // 3)
+    yield shorten(text, start) + end
+    count = min(marks.count('^'), LONGEST_LINE - (column - start))
+    yield ' ' * len(shorten(text[:column], start)) + '^' * count + _without_end(marks)[1]
+
+
+def _without_end(line: str) -> Tuple[str, str]:
+    text = line.rstrip('\r\n')
+    return text, line[len(text) :]
 
 
 def translate_lines(lines: Iterable[str], translator: Translator) -> Iterator[str]:
     """Translates a trace line by line. Lines keep their ends; a line that is added ends like the one of its frame. If
     that line has no end, a newline is put before each line that is added."""
-    for line in lines:
-        text = line.rstrip('\r\n')
-        end = line[len(text) :]
+    for line in cut_heads(lines):
+        text, end = _without_end(line)
         translated = translator.translate(text)
         yield (end or '\n').join(translated) + end
 
@@ -194,6 +260,11 @@ def add_arguments(parser: argparse.ArgumentParser) -> None:
     parser.add_argument(
         '--context', metavar='LINES', type=int, default=1, help='lines of the source above and below each frame: 1'
     )
+    parser.add_argument(
+        '--sources-as-in-map',
+        action='store_true',
+        help='print sources as the map has them, not as the paths of the files that they lead to',
+    )
 
 
 def run(arguments: argparse.Namespace) -> int:
@@ -206,7 +277,8 @@ def run(arguments: argparse.Namespace) -> int:
     except SourceMapError as error:
         print(f'sourcemap: {arguments.map}: {error}', file=sys.stderr)
         return 1
-    translator = Translator(Finder(arguments.root, map), arguments.columns_from, arguments.context)
+    finder = Finder(arguments.root, map)
+    translator = Translator(finder, arguments.columns_from, arguments.context, not arguments.sources_as_in_map)
     lines = (line.decode('utf-8', 'surrogateescape') for line in sys.stdin.buffer)
     for text in translate_lines(lines, translator):
         sys.stdout.buffer.write(text.encode('utf-8', 'surrogateescape'))

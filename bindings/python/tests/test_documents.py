@@ -21,6 +21,57 @@ FOLDER = Path(__file__).resolve().parents[1]
 MODULES = [sourcemap] + [importlib.import_module(f'sourcemap.{each.name}')
                          for each in pkgutil.iter_modules(sourcemap.__path__) if each.name != '__main__']
 
+SAMPLE = '''\
+import uuid
+from typing import Iterator, List, Optional, Tuple
+
+import sourcemap
+from sourcemap import Answers, Builder, Bundle, Map, Module, Reference, Section, SourceMapError, Token, View, errors
+
+def frames(path: str) -> Iterator[Tuple[Optional[str], Optional[int]]]:
+    with Map.load(path) as map:
+        found: Optional[Token] = map.lookup(0, 5)
+        if found is not None and found.source_id is not None and found.line is not None:
+            yield found.source, found.line + found.source_id
+        answers: Answers = map.lookup_many([(0, 5), (1, 0)])
+        texts: List[str] = [str(answer) for answer in answers]
+        names: Tuple[str, ...] = tuple(map.names)
+        contents: List[Optional[str]] = list(map.contents)
+        sections: Tuple[Section, ...] = map.sections
+        paths: Optional[Tuple[str, ...]] = map.module_paths
+        id: Optional[uuid.UUID] = map.debug_id
+        map.file = None
+        yield map.scope_for(0, 1, 2), len(texts) + len(names) + len(contents) + len(sections) + len(paths or ())
+
+def build() -> bytes:
+    with Builder() as builder:
+        builder.add(0, 0, source='a.js', line=1, column=2)
+        return builder.finish().dumps()
+
+def modules(bundle: Bundle, index: Map) -> List[str]:
+    found: List[Optional[Module]] = list(bundle.split(index))
+    return [module.name + module.text for module in found if module is not None]
+
+view: View = View('a')
+reference: Optional[Reference] = sourcemap.locate_reference(b'')
+try:
+    Map.loads(b'')
+except errors.BadJson as error:
+    kind: SourceMapError = error
+'''
+
+WRONG = '''\
+import sourcemap
+map = sourcemap.Map.loads(b'')
+map.lookup('0', 5)
+number: int = map.lookup(0, 5)
+map.lookup(0, 5).line
+map.file = 1
+map.split()
+map.scope_for(0, 1)
+sourcemap.Bundle(b'').split('x')
+'''
+
 
 class Examples(unittest.TestCase):
     def test_docstrings(self):
@@ -67,3 +118,16 @@ class Types(unittest.TestCase):
         run = subprocess.run(['mypy', '--strict', '--cache-dir', os.devnull, 'sourcemap'], cwd=FOLDER,
                              capture_output=True, text=True)
         self.assertEqual(run.returncode, 0, run.stdout)
+
+    @unittest.skipUnless(shutil.which('mypy'), 'mypy is not installed')
+    def test_sample(self):
+        """A program of a user, which is checked beside the package; each line of `WRONG` is an error."""
+        with tempfile.TemporaryDirectory() as folder:
+            for name, lines, status in ('right', SAMPLE, 0), ('wrong', WRONG, 1):
+                path = Path(folder, f'{name}.py')
+                path.write_text(lines)
+                run = subprocess.run(['mypy', '--strict', '--cache-dir', os.devnull, path], cwd=FOLDER,
+                                     capture_output=True, text=True)
+                self.assertEqual(run.returncode, status, run.stdout)
+            errors = {int(line) for line in re.findall(r'wrong\.py:(\d+): error', run.stdout)}
+            self.assertEqual(errors, set(range(3, WRONG.count('\n') + 1)))

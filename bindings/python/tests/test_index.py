@@ -86,7 +86,7 @@ class IndexMap(unittest.TestCase):
         for count in 0, 1024, 2048:
             map = Map.loads(index(x_facebook_offsets=[3] * count, x_metro_module_paths=[]))
             self.assertEqual((map.module_offsets, map.module_paths), (count * (3,), ()))
-        self.assertEqual((self.map.module_offsets, self.map.module_paths), (None, ()))
+        self.assertEqual((self.map.module_offsets, self.map.module_paths), (None, None))
         for record in README, HERMES:
             for ask in lambda map: map.module_offsets, lambda map: map.module_paths:
                 with self.assertRaises(errors.WrongKind):

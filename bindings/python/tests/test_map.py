@@ -309,3 +309,5 @@ class Functions(unittest.TestCase):
         self.assertIsNone(map.function_name(1, 0))
         with self.assertRaises(errors.WrongKind):
             Map.loads(README).hermes_function_name(0)
+        with self.assertRaises(errors.WrongKind):
+            Map.loads(README).scope_for(0, 0, 0)

@@ -99,6 +99,22 @@ class Written(InFolder):
         self.assertEqual(self.data_of(out)['sources'], ['x.ts'])
         self.assertEqual(self.data_of(out)['contents'], [None])
 
+    def test_contents_from_files(self) -> None:
+        """Those that the map has not are read from the files that its sources lead to, from the folder of the map."""
+        (self.folder / 'maps').mkdir()
+        (self.folder / 'x.ts').write_text('f<\u00e9>();\n', 'utf-8')
+        (self.folder / 'bytes.ts').write_bytes(b'\xff')
+        (self.folder / 'had.ts').write_text('not this', 'utf-8')
+        generated = self.folder / 'x.js'
+        generated.write_text('f();', 'utf-8')
+        fields = {'sources': ['../x.ts', '../bytes.ts', '../none.ts', 'https://h/x.ts', '../had.ts', '..', ''],
+                  'sourcesContent': [None, None, None, None, 'had'], 'names': [], 'mappings': 'AAAA'}
+        map = self.folder / 'maps' / 'x.map'
+        map.write_text(json.dumps({'version': 3, **fields}), 'utf-8')
+        out = self.folder / 'out.html'
+        self.assertEqual(page.run(arguments(str(generated), str(map), '-o', str(out))), 0)
+        self.assertEqual(self.data_of(out)['contents'], ['f<\u00e9>();\n', None, None, None, 'had', None, None])
+
     def test_no_map(self) -> None:
         generated = self.folder / 'x.js'
         generated.write_text('f();', 'utf-8')

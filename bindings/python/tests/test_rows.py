@@ -57,6 +57,9 @@ class Lookups(unittest.TestCase):
         self.assertEqual(map.kind, 'hermes')
         self.assertEqual(map.hermes_function_name(0), '<global>')
         self.assertEqual(map.hermes_function_name(7), 'foo')
+        # `foo` begins at 1:5 of the source
+        self.assertEqual([map.scope_for(0, 1, column) for column in (4, 5)], ['<global>', 'foo'])
+        self.assertEqual((map.scope_for(0, 9, 0), map.scope_for(1, 9, 0)), ('foo', None))
         self.assertEqual(map.function_name(0, 7), 'foo')
 
 

@@ -20,7 +20,7 @@ from unittest import mock
 from sourcemap import Map, stack
 from sourcemap.__main__ import main
 from sourcemap._frames import parse_frame
-from sourcemap._generated import Finder, path_parts
+from sourcemap._generated import Finder, Found, path_parts
 
 from . import example
 
@@ -58,6 +58,15 @@ LINES: List[Tuple[str, Optional[Read]]] = [
     ('    at fn (C:\\Program Files (x86)\\a.js:1:2)', ('fn', 'C:\\Program Files (x86)\\a.js', 1, 2)),
     ('    at C:\\Program Files (x86)\\a.js:1:2', (None, 'C:\\Program Files (x86)\\a.js', 1, 2)),
     ('    at fn (/srv/a.js:1:21) {', ('fn', '/srv/a.js', 1, 21)),
+    ('    at file:///srv/a.mjs?v=1:3:1', (None, 'file:///srv/a.mjs?v=1', 3, 1)),
+    # what other programs add
+    ('web-1  |     at fn (/srv/a.js:1:21)', ('fn', '/srv/a.js', 1, 21)),
+    ('api-2 | fn@http://h/a.js:1:21', ('fn', 'http://h/a.js', 1, 21)),
+    ('[server] at /srv/a.js:13:6', (None, '/srv/a.js', 13, 6)),
+    ('[server] Error: boom', None),
+    ('\x1b[90m    at fn (/srv/a.js:1:21)\x1b[39m', ('fn', '/srv/a.js', 1, 21)),
+    ('    at \x1b[36mfn\x1b[39m (/srv/\x1b[4ma\x1b[24m.js:1:21)', ('fn', '/srv/a.js', 1, 21)),
+    ('\x1b[33mweb-1  |\x1b[0m     at fn (/srv/a.js:1:21)', ('fn', '/srv/a.js', 1, 21)),
     # SpiderMonkey
     ('fn@http://localhost:8080/a.js:1:21', ('fn', 'http://localhost:8080/a.js', 1, 21)),
     ('@/srv/a.js:6:5', (None, '/srv/a.js', 6, 5)),
@@ -178,6 +187,9 @@ class Lines(unittest.TestCase):
             ('a@x.js:1:2', 'read@src/x.js:5:6'),
             ('@x.js line 1 > eval:3:4', '@src/x.js:5:6 > eval:3:4'),
             ('x.js:1:2', 'src/x.js:5:6'),
+            ('web-1  |     at a (x.js:1:2)', 'web-1  |     at read (src/x.js:5:6)'),
+            ('\x1b[90m at \x1b[1ma\x1b[0m (\x1b[4mx\x1b[24m.js:1:2)\x1b[39m',
+             '\x1b[90m at \x1b[1mread\x1b[0m (\x1b[4msrc/x.js:5:6)\x1b[39m'),
         ]
         for line, expected in rows:
             with self.subTest(line):
@@ -203,7 +215,8 @@ class Traces(unittest.TestCase):
 
     def translate(self, trace: str, *, map: Optional[Map] = None, columns_from: int = 1, context: int = 0) -> str:
         """The trace with original positions; without context it has no lines of the sources."""
-        translator = stack.Translator(Finder(self.root, map), columns_from, context)
+        found = None if map is None else Found(map, self.map)
+        translator = stack.Translator(Finder(self.root, found), columns_from, context)
         lines = ''.join(stack.translate_lines(trace.splitlines(keepends=True), translator))
         return lines if context else ''.join(line for line in lines.splitlines(keepends=True) if ' | ' not in line)
 
@@ -376,7 +389,7 @@ class Traces(unittest.TestCase):
         fields = {'sources': ['x.js'], 'sourcesContent': [contents], 'names': [], 'mappings': 'AAAI,CAAqZ'}
         map = Map.loads(json.dumps({'version': 3, **fields}))
         self.assertEqual(map.lookup(0, 1)[:3], ('x.js', 0, 409))  # type: ignore[index]
-        translator = stack.Translator(Finder(self.root, map))
+        translator = stack.Translator(Finder(self.root, Found(map, self.map)))
         _, line, mark = translator.translate('@y.js:1:1')
         self.assertTrue(line.startswith('    > 1 |     \U0001f600 \ufffd[31mxx'), line)
         self.assertEqual(line[mark.index('^')], '\ufffd')
@@ -386,13 +399,92 @@ class Traces(unittest.TestCase):
 
     def test_program(self) -> None:
         """The command, with its options."""
-        command = [sys.executable, '-m', 'sourcemap', 'stack', '--root', str(self.root), '--context', '0']
+        command = [sys.executable, '-m', 'sourcemap', 'stack', '--root', str(self.root), '--context', '0',
+                   '--sources-as-in-map']
         trace = b'\xff message\n' + JAVASCRIPTCORE_TRACE.encode()
         done = subprocess.run(command, input=trace, stdout=subprocess.PIPE, check=True, cwd=FOLDER)
         lines = done.stdout.split(b'\n')
         self.assertEqual(lines[0], b'\xff message')
         self.assertEqual(lines[1], b'readAll@../src/app.js:2:13')
         self.assertEqual(lines[2], b"    > 2 |   throw new Error('cannot read ' + path);")
+
+    def test_paths_of_sources(self) -> None:
+        """A source that leads to a file is printed as its path; others as the map has them."""
+        map = json.loads(example.MAP)
+        rows = [('../src/app.js', f'{self.root}/src/app.js'), ('x.js', f'{self.root}/dist/x.js'),
+                ('/srv/a b.js', '/srv/a b.js'), ('file:///srv/a%20b.js', '/srv/a b.js'), ('webpack:///./x.js', 'webpack:///./x.js'),
+                ('https://h/x.js', 'https://h/x.js'), ('', ''), ('#x', '#x')]
+        for source, printed in rows:
+            with self.subTest(source):
+                self.map.write_text(json.dumps({**map, 'sources': [source]}), 'utf-8')
+                translator = stack.Translator(Finder(self.root), with_paths=True)
+                self.assertEqual(translator.translate('a@dist/app.min.js:1:21')[0], f'readAll@{printed}:2:9')
+        command = [sys.executable, '-m', 'sourcemap', 'stack', '--root', str(self.root)]
+        self.map.write_text(example.MAP, 'utf-8')
+        done = subprocess.run(command, input=SPIDERMONKEY_TRACE, stdout=subprocess.PIPE, check=True, cwd=FOLDER,
+                              text=True)
+        self.assertEqual(done.stdout.partition('\n')[0], f'readAll@{self.root}/src/app.js:2:9')
+
+    def test_paths_with_a_query(self) -> None:
+        for file in (f'{self.generated}?v=1', f'{self.generated.as_uri()}?v=1', 'dist/app.min.js?v=1&x'):
+            with self.subTest(file):
+                self.assertEqual(self.translate(f'a@{file}:1:21\n'), 'readAll@../src/app.js:2:9\n')
+        odd = self.generated.with_name('app.min.js?v=2')
+        odd.write_text(example.GENERATED, 'utf-8')
+        self.assertEqual(self.translate('a@dist/app.min.js?v=2:1:21\n'), 'readAll@../src/app.js:2:9\n')
+
+    def test_map_beside_without_the_suffix(self) -> None:
+        self.generated.write_text(example.GENERATED.partition('\n')[0], 'utf-8')
+        self.map.rename(self.map.with_name('app.min.map'))
+        self.assertEqual(self.translate('a@dist/app.min.js:1:21\n'), 'readAll@../src/app.js:2:9\n')
+
+    def test_why_there_is_no_map(self) -> None:
+        bare = self.root / 'bare.js'
+        bare.write_text('a()\n', 'utf-8')
+        lost = self.root / 'lost.js'
+        lost.write_text('a()\n//# sourceMappingURL=none.map\n', 'utf-8')
+        rows = [
+            ('gone.js', f'the map of gone.js: neither the file nor a map beside it is there, or below {self.root}'),
+            ('bare.js', f'the map of {bare}: {bare} refers to no map, and there is no bare.js.map'),
+            ('lost.js', f"the map of {lost}: {lost} refers to 'none.map', which is not there, "
+                        'and there is no lost.js.map'),
+        ]
+        trace = ''.join(f'a@{file}:1:1\nb@{file}:1:2\n' for file, _ in rows)
+        errors = io.StringIO()
+        with contextlib.redirect_stderr(errors):
+            self.assertEqual(self.translate(trace), trace)
+        self.assertEqual(errors.getvalue().splitlines(), [f'sourcemap: {reason}' for _, reason in rows])
+
+    def test_long_line_above_a_trace(self) -> None:
+        """A line of 90 kB is cut around the marks below it."""
+        line = 'x' * 45000 + 'HERE' + 'x' * 45000
+        head = f'/srv/dist/app.min.js:1\n{line}\n{" " * 45000}^^^^\n\nError: boom\n'
+        printed = self.translate(head).splitlines()
+        self.assertEqual(printed[0], '/srv/dist/app.min.js:1')
+        self.assertEqual(printed[1], 'x' * 66 + 'HERE' + 'x' * 30)
+        self.assertEqual(printed[2:], [' ' * 66 + '^^^^', '', 'Error: boom'])
+        self.assertEqual(self.translate(f'/srv/a.js:1\n{line}\nError: boom\n'),
+                         f'/srv/a.js:1\n{"x" * 100}\nError: boom\n')
+        self.assertEqual(self.translate(f'/srv/a.js:1\n{line}'), f'/srv/a.js:1\n{"x" * 100}')
+        # other long lines, and short ones, stay
+        for text in (f'Error: {line}\n', '/srv/a.js:1\nthrow x\n      ^\n'):
+            self.assertEqual(self.translate(text), text)
+
+    def test_constructors(self) -> None:
+        """`new C` is named by the class that the position is in."""
+        # 0:6 -> 0:6 `Reader`, 0:23 -> 1:1, 1:11 -> 3:4 `Writer`, 1:34 -> 4:4
+        code = 'class t{constructor(){ f() }}\nvar q = 1, e=class{constructor(){ f() }}\n'
+        file = self.root / 'dist' / 'classes.js'
+        file.write_text(code, 'utf-8')
+        fields = {'sources': ['c.js'], 'names': ['Reader', 'Writer'], 'mappings': 'MAAMA,iBACL;WAEGC,uBACA'}
+        file.with_name('classes.js.map').write_text(json.dumps({'version': 3, **fields}), 'utf-8')
+        rows = [('new t (dist/classes.js:1:24)', 'new Reader (c.js:2:2)'),
+                ('new e (dist/classes.js:2:35)', 'new Writer (c.js:5:5)'),
+                ('new z (dist/classes.js:2:35)', 'new z (c.js:5:5)'),
+                ('t.t (dist/classes.js:1:24)', 't.t (c.js:2:2)')]
+        for line, expected in rows:
+            with self.subTest(line):
+                self.assertEqual(self.translate(f'    at {line}\n'), f'    at {expected}\n')
 
     def test_map_that_is_not_there(self) -> None:
         errors = io.StringIO()

@@ -164,16 +164,31 @@ class Bundles(unittest.TestCase):
     def test_split(self):
         map = Map.loads(index(section(0, 0, regular('AAAA;AACA;AACA')), x_facebook_offsets=[0, 1, 2]))
         with Bundle(self.TWO_MODULES).split(map) as modules:
-            self.assertEqual((len(modules), modules[0][:2]), (2, ('0.js', 'x')))
+            self.assertEqual((len(modules), modules[0][:2]), (3, ('0.js', 'x')))
             self.assertEqual(str(modules[0].map.lookup(0, 0)), 'a.js:0:0')
+            self.assertIsNone(modules[1])
             with self.assertRaises(errors.InvalidRamBundleEntry):
-                modules[1]
-            with self.assertRaises(IndexError):
                 modules[2]
-            self.assertEqual([module.name for module in modules[:1]], ['0.js'])
-            kept = modules[-2].map
+            with self.assertRaises(IndexError):
+                modules[3]
+            self.assertEqual([module and module.name for module in modules[:2]], ['0.js', None])
+            kept = modules[-3].map
         map.close()
         self.assertEqual(str(kept.lookup(0, 0)), 'a.js:0:0')
+
+    def test_split_of_a_claim(self):
+        # twelve bytes, which claim 4294967295 modules
+        bundle = Bundle(BUNDLE[:4] + b'\xff\xff\xff\xff' + bytes(4))
+        with bundle.split(Map.loads(index(section(0, 0, regular('AAAA')), x_facebook_offsets=[0]))) as modules:
+            bundle.close()
+            self.assertEqual(len(modules), 4294967295)
+            for number in 0, 1, -1:
+                with self.assertRaises(errors.InvalidRamBundleEntry):
+                    modules[number]
+        with self.assertRaises(ValueError):
+            modules[0]
+        with self.assertRaises(ValueError):
+            len(modules)
 
     def test_split_by_other_maps(self):
         with self.assertRaises(errors.WrongKind):

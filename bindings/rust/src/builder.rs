@@ -1,6 +1,7 @@
 //! Maps that are put together.
 
 use std::collections::BTreeSet;
+use std::fs;
 use std::path::Path;
 use std::sync::Arc;
 
@@ -180,20 +181,22 @@ impl SourceMapBuilder {
     /// path of its own, such as an empty one or `#a`, leads to the folder and is skipped
     /// too. All sources are skipped if the path of the folder is not UTF-8. A source
     /// may also be skipped if the `file` URL of the folder and the source together have
-    /// about 2^28 bytes or more. Returns how many sources got contents. Fails with
-    /// [`Error::Io`](crate::Error::Io) if the current folder is unknown.
+    /// about 2^28 bytes or more. Returns for how many sources it tried to read a file. Fails
+    /// with [`Error::Io`](crate::Error::Io) if the current folder is unknown.
     pub fn load_local_source_contents(&mut self, base_path: Option<&Path>) -> Result<usize> {
         let folder = local::folder(base_path)?;
-        let mut loaded = 0;
+        let mut tried = 0;
         for source in self
             .sources
             .iter_mut()
             .filter(|source| source.contents.is_none())
         {
-            source.contents = local::read_source(&folder, &source.added).map(Into::into);
-            loaded += usize::from(source.contents.is_some());
+            if let Some(path) = local::source_path(&folder, &source.added) {
+                tried += 1;
+                source.contents = fs::read_to_string(path).ok().map(Into::into);
+            }
         }
-        Ok(loaded)
+        Ok(tried)
     }
 
     /// Adds a name, and returns its id. Equal texts have one id.

@@ -61,16 +61,11 @@ impl SourceMapHermes {
         self.handle().hermes_function_name(bytecode_offset)
     }
 
-    /// Looks up the token's generated position in this map, and returns the name of
-    /// the function there. For a range token that a lookup on its own line returned,
-    /// it looks up the position of that lookup. Only positions on generated line 0 have
-    /// names. For a token on another line the call returns none. If the functions of
-    /// the token's source are not in order, the result is unspecified.
+    /// Returns the name of the function that contains the token's original position. Its
+    /// source counts by its id. If the functions of the source are not in order, the
+    /// result is unspecified.
     pub fn get_scope_for_token(&self, token: Token<'_>) -> Option<&str> {
-        match token.lookup_position() {
-            (0, offset) => self.get_original_function_name(offset),
-            _ => None,
-        }
+        self.handle().scope_for(token.get_src_id(), token.get_src())
     }
 
     /// Rewrites the map, as [`SourceMap::rewrite`] does, with its scopes. If several

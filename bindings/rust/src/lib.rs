@@ -15,13 +15,19 @@
 //!
 //! # Threads
 //!
-//! Maps, builders, views and bundles may move to another thread (`Send`). None of
-//! them may be used by two threads at once (not `Sync`). Give each thread its own
-//! clone of the map, view or bundle. Builders have no clone. A clone of a
-//! [`SourceMap`] or a [`SourceMapHermes`] shares the map, and copies nothing. The
-//! exception is the [`SourceMap`] in a [`SourceMapHermes`]: cloning it may copy the
-//! map, without scopes. A clone of a [`SourceView`] copies its text, and a clone of
-//! a RAM bundle copies its bytes.
+//! Maps, builders, views and bundles are `Send` and `Sync`; so are tokens and iterators.
+//! An `Arc<DecodedMap>` serves a pool of threads. A call takes a handle of the library
+//! that no other call has. Where calls meet, the value gets a further handle: at most
+//! one for each call at a time, which copies nothing and stays until the value is changed
+//! or dropped. So calls do not wait for one another, but in three cases. What is read at
+//! first use, such as the sections of an index map, is read by one thread, and others that
+//! need it wait. While one thread makes a handle, another that needs a new one waits. If
+//! memory runs out, calls that meet may wait.
+//!
+//! A clone of a map, a view or an indexed RAM bundle shares what it holds, and copies
+//! nothing. There are two exceptions: the [`SourceMap`] in a [`SourceMapHermes`], whose
+//! clone may copy the map, without scopes; and the parts of a [`SourceMapIndex`] that were
+//! read. Builders have no clone.
 //!
 //! # Panics
 //!
@@ -59,8 +65,11 @@ mod errors;
 mod ffi;
 #[allow(unsafe_code)]
 mod handle;
+#[allow(unsafe_code)]
+mod helgrind;
 mod hermes;
 mod local;
+mod once;
 pub mod ram_bundle;
 mod sourceview;
 mod types;

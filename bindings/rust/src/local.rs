@@ -19,18 +19,19 @@ pub(crate) fn folder(base_path: Option<&Path>) -> io::Result<PathBuf> {
     })
 }
 
-/// The contents of a source, if it leads to a file that can be read as text.
-pub(crate) fn read_source(folder: &Path, source: &str) -> Option<String> {
+/// The path that a source leads to, if any.
+pub(crate) fn source_path(folder: &Path, source: &str) -> Option<PathBuf> {
     // A reference is resolved against the folder of its base. One without a path of its
     // own leads to the base itself, so its path depends on the name of the base. In the
     // library such a reference leads to the folder.
     let path = resolve_path(source, &folder.join("base"))?;
     let other = resolve_path(source, &folder.join("other"))?;
-    if path == other {
-        fs::read_to_string(path).ok()
-    } else {
-        None
-    }
+    Some(if path == other { path } else { folder.into() })
+}
+
+/// The contents of a source, if it leads to a file that can be read as text.
+fn read_source(folder: &Path, source: &str) -> Option<String> {
+    fs::read_to_string(source_path(folder, source)?).ok()
 }
 
 /// Sets the contents of the sources of a map to those that the rewritten map is to

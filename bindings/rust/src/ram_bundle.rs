@@ -1,6 +1,5 @@
 //! RAM bundles of React Native.
 
-use std::borrow::Cow;
 use std::collections::BTreeMap;
 use std::fmt;
 use std::fs::{self, File};
@@ -45,9 +44,10 @@ enum Repr<'a> {
 }
 
 struct Indexed<'a> {
+    /// Has a copy of the bytes.
     handle: BundleHandle,
-    /// What a clone is made of.
-    bytes: Cow<'a, [u8]>,
+    size: usize,
+    bytes: PhantomData<&'a [u8]>,
 }
 
 #[derive(Clone)]
@@ -69,22 +69,30 @@ pub struct RamBundleModuleIter<'a> {
     ram_bundle: &'a RamBundle<'a>,
 }
 
-/// The modules of a RAM bundle, each with a file name, its text and its map.
+/// The modules of a RAM bundle, each with a file name, its text and its map. A module is read
+/// when it is asked for.
 pub struct SplitRamBundleModuleIter<'a> {
     split: SplitHandle,
-    items: Range<usize>,
-    ram_bundle: PhantomData<&'a ()>,
+    ids: Range<usize>,
+    bundle: Whole<'a>,
+}
+
+/// A bundle in the indexed form.
+enum Whole<'a> {
+    Indexed(&'a BundleHandle),
+    /// What a bundle of files is in that form.
+    Image(BundleHandle),
 }
 
 impl<'a> RamBundle<'a> {
     /// Reads an indexed bundle.
     pub fn parse_indexed_from_slice(bytes: &'a [u8]) -> Result<Self> {
-        RamBundle::parse_indexed(Cow::Borrowed(bytes))
+        RamBundle::parse_indexed(bytes)
     }
 
     /// Reads an indexed bundle.
     pub fn parse_indexed_from_vec(bytes: Vec<u8>) -> Result<Self> {
-        RamBundle::parse_indexed(Cow::Owned(bytes))
+        RamBundle::parse_indexed(&bytes)
     }
 
     /// Reads an indexed bundle from a file.
@@ -105,9 +113,12 @@ impl<'a> RamBundle<'a> {
         Ok(RamBundle { repr })
     }
 
-    fn parse_indexed(bytes: Cow<'a, [u8]>) -> Result<Self> {
-        let handle = BundleHandle::open(&bytes)?;
-        let repr = Repr::Indexed(Indexed { handle, bytes });
+    fn parse_indexed(bytes: &[u8]) -> Result<Self> {
+        let repr = Repr::Indexed(Indexed {
+            handle: BundleHandle::open(bytes)?,
+            size: bytes.len(),
+            bytes: PhantomData,
+        });
         Ok(RamBundle { repr })
     }
 
@@ -156,20 +167,20 @@ impl<'a> RamBundle<'a> {
         }
     }
 
-    fn split(&self, smi: &SourceMapIndex) -> Result<SplitHandle> {
-        let index = smi.handle();
-        match &self.repr {
-            Repr::Indexed(indexed) => indexed.handle.split(index),
-            Repr::Unbundle(unbundle) => BundleHandle::open(&unbundle.image()?)?.split(index),
-        }
+    fn whole(&self) -> Result<Whole<'_>> {
+        Ok(match &self.repr {
+            Repr::Indexed(indexed) => Whole::Indexed(&indexed.handle),
+            Repr::Unbundle(unbundle) => Whole::Image(BundleHandle::open(&unbundle.image()?)?),
+        })
     }
 }
 
 impl Clone for Indexed<'_> {
     fn clone(&self) -> Self {
         Indexed {
-            handle: must(BundleHandle::open(&self.bytes)),
-            bytes: self.bytes.clone(),
+            handle: must(self.handle.share()),
+            size: self.size,
+            bytes: PhantomData,
         }
     }
 }
@@ -177,7 +188,7 @@ impl Clone for Indexed<'_> {
 impl fmt::Debug for Indexed<'_> {
     fn fmt(&self, f: &mut fmt::Formatter<'_>) -> fmt::Result {
         f.debug_struct("Indexed")
-            .field("size", &self.bytes.len())
+            .field("size", &self.size)
             .field("modules", &self.handle.module_count())
             .finish()
     }
@@ -323,20 +334,28 @@ impl Iterator for SplitRamBundleModuleIter<'_> {
     type Item = Result<(String, SourceView, SourceMap)>;
 
     fn next(&mut self) -> Option<Self::Item> {
-        let item = self.items.next()?;
-        Some(split_item(&self.split, item))
+        let bundle = match &self.bundle {
+            Whole::Indexed(bundle) => bundle,
+            Whole::Image(bundle) => bundle,
+        };
+        let module = |id| self.split.module(bundle, id).transpose();
+        let (text, map) = match self.ids.find_map(module)? {
+            Ok(module) => module,
+            Err(error) => return Some(Err(error)),
+        };
+        let name = map.file().unwrap_or_default().to_owned();
+        Some(Ok((
+            name,
+            SourceView::of_text(text),
+            SourceMap::of_handle(map),
+        )))
     }
-}
-
-fn split_item(split: &SplitHandle, item: usize) -> Result<(String, SourceView, SourceMap)> {
-    let (name, text) = split.item(item)?;
-    let map = SourceMap::of_handle(split.map(item)?);
-    Ok((name.to_owned(), SourceView::of_text(text), map))
 }
 
 /// Splits a bundle into its modules, each with a file name, its text and its map, by
 /// the index map of the bundle. The file name is the number in decimal digits, without
-/// leading zeros, and `.js`.
+/// leading zeros, and `.js`. The index map is flattened at once, and a module is split off when
+/// the iterator comes to it.
 ///
 /// A module begins on the line that the list [`SourceMapIndex::x_facebook_offsets`]
 /// has for its number. The iterator skips modules that are missing. A module for which
@@ -357,11 +376,10 @@ pub fn split_ram_bundle<'a>(
     ram_bundle: &'a RamBundle<'_>,
     smi: &SourceMapIndex,
 ) -> Result<SplitRamBundleModuleIter<'a>> {
-    let split = ram_bundle.split(smi)?;
     Ok(SplitRamBundleModuleIter {
-        items: 0..split.item_count(),
-        split,
-        ram_bundle: PhantomData,
+        split: SplitHandle::open(smi.handle())?,
+        ids: 0..ram_bundle.module_count(),
+        bundle: ram_bundle.whole()?,
     })
 }
 

@@ -96,7 +96,9 @@ impl SourceView {
 
 impl Clone for SourceView {
     fn clone(&self) -> SourceView {
-        SourceView::of_text(self.source())
+        SourceView {
+            handle: must(self.handle.share()),
+        }
     }
 }
 

@@ -1,7 +1,8 @@
 -- Split bundles, and the items that their iterators return. An item is the name, the text and the map of a module, or
 -- an error.
 use Rattle.std.specs.Prelude.{◌≡◌, ◌≤◌, ℕ, ◌&&◌, if◌then◌else◌, List, [], ◌∷◌, ◌++◌, codes, length, map, filter_map}
-use Rattle.std.specs.Prelude.{slice_get, Option, Some, None, is_some, MatchOption, Result, Ok, Err, IfOk, string_bytes}
+use Rattle.std.specs.Prelude.{slice_get, Option, Some, None, is_some, option_map, MatchOption}
+use Rattle.std.specs.Prelude.{Result, Ok, Err, IfOk, string_bytes}
 use Rattle.std.specs.Fmt.{decimal}
 use Rattle.std.specs.List.{AllByRecursion}
 use Rattle.std.specs.Str.{is_utf8}
@@ -62,6 +63,17 @@ with_first_line offsets (Err e) = Some (Err InvalidRamBundleEntry)
 abbrev pub due_of : MapValue → Result (ModuleValue × ℕ) Error → Result ModuleParts Error
 due_of flat (Ok found) = parts_at flat found.1 found.0
 due_of flat (Err e) = Err e
+
+-- the item for the module that `bundle_module` gives for a number; `None` if the module is missing or skipped
+abbrev pub due_in : MapValue → List (Option ℕ) → Result (Option ModuleValue) Error → Option (Result ModuleParts Error)
+due_in flat offsets (Ok None) = None
+due_in flat offsets (Ok (Some m)) = option_map (due_of flat) (with_first_line offsets (Ok m))
+due_in flat offsets (Err e) = Some (Err InvalidRamBundleEntry)
+
+-- the answer is `due`, or the error `OutOfMemory` instead of an item
+abbrev pub YieldsPart : {A B : Type 0} → (A → B) → Option (Result A Error) → Option (Result B Error) → Type 0
+YieldsPart view None due = due ≡ None
+YieldsPart {B = B} view (Some r) due = (item : Result B Error) × (due ≡ Some item) × Gives view r item
 
 -- the items for `modules`, in order: one item for each module, but none for a module that is skipped
 abbrev pub dues_of : MapValue → List (Option ℕ) → List (Result ModuleValue Error) → List (Result ModuleParts Error)

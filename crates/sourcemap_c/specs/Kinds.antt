@@ -8,6 +8,7 @@ use Rattle.sourcemap_index_model.specs.MapTree.{regular, hermes, MapTree, leaf, 
 use Rattle.sourcemap_index.specs.Family.{map_tree}
 use Rattle.sourcemap_index.specs.declared.family.DecodedMap.{DecodedMap}
 use Rattle.sourcemap_builder.specs.Builder.{BuilderValue}
+use Rattle.sourcemap_bundles.specs.Modules.{BundleValue}
 use Rattle.sourcemap_c.specs.declared.kinds.Kind.{Kind}
 use Rattle.sourcemap_c_handles.specs.declared.held.Held.{Held}
 use Rattle.sourcemap_c_handles.specs.declared.held.Held.TheVariants.{Map, Builder, View, Bundle, Split, Bytes, Sections}
@@ -26,12 +27,25 @@ builder_in (Some (Builder builder)) = Some builder
 builder_in _ = None
 
 abbrev pub view_in : Option Held → Option (List ℕ)
-view_in (Some (View view)) = Some view
+view_in (Some (View view)) = Some (arc_value view)
 view_in _ = None
 
 abbrev pub bytes_in : Option Held → Option (List ℕ)
 bytes_in (Some (Bytes bytes)) = Some bytes.items
 bytes_in _ = None
+
+-- what several handles may share: a map, a text or a RAM bundle
+pub data Shareable : Type 0 where
+  shared_map : MapTree → Shareable
+  shared_view : List ℕ → Shareable
+  shared_bundle : BundleValue → Shareable
+
+-- `None` if the handle holds nothing that handles may share
+abbrev pub shareable_in : Option Held → Option Shareable
+shareable_in (Some (Map map)) = Some (shared_map (map_tree (arc_value map)))
+shareable_in (Some (View view)) = Some (shared_view (arc_value view))
+shareable_in (Some (Bundle bundle)) = Some (shared_bundle (arc_value bundle))
+shareable_in _ = None
 
 -- `old` and `new` have the same pointer, and their maps have equal trees
 abbrev pub IsSameMap : (old new : Arc DecodedMap Global) → Type 0

@@ -2,10 +2,12 @@ pub mod Codes
 pub mod Kinds
 pub mod Opening
 pub mod Lookup
+pub mod ModulePaths
 pub mod Writing
 pub mod Getters
 pub mod Changing
 pub mod Replacing
+pub mod Scopes
 pub mod Building
 pub mod Sections
 pub mod Bundles

@@ -1,25 +1,24 @@
-//! RAM bundles, and bundles that are split into modules with maps.
-ghost use Rattle.std.specs.Prelude.{◌≡◌, ◌++◌, Err, IfOk, IfErr, MatchResult, None, Ok, Some, length, map, option_map, slice_get};
+//! RAM bundles, and the maps of their modules.
+ghost use Rattle.std.specs.Prelude.{◌≡◌, Err, None, Ok, Option, Result, Some, option_map};
 ghost use Rattle.std.specs.Borrow.{sem};
 ghost use Rattle.std.specs.Option.{option_copied};
-ghost use Rattle.sourcemap_bundles.specs.Modules.{bundle_count, bundle_startup, indexed_bundle, modules_of};
-ghost use Rattle.sourcemap_errors.specs.Answer.{Gives};
-ghost use Rattle.sourcemap_errors.specs.declared.errors.Error.TheVariants.{InvalidRamBundleEntry, OutOfMemory};
+ghost use Rattle.sourcemap_bundles.specs.Modules.{bundle_count, bundle_startup, indexed_bundle};
+ghost use Rattle.sourcemap_errors.specs.declared.errors.Error.{Error};
 ghost use Rattle.sourcemap_c_handles.specs.Handles.{EndsAsBefore, held_in};
 ghost use Rattle.sourcemap_index.specs.Family.{index_value, map_tree};
-ghost use Rattle.sourcemap_bundle_split.specs.Iterators.{dues_left};
-ghost use Rattle.sourcemap_bundle_split.specs.Split.{parts_value};
+ghost use Rattle.sourcemap_bundle_split.specs.Split.{ModuleParts, YieldsPart, parts_value};
 ghost use Rattle.sourcemap_index_model.specs.MapTree.{index_tree};
-ghost use Rattle.sourcemap_c.specs.Bundles.{HasMap, IsNamed, IsNoItem, IsSplit, IsUnsplit, Makes, bundle_in, due_value, item_of, item_value, items_in, module_bytes, module_value};
-ghost use Rattle.sourcemap_c.specs.Codes.{Answers, Does, NoError, OfLibrary, OfLibraryKindOrAbsent, OfLibraryOrKind, ReturnsValue};
+ghost use Rattle.sourcemap_c.specs.Bundles.{HasMap, IsNoItem, IsSplit, IsUnsplit, bundle_in, due_in, module_bytes};
+ghost use Rattle.sourcemap_c.specs.Codes.{Answers, Does, OfLibrary, OfLibraryKindOrAbsent, OfLibraryOrKind, ReturnsValue};
 ghost use Rattle.sourcemap_c.specs.Kinds.{tree_in};
 
 use crate::codes::{OK, WRONG_KIND};
-use crate::kinds::{map_in, put_shared};
-use sourcemap::ram_bundle::{RamBundle, SplitRamBundleModuleIter, split_ram_bundle};
-use sourcemap::{DecodedMap, Error, Result, SourceMap, SourceMapIndex, SourceView};
+use crate::kinds::{map_in, put_map};
+use sourcemap::ram_bundle::RamBundle;
+use sourcemap::{DecodedMap, Result, SourceMap, SourceMapIndex, SourceView};
+use sourcemap_bundle_split::split::BundleSplitter;
 use sourcemap_c_handles::errors::{ErrorReport, Failure, Outcome, finish};
-use sourcemap_c_handles::{Handle, Held, SplitModule};
+use sourcemap_c_handles::{Handle, Held};
 use std::alloc::Global;
 use std::sync::Arc;
 
@@ -28,7 +27,7 @@ fn bundle_in<'a>(handle: &'a mut Handle) -> Option<&'a RamBundle<'static>>
     ensures value { option_copied result ≡ bundle_in (held_in handle.old) }
 {
     match handle.get() {
-        Some(Held::Bundle(bundle)) => Some(bundle),
+        Some(Held::Bundle(bundle)) => Some(&**bundle),
         _ => None,
     }
 }
@@ -54,7 +53,7 @@ fn open(alloc: Global, bundle: &mut Handle, bytes: &[u8]) -> Outcome<()>
 {
     let copy = Vec::from_slice(alloc, bytes)?;
     let parsed = RamBundle::parse_indexed_from_vec(copy)?;
-    bundle.fill(alloc, Held::Bundle(parsed))?;
+    bundle.fill(alloc, Held::Bundle(Arc::new(alloc, parsed)?))?;
     Ok(())
 }
 
@@ -181,283 +180,136 @@ fn module<'a>(held: Option<&'a Held>, id: usize, bytes: &mut &'a [u8]) -> Outcom
     }
 }
 
-/// Splits the bundle by the index map in `index`, and fills `split` with its items: modules and
-/// errors.
+/// Fills `split` with what the index map in `index` says about the modules of its bundle.
 #[unsafe(no_mangle)]
-pub extern "C" fn sm_bundle_split(
+pub extern "C" fn sm_split_open(
     alloc: Global,
-    bundle: &mut Handle,
-    index: &mut Handle,
     split: &mut Handle,
+    index: &mut Handle,
     error: &mut ErrorReport,
 ) -> u32
     ensures split { Answers result error.old error.new
-        (IsSplit (bundle_in (held_in bundle.old)) (tree_in (held_in index.old)) (held_in split.new))
-        (IsUnsplit (bundle_in (held_in bundle.old)) (tree_in (held_in index.old)))
+        (IsSplit (tree_in (held_in index.old)) (held_in split.new)) (IsUnsplit (tree_in (held_in index.old)))
         (held_in split.new ≡ held_in split.old) }
-    ensures bundle { held_in bundle.new ≡ held_in bundle.old }
     ensures index { held_in index.new ≡ held_in index.old }
 {
-    finish(alloc, split_by(alloc, bundle, index, split), error)
+    finish(alloc, open_split(alloc, split, index), error)
 }
 
-fn split_by(
-    alloc: Global,
-    bundle: &mut Handle,
-    index: &mut Handle,
-    split: &mut Handle,
-) -> Outcome<()>
-    ensures split { Does result
-        (IsSplit (bundle_in (held_in bundle.old)) (tree_in (held_in index.old)) (held_in split.new))
-        (IsUnsplit (bundle_in (held_in bundle.old)) (tree_in (held_in index.old)))
-        (held_in split.new ≡ held_in split.old) }
-    ensures bundle { held_in bundle.new ≡ held_in bundle.old }
-    ensures index { held_in index.new ≡ held_in index.old }
-{
-    match bundle_in(bundle) {
-        Some(bundle) => split_with(alloc, bundle, index, split),
-        None => Err(Failure::WrongKind),
-    }
-}
-
-fn split_with(
-    alloc: Global,
-    bundle: &RamBundle<'static>,
-    index: &mut Handle,
-    split: &mut Handle,
-) -> Outcome<()>
-    ensures split { Does result (IsSplit (Some bundle.now) (tree_in (held_in index.old)) (held_in split.new))
-        (IsUnsplit (Some bundle.now) (tree_in (held_in index.old))) (held_in split.new ≡ held_in split.old) }
+fn open_split(alloc: Global, split: &mut Handle, index: &mut Handle) -> Outcome<()>
+    ensures split { Does result (IsSplit (tree_in (held_in index.old)) (held_in split.new))
+        (IsUnsplit (tree_in (held_in index.old))) (held_in split.new ≡ held_in split.old) }
     ensures index { held_in index.new ≡ held_in index.old }
 {
     match map_in(index) {
-        Some(DecodedMap::Index(index)) => put_split(alloc, bundle, index, split),
+        Some(DecodedMap::Index(index)) => put_split(alloc, split, index),
         _ => Err(Failure::WrongKind),
     }
 }
 
-fn put_split(
-    alloc: Global,
-    bundle: &RamBundle<'static>,
-    index: &SourceMapIndex,
-    split: &mut Handle,
-) -> Outcome<()>
-    ensures { Does result
-        (IsSplit (Some bundle.now) (Some (index_tree (index_value index.now))) (held_in split.new))
-        (IsUnsplit (Some bundle.now) (Some (index_tree (index_value index.now))))
-        (held_in split.new ≡ held_in split.old) }
+fn put_split(alloc: Global, split: &mut Handle, index: &SourceMapIndex) -> Outcome<()>
+    ensures { Does result (IsSplit (Some (index_tree (index_value index.now))) (held_in split.new))
+        (IsUnsplit (Some (index_tree (index_value index.now)))) (held_in split.new ≡ held_in split.old) }
 {
-    match split_ram_bundle(alloc, bundle, index) {
-        Ok(modules) => put_items(alloc, modules, split),
+    match BundleSplitter::new(alloc, index) {
+        Ok(splitter) => {
+            split.fill(alloc, Held::Split(splitter))?;
+            Ok(())
+        }
         Err(error) => Err(Failure::Library(error)),
     }
 }
 
-fn put_items(
-    alloc: Global,
-    modules: SplitRamBundleModuleIter<'_>,
-    split: &mut Handle,
-) -> Outcome<()>
-    ensures { Does result (items_in (held_in split.new) ≡ Some (map due_value (dues_left modules.entry)))
-        (OfLibrary NoError) (held_in split.new ≡ held_in split.old) }
-{
-    let items = items_of(alloc, modules)?;
-    split.fill(alloc, Held::Split(items))?;
-    Ok(())
-}
-
-fn items_of(
-    alloc: Global,
-    mut modules: SplitRamBundleModuleIter<'_>,
-) -> Result<Vec<Result<SplitModule>>>
-    ensures items { IfOk result (λ items. map item_value items.items ≡ map due_value (dues_left modules.entry)) }
-    ensures memory { IfErr result (λ e. e ≡ OutOfMemory) }
-{
-    let mut items = Vec::new(alloc);
-    while let Some(parts) = modules.next() {
-        items.push(item_with(alloc, parts)?)?;
-    }
-    Ok(items)
-}
-
-// Makes an item from the parts of a module. The map of the module is moved to an `Arc`, so that
-// several handles can share the map. If `parts` is an error other than `OutOfMemory`, the item is
-// this error. The call returns the error `OutOfMemory` if `parts` is `OutOfMemory`, or if there is
-// no memory for the `Arc`.
-fn item_with(
-    alloc: Global,
-    parts: Result<(String, SourceView, SourceMap)>,
-) -> Result<Result<SplitModule>>
-    ensures { Makes result (λ due. Gives parts_value parts due) }
-{
-    match parts {
-        Ok((name, text, map)) => {
-            let map = Arc::new(alloc, DecodedMap::Regular(map))?;
-            Ok(Ok(SplitModule { name, text, map }))
-        }
-        Err(Error::OutOfMemory) => Err(Error::OutOfMemory),
-        Err(error) => Ok(Err(error)),
-    }
-}
-
-fn items_in<'a>(handle: &'a mut Handle) -> Option<&'a [Result<SplitModule>]>
-    ensures* after { sem 𝓛 (EndsAsBefore handle.entry) }
-    ensures value { option_map (λ items. map item_value items.now) result ≡ items_in (held_in handle.old) }
-{
-    match handle.get() {
-        Some(Held::Split(items)) => Some(items.as_slice()),
-        _ => None,
-    }
-}
-
-/// Writes the number of items of a split bundle.
-#[unsafe(no_mangle)]
-pub extern "C" fn sm_split_count(split: &mut Handle, items: &mut usize) -> u32
-    ensures items { ReturnsValue (option_map (λ list. Some (length list)) (items_in (held_in split.old)))
-        result items.old items.new }
-    ensures kept { held_in split.new ≡ held_in split.old }
-{
-    match items_in(split) {
-        Some(found) => {
-            *items = found.len();
-            OK
-        }
-        None => WRONG_KIND,
-    }
-}
-
-// The item at this index. The error is `InvalidRamBundleEntry` if the item holds an error of any
-// kind, and `Absent` if there is no such item.
-fn item_at(items: &[Result<SplitModule>], item: usize) -> Outcome<&SplitModule>
-    ensures { MatchResult result
-        (λ found. item_of (Some (map item_value items.now)) item ≡ Some (Some (Ok (module_value found.now))))
-        (IsNoItem (item_of (Some (map item_value items.now)) item)) }
-{
-    match items.get(item) {
-        Some(Ok(found)) => Ok(found),
-        Some(Err(_)) => Err(Failure::Library(Error::InvalidRamBundleEntry)),
-        None => Err(Failure::Absent),
-    }
-}
-
-/// Borrows the name and the text of an item.
-#[unsafe(no_mangle)]
-pub extern "C" fn sm_split_item<'a>(
-    alloc: Global,
-    split: &'a mut Handle,
-    item: usize,
-    name: &mut &'a [u8],
-    text: &mut &'a [u8],
-    error: &mut ErrorReport,
-) -> u32
-    ensures* after { sem 𝓛 (EndsAsBefore split.entry) }
-    ensures answer { Answers result error.old error.new
-        (IsNamed (item_of (items_in (held_in split.old)) item) name.new.now text.new.now)
-        (IsNoItem (item_of (items_in (held_in split.old)) item))
-        ((name.new.now ≡ name.old.now) × (text.new.now ≡ text.old.now)) }
-{
-    answer_texts(alloc, split.get(), item, name, text, error)
-}
-
-fn answer_texts<'a>(
-    alloc: Global,
-    held: Option<&'a Held>,
-    item: usize,
-    name: &mut &'a [u8],
-    text: &mut &'a [u8],
-    error: &mut ErrorReport,
-) -> u32
-    ensures { Answers result error.old error.new
-        (IsNamed (item_of (items_in (option_copied held.entry)) item) name.new.now text.new.now)
-        (IsNoItem (item_of (items_in (option_copied held.entry)) item))
-        ((name.new.now ≡ name.old.now) × (text.new.now ≡ text.old.now)) }
-{
-    finish(alloc, put_texts(held, item, name, text), error)
-}
-
-fn put_texts<'a>(
-    held: Option<&'a Held>,
-    item: usize,
-    name: &mut &'a [u8],
-    text: &mut &'a [u8],
-) -> Outcome<()>
-    ensures { Does result
-        (IsNamed (item_of (items_in (option_copied held.entry)) item) name.new.now text.new.now)
-        (IsNoItem (item_of (items_in (option_copied held.entry)) item))
-        ((name.new.now ≡ name.old.now) × (text.new.now ≡ text.old.now)) }
-{
-    match held {
-        Some(Held::Split(items)) => put_texts_of(items.as_slice(), item, name, text),
-        _ => Err(Failure::WrongKind),
-    }
-}
-
-fn put_texts_of<'a>(
-    items: &'a [Result<SplitModule>],
-    item: usize,
-    name: &mut &'a [u8],
-    text: &mut &'a [u8],
-) -> Outcome<()>
-    ensures { Does result (IsNamed (item_of (Some (map item_value items.now)) item) name.new.now text.new.now)
-        (IsNoItem (item_of (Some (map item_value items.now)) item))
-        ((name.new.now ≡ name.old.now) × (text.new.now ≡ text.old.now)) }
-{
-    match item_at(items, item) {
-        Ok(found) => {
-            *name = found.name.as_bytes();
-            *text = found.text.source().as_bytes();
-            Ok(())
-        }
-        Err(failure) => Err(failure),
-    }
-}
-
-/// Fills `to` with the map of an item. The map is not copied: `split` and `to` share it.
+/// Fills `map` with the map of module `id` of the bundle.
 #[unsafe(no_mangle)]
 pub extern "C" fn sm_split_map(
     alloc: Global,
     split: &mut Handle,
-    item: usize,
-    to: &mut Handle,
+    bundle: &mut Handle,
+    id: usize,
+    map: &mut Handle,
     error: &mut ErrorReport,
 ) -> u32
     ensures map { Answers result error.old error.new
-        (HasMap (item_of (items_in (held_in split.old)) item) (tree_in (held_in to.new)))
-        (IsNoItem (item_of (items_in (held_in split.old)) item)) (held_in to.new ≡ held_in to.old) }
-    ensures kept { held_in split.new ≡ held_in split.old }
+        (HasMap (due_in (held_in split.old) (bundle_in (held_in bundle.old)) id) (tree_in (held_in map.new)))
+        (IsNoItem (due_in (held_in split.old) (bundle_in (held_in bundle.old)) id))
+        (held_in map.new ≡ held_in map.old) }
+    ensures split { held_in split.new ≡ held_in split.old }
+    ensures bundle { held_in bundle.new ≡ held_in bundle.old }
 {
-    finish(alloc, put_map_of(alloc, split, item, to), error)
+    finish(alloc, split_map(alloc, split, bundle, id, map), error)
 }
 
-fn put_map_of(alloc: Global, split: &mut Handle, item: usize, to: &mut Handle) -> Outcome<()>
-    ensures map { Does result (HasMap (item_of (items_in (held_in split.old)) item) (tree_in (held_in to.new)))
-        (IsNoItem (item_of (items_in (held_in split.old)) item)) (held_in to.new ≡ held_in to.old) }
-    ensures kept { held_in split.new ≡ held_in split.old }
+fn split_map(
+    alloc: Global,
+    split: &mut Handle,
+    bundle: &mut Handle,
+    id: usize,
+    map: &mut Handle,
+) -> Outcome<()>
+    ensures map { Does result
+        (HasMap (due_in (held_in split.old) (bundle_in (held_in bundle.old)) id) (tree_in (held_in map.new)))
+        (IsNoItem (due_in (held_in split.old) (bundle_in (held_in bundle.old)) id))
+        (held_in map.new ≡ held_in map.old) }
+    ensures split { held_in split.new ≡ held_in split.old }
+    ensures bundle { held_in bundle.new ≡ held_in bundle.old }
 {
-    match items_in(split) {
-        Some(items) => put_map_at(alloc, items, item, to),
+    match bundle_in(bundle) {
+        Some(bundle) => map_of_module(alloc, split, bundle, id, map),
         None => Err(Failure::WrongKind),
     }
 }
 
-fn put_map_at(
+fn map_of_module(
     alloc: Global,
-    items: &[Result<SplitModule>],
-    item: usize,
-    to: &mut Handle,
+    split: &mut Handle,
+    bundle: &RamBundle<'static>,
+    id: usize,
+    map: &mut Handle,
 ) -> Outcome<()>
-    ensures { Does result (HasMap (item_of (Some (map item_value items.now)) item) (tree_in (held_in to.new)))
-        (IsNoItem (item_of (Some (map item_value items.now)) item)) (held_in to.new ≡ held_in to.old) }
+    ensures map { Does result (HasMap (due_in (held_in split.old) (Some bundle.now) id) (tree_in (held_in map.new)))
+        (IsNoItem (due_in (held_in split.old) (Some bundle.now) id)) (held_in map.new ≡ held_in map.old) }
+    ensures split { held_in split.new ≡ held_in split.old }
 {
-    match item_at(items, item) {
-        Ok(found) => put_shared_map(alloc, found, to),
-        Err(failure) => Err(failure),
+    match split.take(alloc) {
+        Some(mut held) => {
+            let outcome = put_map_of(alloc, &mut held, bundle, id, map);
+            split.put(held);
+            outcome
+        }
+        None => Err(Failure::WrongKind),
     }
 }
 
-fn put_shared_map(alloc: Global, found: &SplitModule, to: &mut Handle) -> Outcome<()>
-    ensures { Does result (tree_in (held_in to.new) ≡ Some (module_value found.now).tree) (OfLibrary NoError)
-        (held_in to.new ≡ held_in to.old) }
+fn put_map_of(
+    alloc: Global,
+    held: &mut Held,
+    bundle: &RamBundle<'static>,
+    id: usize,
+    map: &mut Handle,
+) -> Outcome<()>
+    ensures map { Does result (HasMap (due_in (Some held.old) (Some bundle.now) id) (tree_in (held_in map.new)))
+        (IsNoItem (due_in (Some held.old) (Some bundle.now) id)) (held_in map.new ≡ held_in map.old) }
+    ensures held { held.new ≡ held.old }
 {
-    put_shared(alloc, to, Arc::try_clone(&found.map)?)
+    match held {
+        Held::Split(splitter) => put_part(alloc, splitter.part(bundle, id), map),
+        _ => Err(Failure::WrongKind),
+    }
+}
+
+fn put_part(
+    alloc: Global,
+    part: Option<Result<(String, SourceView, SourceMap)>>,
+    map: &mut Handle,
+) -> Outcome<()>
+    ensures { (due : Option (Result ModuleParts Error)) → YieldsPart parts_value part due
+        → Does result (HasMap (Some due) (tree_in (held_in map.new)))
+        (IsNoItem (Some due)) (held_in map.new ≡ held_in map.old) }
+{
+    match part {
+        Some(Ok((_, _, made))) => put_map(alloc, map, DecodedMap::Regular(made)),
+        Some(Err(error)) => Err(Failure::Library(error)),
+        None => Err(Failure::Absent),
+    }
 }

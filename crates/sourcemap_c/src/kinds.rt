@@ -80,19 +80,12 @@ pub(crate) fn put_map(alloc: Global, handle: &mut Handle, map: DecodedMap) -> Ou
         (OfLibrary NoError) (held_in handle.new ≡ held_in handle.old) }
 {
     match Arc::new(alloc, map) {
-        Ok(map) => put_shared(alloc, handle, map),
+        Ok(map) => {
+            handle.fill(alloc, Held::Map(map))?;
+            Ok(())
+        }
         Err(_) => Err(Failure::Library(Error::OutOfMemory)),
     }
-}
-
-/// Fills the handle with a map that other handles may share. The only error is `OutOfMemory`; then
-/// the handle is unchanged.
-pub(crate) fn put_shared(alloc: Global, handle: &mut Handle, map: Arc<DecodedMap>) -> Outcome<()>
-    ensures { Does result (tree_in (held_in handle.new) ≡ tree_in (Some (Held.Map map)))
-        (OfLibrary NoError) (held_in handle.new ≡ held_in handle.old) }
-{
-    handle.fill(alloc, Held::Map(map))?;
-    Ok(())
 }
 
 /// Fills the handle with a text. The only error is `OutOfMemory`; then the handle is unchanged.

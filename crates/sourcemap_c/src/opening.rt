@@ -1,5 +1,5 @@
 //! Calls that open, share and close handles.
-ghost use Rattle.std.specs.Prelude.{◌≡◌, ◌↔◌, ◌≢◌, Err, IsTrue, None, Ok, Some};
+ghost use Rattle.std.specs.Prelude.{◌≡◌, ◌↔◌, Err, IsTrue, MatchResult, None, Ok, Some};
 ghost use Rattle.std.specs.Str.{IsUtf8};
 ghost use Rattle.sourcemap_records.specs.Detection.{AreMap};
 ghost use Rattle.sourcemap_c_handles.specs.Handles.{held_in};
@@ -8,11 +8,11 @@ ghost use Rattle.sourcemap_index.specs.Family.{map_tree};
 ghost use Rattle.sourcemap_index_model.specs.MapTree.{MapTree};
 ghost use Rattle.sourcemap_index_model.specs.WellFormed.{IsWellFormed};
 ghost use Rattle.sourcemap_c.specs.Codes.{Answers, Does, NoError, OfLibrary, OfLibraryOrKind};
-ghost use Rattle.sourcemap_c.specs.Kinds.{kind_of, number_of, tree_in};
-ghost use Rattle.sourcemap_c.specs.Opening.{AreNoUrl, Holds};
+ghost use Rattle.sourcemap_c.specs.Kinds.{kind_of, number_of, shareable_in, tree_in};
+ghost use Rattle.sourcemap_c.specs.Opening.{AreNoUrl, Holds, IsShared};
 
 use crate::codes::text_in;
-use crate::kinds::{kind_of, put_map, put_shared};
+use crate::kinds::{kind_of, put_map};
 use sourcemap::{DecodedMap, Error, decode_data_url, decode_slice, is_sourcemap_slice};
 use sourcemap_c_handles::errors::{ErrorReport, Failure, Outcome, finish};
 use sourcemap_c_handles::{Handle, Held};
@@ -20,12 +20,12 @@ use std::alloc::Global;
 use std::sync::Arc;
 
 // `SM_INTERFACE` of the C header.
-const INTERFACE: u32 = 1;
+const INTERFACE: u32 = 2;
 
 /// The version of the interface.
 #[unsafe(no_mangle)]
 pub extern "C" fn sm_interface() -> u32
-    ensures { result ≡ 1 }
+    ensures { result ≡ 2 }
 {
     INTERFACE
 }
@@ -103,30 +103,56 @@ fn open_text(alloc: Global, map: &mut Handle, url: &str) -> Outcome<()>
     }
 }
 
-/// Fills `other` with the map in `map`. The map is not copied: both handles share it.
+/// Fills `other` with the map, the text or the RAM bundle in `handle`. It is not copied: both
+/// handles share it.
 #[unsafe(no_mangle)]
 pub extern "C" fn sm_share(
     alloc: Global,
-    map: &mut Handle,
+    handle: &mut Handle,
     other: &mut Handle,
     error: &mut ErrorReport,
 ) -> u32
     ensures shared { Answers result error.old error.new
-        ((tree_in (held_in map.old) ≢ None) × (tree_in (held_in other.new) ≡ tree_in (held_in map.old)))
-        (OfLibraryOrKind NoError (tree_in (held_in map.old) ≡ None)) (held_in other.new ≡ held_in other.old) }
-    ensures kept { held_in map.new ≡ held_in map.old }
+        (IsShared (shareable_in (held_in handle.old)) (shareable_in (held_in other.new)))
+        (OfLibraryOrKind NoError (shareable_in (held_in handle.old) ≡ None)) (held_in other.new ≡ held_in other.old) }
+    ensures kept { held_in handle.new ≡ held_in handle.old }
 {
-    finish(alloc, share(alloc, map, other), error)
+    finish(alloc, share(alloc, handle, other), error)
 }
 
-fn share(alloc: Global, map: &mut Handle, other: &mut Handle) -> Outcome<()>
+fn share(alloc: Global, handle: &mut Handle, other: &mut Handle) -> Outcome<()>
     ensures shared { Does result
-        ((tree_in (held_in map.old) ≢ None) × (tree_in (held_in other.new) ≡ tree_in (held_in map.old)))
-        (OfLibraryOrKind NoError (tree_in (held_in map.old) ≡ None)) (held_in other.new ≡ held_in other.old) }
-    ensures kept { held_in map.new ≡ held_in map.old }
+        (IsShared (shareable_in (held_in handle.old)) (shareable_in (held_in other.new)))
+        (OfLibraryOrKind NoError (shareable_in (held_in handle.old) ≡ None)) (held_in other.new ≡ held_in other.old) }
+    ensures kept { held_in handle.new ≡ held_in handle.old }
 {
-    match map.get() {
-        Some(Held::Map(map)) => put_shared(alloc, other, Arc::try_clone(map)?),
+    match handle.get() {
+        Some(held) => put_share(alloc, held, other),
+        None => Err(Failure::WrongKind),
+    }
+}
+
+fn put_share(alloc: Global, held: &Held, other: &mut Handle) -> Outcome<()>
+    ensures { Does result (IsShared (shareable_in (Some held.now)) (shareable_in (held_in other.new)))
+        (OfLibraryOrKind NoError (shareable_in (Some held.now) ≡ None)) (held_in other.new ≡ held_in other.old) }
+{
+    match share_of(held) {
+        Ok(share) => {
+            other.fill(alloc, share)?;
+            Ok(())
+        }
+        Err(failure) => Err(failure),
+    }
+}
+
+fn share_of(held: &Held) -> Outcome<Held>
+    ensures { MatchResult result (λ share. IsShared (shareable_in (Some held.now)) (shareable_in (Some share)))
+        (OfLibraryOrKind NoError (shareable_in (Some held.now) ≡ None)) }
+{
+    match held {
+        Held::Map(map) => Ok(Held::Map(Arc::try_clone(map)?)),
+        Held::View(view) => Ok(Held::View(Arc::try_clone(view)?)),
+        Held::Bundle(bundle) => Ok(Held::Bundle(Arc::try_clone(bundle)?)),
         _ => Err(Failure::WrongKind),
     }
 }

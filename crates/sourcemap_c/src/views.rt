@@ -13,13 +13,14 @@ use sourcemap::SourceView;
 use sourcemap_c_handles::errors::{ErrorReport, Failure, Outcome, finish};
 use sourcemap_c_handles::{Handle, Held};
 use std::alloc::Global;
+use std::sync::Arc;
 
 pub(crate) fn view_in<'a>(handle: &'a mut Handle) -> Option<&'a SourceView>
     ensures* after { sem 𝓛 (EndsAsBefore handle.entry) }
     ensures value { option_copied result ≡ view_in (held_in handle.old) }
 {
     match handle.get() {
-        Some(Held::View(view)) => Some(view),
+        Some(Held::View(view)) => Some(&**view),
         _ => None,
     }
 }
@@ -44,7 +45,7 @@ fn open(alloc: Global, view: &mut Handle, text: &[u8]) -> Outcome<()>
         (held_in view.new ≡ held_in view.old) }
 {
     let made = SourceView::new(alloc, text_in(text)?)?;
-    view.fill(alloc, Held::View(made))?;
+    view.fill(alloc, Held::View(Arc::new(alloc, made)?))?;
     Ok(())
 }
 

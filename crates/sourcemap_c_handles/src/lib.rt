@@ -9,4 +9,4 @@ pub mod no_files;
 pub(crate) mod sealed;
 
 pub use handle::Handle;
-pub use held::{Held, SplitModule};
+pub use held::Held;

@@ -15,7 +15,7 @@ pub struct SourceMapHermes {
 
 impl SourceMapHermes {
     ghost use Rattle.sourcemap_map_regular.specs.Token.{token_value, lookup};
-    ghost use Rattle.sourcemap_hermes_scopes.specs.SourceScopes.{AreFewScopes, AreOfEntries, IsInOrderAt};
+    ghost use Rattle.sourcemap_hermes_scopes.specs.SourceScopes.{AreFewScopes, AreOfEntries, IsInOrderAt, scope_at};
     ghost use Rattle.sourcemap_hermes.specs.Map.{hermes_value, function_name, token_scope};
 
     /// The number of entries of scopes. The index of an entry is the id of its source. A source has
@@ -28,6 +28,17 @@ impl SourceMapHermes {
         ensures of_entries { AreOfEntries (hermes_value self.now).scopes }
     {
         self.scopes.count()
+    }
+
+    /// The name of the function that contains a position of the source with this id. Line and
+    /// column count from 0. `None` if the source has no function map, if no function starts at or
+    /// before the position, or if the function has no name. If the functions of the source are not
+    /// sorted by start position, the result may be wrong.
+    pub fn get_scope(&self, source: u32, line: u32, col: u32) -> Option<&str>
+        ensures { IsInOrderAt (hermes_value self.now).scopes source
+            → option_copied result ≡ scope_at (hermes_value self.now).scopes source (line, col) }
+    {
+        self.scopes.scope(source, line, col)
     }
 
     /// The name of the function that contains a token's original position. The original column is

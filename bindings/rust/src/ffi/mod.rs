@@ -10,7 +10,7 @@ use std::os::raw::c_void;
 use crate::debug_id::DebugId;
 use crate::types::RawToken;
 
-pub const SM_INTERFACE: u32 = 1;
+pub const SM_INTERFACE: u32 = 2;
 pub const SM_NONE: u32 = u32::MAX;
 
 pub type Code = u32;
@@ -161,7 +161,7 @@ extern "C" {
     pub fn sm_close(handle: *mut Handle);
     pub fn sm_open(map: *mut Handle, bytes: *const u8, length: usize, error: *mut Error) -> Code;
     pub fn sm_open_url(map: *mut Handle, url: *const u8, length: usize, error: *mut Error) -> Code;
-    pub fn sm_share(map: *mut Handle, other: *mut Handle, error: *mut Error) -> Code;
+    pub fn sm_share(handle: *mut Handle, other: *mut Handle, error: *mut Error) -> Code;
     pub fn sm_is_source_map(bytes: *const u8, length: usize, answer: *mut bool, error: *mut Error) -> Code;
     pub fn sm_equal(map: *mut Handle, other: *mut Handle, answer: *mut bool) -> Code;
     pub fn sm_hermes_map(map: *mut Handle, regular: *mut Handle, error: *mut Error) -> Code;
@@ -178,6 +178,7 @@ extern "C" {
     pub fn sm_token_text(map: *mut Handle, index: u32, text: *mut Handle, error: *mut Error) -> Code;
     pub fn sm_module_offsets(map: *mut Handle, first: u32, offsets: *mut u32, length: usize, written: *mut usize) -> Code;
     pub fn sm_module_path(map: *mut Handle, id: u32, text: *mut Text) -> Code;
+    pub fn sm_module_path_count(map: *mut Handle, paths: *mut usize) -> Code;
 
     pub fn sm_lookup(map: *mut Handle, line: u32, column: u32, found: *mut Found) -> Code;
     pub fn sm_lookup_many(map: *mut Handle, positions: *const Position, count: usize, found: *mut Found, length: usize) -> usize;
@@ -189,6 +190,7 @@ extern "C" {
     pub fn sm_trace(map: *mut Handle, positions: *const u8, length: usize, text: *mut Handle, error: *mut Error) -> Code;
     pub fn sm_function_name(map: *mut Handle, line: u32, column: u32, minified: *const u8, length: usize, view: *mut Handle, text: *mut Text) -> Code;
     pub fn sm_hermes_function_name(map: *mut Handle, offset: u32, text: *mut Text) -> Code;
+    pub fn sm_scope_for(map: *mut Handle, source: u32, line: u32, column: u32, text: *mut Text) -> Code;
 
     pub fn sm_rewrite(map: *mut Handle, with_names: bool, with_contents: bool, prefixes: *const Text, count: usize, error: *mut Error) -> Code;
     pub fn sm_flatten(map: *mut Handle, error: *mut Error) -> Code;
@@ -246,10 +248,8 @@ extern "C" {
     pub fn sm_bundle_count(bundle: *mut Handle, modules: *mut usize) -> Code;
     pub fn sm_bundle_startup(bundle: *mut Handle, bytes: *mut Text, error: *mut Error) -> Code;
     pub fn sm_bundle_module(bundle: *mut Handle, id: usize, bytes: *mut Text, error: *mut Error) -> Code;
-    pub fn sm_bundle_split(bundle: *mut Handle, index: *mut Handle, split: *mut Handle, error: *mut Error) -> Code;
-    pub fn sm_split_count(split: *mut Handle, items: *mut usize) -> Code;
-    pub fn sm_split_item(split: *mut Handle, item: usize, name: *mut Text, text: *mut Text, error: *mut Error) -> Code;
-    pub fn sm_split_map(split: *mut Handle, item: usize, map: *mut Handle, error: *mut Error) -> Code;
+    pub fn sm_split_open(split: *mut Handle, index: *mut Handle, error: *mut Error) -> Code;
+    pub fn sm_split_map(split: *mut Handle, bundle: *mut Handle, id: usize, map: *mut Handle, error: *mut Error) -> Code;
 }
 
 #[cfg(test)]

@@ -1,13 +1,18 @@
 //! Maps that are being built.
 
+use std::sync::{Mutex, PoisonError};
+
 use super::{check, check_if_any, optional, texts_of, Handle, MapHandle};
 use crate::debug_id::DebugId;
 use crate::errors::{Error, Result};
 use crate::ffi;
 use crate::types::RawToken;
 
-/// A map that is being built.
-pub(crate) struct BuilderHandle(Handle);
+/// A map that is being built. The lock is for the one call that does not change it.
+pub(crate) struct BuilderHandle(Handle, Mutex<()>);
+
+// SAFETY: the calls that borrow the handle immutably take the lock.
+unsafe impl Sync for BuilderHandle {}
 
 impl BuilderHandle {
     pub fn new() -> Result<BuilderHandle> {
@@ -16,7 +21,7 @@ impl BuilderHandle {
         Handle::fill(|builder, error| unsafe {
             ffi::sm_builder_new(builder, present, at, length, error)
         })
-        .map(BuilderHandle)
+        .map(|handle| BuilderHandle(handle, Mutex::default()))
     }
 
     pub fn set_source_root(&mut self, root: Option<&str>) -> Result<()> {
@@ -56,6 +61,7 @@ impl BuilderHandle {
     }
 
     pub fn source(&self, id: u32) -> Option<&str> {
+        let _alone = self.1.lock().unwrap_or_else(PoisonError::into_inner);
         // SAFETY: the text is in the builder.
         unsafe {
             self.0
@@ -104,7 +110,6 @@ impl BuilderHandle {
 
     pub fn finish(self) -> Result<MapHandle> {
         // SAFETY: both are handles, and not the same.
-        Handle::fill(|map, error| unsafe { ffi::sm_builder_finish(self.0.at(), map, error) })
-            .map(MapHandle)
+        MapHandle::fill(|map, error| unsafe { ffi::sm_builder_finish(self.0.at(), map, error) })
     }
 }

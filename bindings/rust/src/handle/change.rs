@@ -10,7 +10,7 @@ impl MapHandle {
         &mut self,
         call: impl FnOnce(*mut ffi::Handle, *mut ffi::Error) -> ffi::Code,
     ) -> Result<()> {
-        check(|error| call(self.0.at(), error))
+        self.0.change(|map| check(|error| call(map, error)))
     }
 
     /// Makes a change of a source, and returns whether the source exists.
@@ -18,7 +18,7 @@ impl MapHandle {
         &mut self,
         call: impl FnOnce(*mut ffi::Handle, *mut ffi::Error) -> ffi::Code,
     ) -> Result<bool> {
-        check_if_any(|error| call(self.0.at(), error))
+        self.0.change(|map| check_if_any(|error| call(map, error)))
     }
 
     pub fn rewrite(
@@ -48,7 +48,7 @@ impl MapHandle {
 
     pub fn compose(&mut self, adjustment: &MapHandle) -> Result<()> {
         // SAFETY: both are handles. One is borrowed mutably, so they differ.
-        self.change(|map, error| unsafe { ffi::sm_compose(map, adjustment.0.at(), error) })
+        self.change(|map, error| unsafe { ffi::sm_compose(map, adjustment.0.take().at(), error) })
     }
 
     /// Moves the sections of an index map further down. Returns false, with nothing
@@ -56,7 +56,8 @@ impl MapHandle {
     pub fn shift(&mut self, lines: u32) -> Result<bool> {
         let mut error = ffi::Error::NONE;
         // SAFETY: it is a handle.
-        match unsafe { ffi::sm_shift(self.0.at(), lines, &mut error) } {
+        let shift = |map| unsafe { ffi::sm_shift(map, lines, &mut error) };
+        match self.0.change(shift) {
             ffi::SM_OK => Ok(true),
             ffi::SM_PAST_LIMIT => Ok(false),
             code => Err(Error::of_call(code, &error)),

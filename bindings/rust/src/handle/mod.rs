@@ -1,7 +1,8 @@
 //! Handles of the library, and its calls as safe functions.
 //!
 //! This module keeps to what `sourcemap.h` asks of a caller. A handle is used by one
-//! call at a time, since it is not `Sync` and the library does not call Rust code. A
+//! call at a time: it is not `Sync`, the library does not call Rust code, and a value that
+//! threads share gives each call a handle that no other call has (see `shared`). A
 //! text that points into a handle is borrowed from it. A function that changes a
 //! handle borrows the handle mutably. A pointer is never null, not even that of an
 //! empty slice.
@@ -14,6 +15,7 @@ mod map;
 mod reference;
 mod sections;
 mod segment;
+mod shared;
 mod view;
 
 use std::cell::UnsafeCell;
@@ -24,7 +26,7 @@ use std::sync::Once;
 pub(crate) use self::build::BuilderHandle;
 pub(crate) use self::bundle::{BundleHandle, SplitHandle};
 pub(crate) use self::debug_id::{debug_id_text, parse_debug_id};
-pub(crate) use self::map::{is_source_map, Kind, MapHandle, Span};
+pub(crate) use self::map::{is_source_map, Kind, MapHandle};
 pub(crate) use self::reference::{
     locate_reference, relative_path, resolve, resolve_path, Reference,
 };
@@ -85,35 +87,18 @@ impl Handle {
         Ok(Handle::fill_if_any(call)?.map(|text| text.made_text().to_owned()))
     }
 
-    /// The bytes that a call points to in this handle.
-    ///
-    /// # Safety
-    ///
-    /// The call writes only texts that point into this handle.
-    unsafe fn bytes(
-        &self,
-        ask: impl FnOnce(*mut ffi::Handle, *mut ffi::Text) -> ffi::Code,
-    ) -> Option<&[u8]> {
-        let mut text = ffi::Text::EMPTY;
-        match ask(self.at(), &mut text) {
-            // SAFETY: the text is in this handle, which does not change while it
-            // is borrowed.
-            ffi::SM_OK => Some(unsafe { text.bytes() }),
-            _ => None,
-        }
-    }
-
     /// The text that a call points to in this handle.
     ///
     /// # Safety
     ///
-    /// As of [`Handle::bytes`], and the text is UTF-8.
+    /// As of [`lent_text`].
     unsafe fn text(
         &self,
         ask: impl FnOnce(*mut ffi::Handle, *mut ffi::Text) -> ffi::Code,
     ) -> Option<&str> {
-        // SAFETY: what this function asks of its caller.
-        unsafe { self.bytes(ask).map(|bytes| as_text(bytes)) }
+        // SAFETY: what this function asks of its caller. The handle does not change while
+        // it is borrowed.
+        unsafe { lent_text(|text| ask(self.at(), text)) }
     }
 
     /// The text of a handle that a call filled with one.
@@ -127,6 +112,21 @@ impl Drop for Handle {
     fn drop(&mut self) {
         // SAFETY: the handle is not used afterwards.
         unsafe { ffi::sm_close(self.at()) }
+    }
+}
+
+/// The text that a call points to.
+///
+/// # Safety
+///
+/// If the call succeeds, it points to UTF-8 that lives as long as `'a`, unchanged.
+#[inline]
+unsafe fn lent_text<'a>(ask: impl FnOnce(*mut ffi::Text) -> ffi::Code) -> Option<&'a str> {
+    let mut text = ffi::Text::EMPTY;
+    match ask(&mut text) {
+        // SAFETY: what this function asks of its caller.
+        ffi::SM_OK => Some(unsafe { as_text(text.bytes()) }),
+        _ => None,
     }
 }
 

@@ -24,7 +24,8 @@ impl SectionsHandle {
     ) -> Result<()> {
         let (has_url, at, length) = optional(url);
         let none = Handle::empty();
-        let handle = map.map_or(&none, |map| &map.0);
+        let taken = map.map(|map| map.0.take());
+        let map_at = taken.as_ref().map_or(none.at(), |map| map.at());
         // SAFETY: the text is where it says, and both are handles, not the same.
         check(|error| unsafe {
             ffi::sm_sections_add(
@@ -35,7 +36,7 @@ impl SectionsHandle {
                 at,
                 length,
                 map.is_some(),
-                handle.at(),
+                map_at,
                 error,
             )
         })
@@ -57,7 +58,7 @@ impl SectionsHandle {
         let texts = texts_of(paths.unwrap_or_default());
         // SAFETY: the lists and texts are where they say, and both are handles,
         // not the same.
-        Handle::fill(|map, error| unsafe {
+        MapHandle::fill(|map, error| unsafe {
             ffi::sm_sections_finish(
                 self.0.at(),
                 map,
@@ -73,6 +74,5 @@ impl SectionsHandle {
                 error,
             )
         })
-        .map(MapHandle)
     }
 }

@@ -1,6 +1,5 @@
 //! Index maps.
 
-use std::cell::OnceCell;
 use std::fmt;
 use std::io::{Read, Write};
 
@@ -8,6 +7,7 @@ use crate::debug_id::DebugId;
 use crate::decoder::{decode, decode_slice};
 use crate::errors::{Error, Result};
 use crate::handle::{MapHandle, SectionsHandle};
+use crate::once::Once;
 use crate::sourceview::SourceView;
 use crate::types::{DecodedMap, RewriteOptions, SourceMap, Token};
 use crate::utils::{must, write_all};
@@ -32,23 +32,23 @@ pub struct SourceMapSectionIter<'a> {
 pub struct SourceMapIndex {
     // Either the handle exists, and the lists are read from it on first use; or all
     // fields below are set, and the handle is made of them on first use.
-    handle: OnceCell<MapHandle>,
+    handle: Once<MapHandle>,
     file: Option<String>,
     debug_id: Option<DebugId>,
-    sections: OnceCell<Vec<SourceMapSection>>,
-    module_offsets: OnceCell<Option<Vec<Option<u32>>>>,
-    module_paths: OnceCell<Option<Vec<String>>>,
+    sections: Once<Vec<SourceMapSection>>,
+    module_offsets: Once<Option<Vec<Option<u32>>>>,
+    module_paths: Once<Option<Vec<String>>>,
 }
 
 impl SourceMapIndex {
     pub(crate) fn of_handle(handle: MapHandle) -> SourceMapIndex {
         SourceMapIndex {
-            handle: OnceCell::from(handle),
+            handle: Once::from(handle),
             file: None,
             debug_id: None,
-            sections: OnceCell::new(),
-            module_offsets: OnceCell::new(),
-            module_paths: OnceCell::new(),
+            sections: Once::new(),
+            module_offsets: Once::new(),
+            module_paths: Once::new(),
         }
     }
 
@@ -75,12 +75,12 @@ impl SourceMapIndex {
         x_metro_module_paths: Option<Vec<String>>,
     ) -> SourceMapIndex {
         SourceMapIndex {
-            handle: OnceCell::new(),
+            handle: Once::new(),
             file,
             debug_id: None,
-            sections: OnceCell::from(sections),
-            module_offsets: OnceCell::from(x_facebook_offsets),
-            module_paths: OnceCell::from(x_metro_module_paths),
+            sections: Once::from(sections),
+            module_offsets: Once::from(x_facebook_offsets),
+            module_paths: Once::from(x_metro_module_paths),
         }
     }
 
@@ -146,26 +146,41 @@ impl SourceMapIndex {
     }
 
     pub(crate) fn debug_id(&self) -> Option<DebugId> {
-        self.handle().debug_id()
+        match self.handle.get() {
+            Some(handle) => handle.debug_id(),
+            None => self.debug_id,
+        }
     }
 
     pub(crate) fn set_debug_id(&mut self, debug_id: Option<DebugId>) {
-        must(self.handle_mut().set_debug_id(debug_id));
+        match self.handle.get_mut() {
+            Some(handle) => must(handle.set_debug_id(debug_id)),
+            None => self.debug_id = debug_id,
+        }
     }
 
     /// Returns the name of the generated file.
     pub fn get_file(&self) -> Option<&str> {
-        self.handle().file()
+        match self.handle.get() {
+            Some(handle) => handle.file(),
+            None => self.file.as_deref(),
+        }
     }
 
     /// Sets or removes the name of the generated file.
     pub fn set_file(&mut self, value: Option<&str>) {
-        must(self.handle_mut().set_file(value));
+        match self.handle.get_mut() {
+            Some(handle) => must(handle.set_file(value)),
+            None => self.file = value.map(str::to_owned),
+        }
     }
 
     /// Returns how many sections there are, but at most 4294967295.
     pub fn get_section_count(&self) -> u32 {
-        self.handle().counts().sections
+        match self.sections.get() {
+            Some(sections) => u32::try_from(sections.len()).unwrap_or(u32::MAX),
+            None => self.handle().counts().sections,
+        }
     }
 
     /// Returns the section with this number, counted from 0, or none if there is no
@@ -174,9 +189,9 @@ impl SourceMapIndex {
         self.section_list().get(idx as usize)
     }
 
-    /// Returns the section with this number, to be changed. The next call that the
-    /// library answers then builds the index map anew. Lookups of tokens, and calls
-    /// that return sections, do not build it.
+    /// Returns the section with this number, to be changed. The next call that writes,
+    /// flattens, splits by, shifts or compares the index map, or names a function, then builds
+    /// it anew, with copies of all sections.
     pub fn get_section_mut(&mut self, idx: u32) -> Option<&mut SourceMapSection> {
         self.get_section(idx)?;
         self.drop_handle();
@@ -255,8 +270,7 @@ impl SourceMapIndex {
         self.flatten()?.rewrite(options)
     }
 
-    /// Returns whether the map has both lists of a RAM bundle. In a decoded map an
-    /// empty list of paths counts as none.
+    /// Returns whether the map has both lists of a RAM bundle.
     pub fn is_for_ram_bundle(&self) -> bool {
         self.x_facebook_offsets().is_some() && self.x_metro_module_paths().is_some()
     }
@@ -273,7 +287,7 @@ impl SourceMapIndex {
     }
 
     /// Returns the paths of the modules of a RAM bundle, or none if the map has no
-    /// such list. In a decoded map an empty list counts as none.
+    /// such list.
     pub fn x_metro_module_paths(&self) -> Option<&[String]> {
         let paths = self
             .module_paths
@@ -299,11 +313,11 @@ impl SourceMapIndex {
     }
 }
 
-/// The paths of the modules of a RAM bundle. The C interface does not distinguish an
-/// empty list from none.
+/// The paths of the modules of a RAM bundle.
 fn read_module_paths(handle: &MapHandle) -> Option<Vec<String>> {
+    let count = handle.module_path_count()?;
     let paths = (0..).map_while(|id| handle.module_path(id));
-    Some(paths.map(str::to_owned).collect()).filter(|paths: &Vec<String>| !paths.is_empty())
+    Some(paths.take(count).map(str::to_owned).collect())
 }
 
 fn read_sections(handle: &MapHandle) -> Result<Vec<SourceMapSection>> {
@@ -390,7 +404,7 @@ impl Clone for SourceMapIndex {
     fn clone(&self) -> SourceMapIndex {
         let handle = self.handle.get().map(|handle| must(handle.share()));
         SourceMapIndex {
-            handle: handle.map_or_else(OnceCell::new, OnceCell::from),
+            handle: handle.map_or_else(Once::new, Once::from),
             file: self.file.clone(),
             debug_id: self.debug_id,
             sections: self.sections.clone(),

@@ -1,6 +1,5 @@
 //! Regular maps.
 
-use std::cell::OnceCell;
 use std::fmt;
 use std::io::{Read, Write};
 use std::sync::Arc;
@@ -9,8 +8,9 @@ use crate::builder::SourceMapBuilder;
 use crate::debug_id::DebugId;
 use crate::decoder::{decode, decode_slice};
 use crate::errors::{Error, Result};
-use crate::handle::{Kind, MapHandle, Span};
+use crate::handle::{Kind, MapHandle};
 use crate::local;
+use crate::once::Once;
 use crate::sourceview::SourceView;
 use crate::types::{
     DecodedMap, NameIter, RawToken, RewriteOptions, SourceContentsIter, SourceIter, Token,
@@ -20,29 +20,24 @@ use crate::utils::{must, write_all};
 
 /// A regular map, which has no sections.
 ///
-/// It may move to another thread. Two threads that use one map need a
-/// [`clone`](Clone::clone) each. A clone shares the map and copies nothing. The
-/// exception is the map in a Hermes map: cloning it may copy the map, without
-/// scopes.
+/// Threads may share it. A clone copies nothing. The exception is the map in a Hermes map:
+/// cloning it may copy the map, without scopes.
 pub struct SourceMap {
     handle: MapHandle,
-    ignored: OnceCell<Box<[u32]>>,
-    views: OnceCell<Box<[OnceCell<SourceView>]>>,
-    /// The last answer of `lookup_token`.
-    kept: Span,
+    ignored: Once<Box<[u32]>>,
+    views: Once<Box<[Once<SourceView>]>>,
     /// If this is the map in a Hermes map: a copy without scopes, made when a call
     /// needs it.
-    without_scopes: OnceCell<MapHandle>,
+    without_scopes: Once<MapHandle>,
 }
 
 impl SourceMap {
     pub(crate) fn of_handle(handle: MapHandle) -> SourceMap {
         SourceMap {
             handle,
-            ignored: OnceCell::new(),
-            views: OnceCell::new(),
-            kept: Span::empty(),
-            without_scopes: OnceCell::new(),
+            ignored: Once::new(),
+            views: Once::new(),
+            without_scopes: Once::new(),
         }
     }
 
@@ -50,7 +45,6 @@ impl SourceMap {
     fn handle_mut(&mut self) -> &mut MapHandle {
         self.ignored.take();
         self.views.take();
-        self.kept = Span::empty();
         self.without_scopes.take();
         &mut self.handle
     }
@@ -182,8 +176,8 @@ impl SourceMap {
     }
 
     /// Returns the closest token to a generated position: the first one at the
-    /// position, else the last one before it, on whichever line. The map keeps the
-    /// last answer, which makes lookups of positions in rising order quick.
+    /// position, else the last one before it, on whichever line. The map keeps a last
+    /// answer for each thread, which makes lookups of positions in rising order quick.
     ///
     /// ```
     /// # let json = br#"{"version":3,"sources":["a.js"],"names":[],"mappings":"AAAA,GAAG"}"#;
@@ -195,10 +189,8 @@ impl SourceMap {
     #[inline]
     pub fn lookup_token(&self, line: u32, col: u32) -> Option<Token<'_>> {
         let position = (line, col);
-        if !self.kept.has(position) && !self.handle.lookup_span(position, &self.kept) {
-            return None;
-        }
-        Some(Token::of_answer(self, self.kept.token(), position))
+        let answer = self.handle.lookup_kept(position)?;
+        Some(Token::of_answer(self, answer, position))
     }
 
     /// Guesses the original name of the function at a generated position.
@@ -253,7 +245,7 @@ impl SourceMap {
         let contents = self.get_source_contents(idx)?;
         let views = self.views.get_or_init(|| {
             let count = self.get_source_count();
-            (0..count).map(|_| OnceCell::new()).collect()
+            (0..count).map(|_| Once::new()).collect()
         });
         let view = views.get(idx as usize)?;
         Some(view.get_or_init(|| SourceView::of_text(contents)))
@@ -355,6 +347,10 @@ impl SourceMap {
         self.handle.tokens(first, tokens)
     }
 
+    fn raw_tokens(&self) -> Vec<RawToken> {
+        self.tokens().map(|token| token.get_raw_token()).collect()
+    }
+
     fn raw_token(&self, index: u32) -> Option<RawToken> {
         let mut token = [RawToken::ZERO];
         (self.read_tokens(index, &mut token) == 1).then(|| token[0])
@@ -405,11 +401,16 @@ impl fmt::Debug for SourceMap {
     fn fmt(&self, f: &mut fmt::Formatter<'_>) -> fmt::Result {
         f.debug_struct("SourceMap")
             .field("file", &self.get_file())
+            .field("tokens", &self.raw_tokens())
+            .field("names", &self.names().collect::<Vec<_>>())
             .field("source_root", &self.get_source_root())
+            .field("sources", &self.sources().collect::<Vec<_>>())
+            .field(
+                "sources_content",
+                &self.source_contents().collect::<Vec<_>>(),
+            )
+            .field("ignore_list", &self.ignore_list().collect::<Vec<_>>())
             .field("debug_id", &self.get_debug_id())
-            .field("sources", &self.get_source_count())
-            .field("names", &self.get_name_count())
-            .field("tokens", &self.get_token_count())
             .finish()
     }
 }

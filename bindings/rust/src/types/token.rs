@@ -51,9 +51,9 @@ impl RawToken {
 
 /// A token of a map, which it borrows.
 ///
-/// The order and the equality of tokens compare what the getters return, in this
-/// order: the generated position, the text of the source, the original position, the
-/// text of the name, and whether it is a range token.
+/// Tokens are equal if their numbers are, as [`Token::get_raw_token`] returns them. The order
+/// compares what the getters return: the generated position, the text of the source, the
+/// original position, the text of the name, and whether it is a range token.
 #[derive(Copy, Clone)]
 pub struct Token<'a> {
     sm: &'a SourceMap,
@@ -220,7 +220,7 @@ impl<'a> Token<'a> {
 
 impl PartialEq for Token<'_> {
     fn eq(&self, other: &Token<'_>) -> bool {
-        self.cmp(other).is_eq()
+        self.get_raw_token() == other.get_raw_token()
     }
 }
 

@@ -175,6 +175,40 @@ impl Drop for Folder {
 }
 
 #[test]
+fn modules_are_split_when_they_are_asked_for() {
+    // Twelve bytes, which claim 4294967295 modules: the entry of each is past the end.
+    let mut bytes = Vec::new();
+    for number in [RAM_BUNDLE_MAGIC, u32::MAX, 0] {
+        bytes.extend_from_slice(&number.to_le_bytes());
+    }
+    let bundle = RamBundle::parse_indexed_from_slice(&bytes).expect("a bundle");
+    assert_eq!(bundle.module_count(), 4_294_967_295);
+    let index = index_of("AAAA", "[0]");
+    let mut items = split_ram_bundle(&bundle, &index).expect("an index of a bundle");
+    for _ in 0..1000 {
+        assert!(matches!(
+            items.next(),
+            Some(Err(Error::InvalidRamBundleEntry))
+        ));
+    }
+    // 100,000 modules of 1,000 tokens each, of which two are made.
+    let text = vec![b'x'; 2000];
+    let mut bytes = bundle_of(&[Some(&text)]);
+    let entry = bytes[12..20].to_vec();
+    bytes.splice(12..20, entry.repeat(100_000));
+    bytes[4..8].copy_from_slice(&100_000_u32.to_le_bytes());
+    let bundle = RamBundle::parse_indexed_from_slice(&bytes).expect("a bundle");
+    let mappings = format!("AAAA{}", ",CAAC".repeat(999));
+    let index = index_of(&mappings, &format!("[{}0]", "0,".repeat(99_999)));
+    let items = split_ram_bundle(&bundle, &index).expect("an index of a bundle");
+    for (id, item) in items.take(2).enumerate() {
+        let (name, view, map) = item.expect("a module");
+        assert_eq!(name, format!("{id}.js"));
+        assert_eq!((view.source().len(), map.get_token_count()), (2000, 1000));
+    }
+}
+
+#[test]
 fn a_bundle_of_files() {
     let folder = Folder::new(
         "files",

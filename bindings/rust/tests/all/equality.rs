@@ -93,7 +93,17 @@ fn one_other_part_makes_a_map_unequal() {
 fn the_order_of_lists_counts() {
     let map = regular(r#"{"sources":["a","b"],"names":["x","y"],"mappings":"AAAAA,CCAAC"}"#);
     let other = regular(r#"{"sources":["b","a"],"names":["y","x"],"mappings":"ACAAC,CDAAD"}"#);
-    assert!(map.tokens().eq(other.tokens()));
+    let texts = |map: &SourceMap| {
+        map.tokens()
+            .map(|token| token.to_string())
+            .collect::<Vec<_>>()
+    };
+    assert_eq!(texts(&map), texts(&other));
+    // Tokens are equal by their numbers.
+    assert!(map
+        .tokens()
+        .zip(other.tokens())
+        .all(|(one, other)| one != other));
     assert_ne!(map, other);
     assert_ne!(of_mappings("AAAA,AACA", ""), of_mappings("AACA,AADA", ""));
     // Ignored sources have none.

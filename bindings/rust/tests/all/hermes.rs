@@ -48,6 +48,40 @@ fn the_scope_of_a_range_token_is_that_of_the_position_asked() {
 }
 
 #[test]
+fn the_scope_of_a_token_on_a_later_line() {
+    // Metro's maps have a token for each line of a bundle. 1:2 leads to 1:5, where `foo`
+    // begins; 1:4, and the second token at 0:5, lead to 0:0.
+    let map = hermes(&HERMES.replace("AAAA,KACK", "AAAA,KACK,AADL;EACK,EADL"));
+    let scope = |line, column| map.get_scope_for_token(map.lookup_token(line, column)?);
+    assert_eq!((scope(1, 2), scope(1, 3)), (Some("foo"), Some("foo")));
+    assert_eq!(
+        (scope(1, 4), scope(7, 0)),
+        (Some("<global>"), Some("<global>"))
+    );
+    let listed: Vec<_> = map
+        .tokens()
+        .map(|token| map.get_scope_for_token(token))
+        .collect();
+    let (foo, global) = (Some("foo"), Some("<global>"));
+    assert_eq!(listed, [global, foo, global, foo, global]);
+}
+
+#[test]
+fn the_scope_of_a_token_of_another_map() {
+    // The source counts by its id, whichever map the token is of.
+    let map = hermes(HERMES);
+    let mut other = hermes(HERMES);
+    other.set_source(0, "b.js");
+    let token = other.get_token(1).expect("a token");
+    assert_eq!(map.get_scope_for_token(token), Some("foo"));
+    let bare = regular(r#"{"version":3,"sources":[],"names":[],"mappings":"A"}"#);
+    assert_eq!(
+        map.get_scope_for_token(bare.get_token(0).expect("a token")),
+        None
+    );
+}
+
+#[test]
 fn scopes_are_kept() {
     let map = hermes(HERMES);
     let text = written_any(&DecodedMap::Hermes(map.clone()));

@@ -437,3 +437,17 @@ fn sections_are_changed_in_their_index() {
         assert_eq!(index.get_file(), Some("all.js"));
     }
 }
+
+#[test]
+fn an_empty_list_is_a_list() {
+    let of_lists = |lists: &str| {
+        let json = format!(r#"{{"version":3,"sections":[]{lists}}}"#);
+        SourceMapIndex::from_slice(json.as_bytes()).expect("an index map")
+    };
+    let empty = of_lists(r#","x_facebook_offsets":[],"x_metro_module_paths":[]"#);
+    assert!(empty.is_for_ram_bundle());
+    assert_eq!(empty.x_metro_module_paths(), Some(&[][..]));
+    assert!(!of_lists(r#","x_facebook_offsets":[]"#).is_for_ram_bundle());
+    assert!(!of_lists(r#","x_metro_module_paths":[]"#).is_for_ram_bundle());
+    assert_eq!(of_lists("").x_metro_module_paths(), None);
+}

@@ -165,7 +165,8 @@ fn a_builder_loads_contents_from_files() {
         builder
             .load_local_source_contents(Some(&folder.0))
             .expect("a folder"),
-        2
+        // All but the URL of a server and the source that has contents.
+        4
     );
     let map = builder.into_sourcemap();
     let contents: Vec<_> = map.source_contents().collect();
@@ -191,7 +192,7 @@ fn a_source_without_a_path_leads_to_the_folder() {
         builder
             .load_local_source_contents(Some(&folder.0))
             .expect("a folder"),
-        2
+        5
     );
     let map = builder.into_sourcemap();
     let contents: Vec<_> = map.source_contents().collect();

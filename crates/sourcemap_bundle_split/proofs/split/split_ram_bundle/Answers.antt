@@ -1,38 +1,35 @@
-use Rattle.std.proofs.Common.{◌≡◌, ◌∙◌, refl, sym, ap, map, filter_map, Option, ℕ, List, Result, Ok, Some, option_map}
-use Rattle.std.proofs.Common.{inl, arith}
+use Rattle.std.proofs.Common.{◌≡◌, ap, sym, subst, length, map, filter_map, Ok, arith}
 use Rattle.std.proofs.lemmas.List.{length-map}
-use Rattle.sourcemap_errors.specs.declared.errors.Error.{Error}
+use Rattle.sourcemap_errors.proofs.AnswerLemmas.{UnlessMemory-weaker}
 use Rattle.sourcemap_bundles.specs.Iterators.{modules_left}
-use Rattle.sourcemap_bundles.specs.Modules.{ModuleValue, modules_of}
+use Rattle.sourcemap_bundles.specs.Modules.{modules_of}
 use Rattle.sourcemap_index.specs.Family.{index_value}
-use Rattle.sourcemap_map_regular.specs.Map.{MapValue}
-use Rattle.sourcemap_bundle_split.specs.Split.{SplitValue, due_of, with_first_line, with_offsets}
-use Rattle.sourcemap_bundle_split.proofs.SplitLemmas.{length-filter_map}
+use Rattle.sourcemap_bundle_split.specs.Iterators.{splitter_value}
+use Rattle.sourcemap_bundle_split.specs.Split.{Splits, due_of, with_first_line}
+use Rattle.sourcemap_bundle_split.proofs.SplitLemmas.{length-filter_map, splits-Err, splits-Ok}
 use Rattle.sourcemap_bundle_split.proofs.split.split_ram_bundle.Goals as goal
 
-pub returns-clause-answer : goal.returns-clause-answer
-returns-clause-answer c =
-    let flat : MapValue = c.in_ok-flat.flat in
-    let same_flat : c.in_ok-maps.maps ≡ flat = (let held = c.in_ok-maps.ensures in cc) in
-    let offsets : (index_value c.args.map.now).parts.x_facebook_offsets ≡ Some c.in_ok-offsets-2.offsets.items =
-    sym c.x_facebook_offsets.ensures ∙ ap (option_map (λ xs. xs.now)) c.in_ok-offsets.ensures.ok_part
-    ∙ ap Some (sym c.in_ok-offsets-2.ensures.items) in
-    let split : MapValue → List (Result ModuleValue Error) → Result SplitValue Error =
-    λ flat modules. Ok (record { flat = flat; offsets = c.in_ok-offsets-2.offsets.items; modules = modules }) in
-    inl (
-      flat,
-      c.in_ok-flat.ensures.answer,
-      ap (λ m. split m (modules_left c.iter_modules.result)) same_flat ∙ ap (split flat) c.iter_modules.ensures.left
-          ∙ sym (ap (with_offsets flat (modules_of c.args.bundle.now)) offsets),
-    )
+pub returns-in-Ok-clause-answer : goal.returns-in-Ok-clause-answer
+returns-in-Ok-clause-answer c =
+    let i = index_value c.args.map.now in
+    let modules = modules_of c.args.bundle.now in
+    let value = splitter_value c.in-Ok.splitter in
+    subst (λ left. Splits i modules (Ok (record value { modules = left }))) (sym c.iter_modules.ensures.left)
+    (splits-Ok i modules value c.in-Ok.ensures.answer)
 
-pub returns-clause-bound : goal.returns-clause-bound
-returns-clause-bound c =
+pub returns-in-Ok-clause-bound : goal.returns-in-Ok-clause-bound
+returns-in-Ok-clause-bound c =
     let left = modules_left c.iter_modules.result in
-    let laid_modules = filter_map (with_first_line c.in_ok-offsets-2.offsets.items) left in
+    let offsets = c.in-Ok.splitter.offsets.items in
     omega (
       arith,
-      length-map laid_modules (due_of c.in_ok-maps.maps),
-      length-filter_map (with_first_line c.in_ok-offsets-2.offsets.items) left,
+      length-map (filter_map (with_first_line offsets) left) (due_of c.in-Ok.splitter.maps),
+      length-filter_map (with_first_line offsets) left,
       c.iter_modules.ensures.bound,
     )
+
+pub returns-in-Err-clause-answer : goal.returns-in-Err-clause-answer
+returns-in-Err-clause-answer c =
+    let e = c.in-Err.error in
+    let more = splits-Err (index_value c.args.map.now) (modules_of c.args.bundle.now) e in
+    UnlessMemory-weaker e more c.in-Err.ensures.answer

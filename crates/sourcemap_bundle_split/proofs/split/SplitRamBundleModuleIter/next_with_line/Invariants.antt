@@ -6,7 +6,7 @@ use Rattle.sourcemap_bundle_split.proofs.split.SplitRamBundleModuleIter.next_wit
 abbrev pub invariant-loop-item : goal.invariant-loop-item
 invariant-loop-item l = record {
   left : modules_and_lines_left l.self ≡ modules_and_lines_left l.initial.self;
-  maps : l.self.maps ≡ l.initial.self.maps;
+  splitter : l.self.splitter ≡ l.initial.self.splitter;
 }
 
 abbrev pub decreases-loop-item : goal.decreases-loop-item

@@ -1,0 +1,234 @@
+//! Values that several threads ask at once.
+//!
+//! A handle takes one call at a time. So a value has several handles, which `sm_share`
+//! makes without a copy of the value, and a call takes one that no other call has.
+//! Shares are closed when the value is changed or dropped, and only then: texts that
+//! calls lent point into them.
+
+use std::cell::{Cell, UnsafeCell};
+use std::sync::atomic::{AtomicBool, AtomicUsize, Ordering};
+use std::thread;
+
+use super::Handle;
+use crate::errors::Result;
+use crate::ffi;
+use crate::helgrind;
+use crate::once::Once;
+
+/// How many shares a table has room for.
+const WIDTH: usize = 63;
+
+thread_local! {
+    /// Which share this thread tries first. 0 is the share that each value has; a thread
+    /// gets another number the first time that it meets a call of another thread.
+    static NUMBER: Cell<usize> = const { Cell::new(0) };
+}
+
+/// A value of the library, in one or more handles. With each handle goes a `K`, which
+/// calls that take the handle may keep something in.
+pub(super) struct Shared<K> {
+    first: Slot<K>,
+    /// Makes further shares, and answers no other call. It is empty if memory ran out
+    /// when the value was changed: then calls that meet wait for one another.
+    seed: Slot<()>,
+    more: Once<Table<K>>,
+}
+
+/// Further shares. `next` is needed only where more calls meet than a table has room for.
+struct Table<K> {
+    slots: [Once<Slot<K>>; WIDTH],
+    next: Once<Table<K>>,
+}
+
+/// A handle, on cache lines that it shares with no other. It is used by the thread that
+/// set `is_taken`.
+#[repr(align(128))]
+struct Slot<K> {
+    is_taken: AtomicBool,
+    handle: Handle,
+    kept: UnsafeCell<K>,
+}
+
+// SAFETY: `handle` and `kept` are used only by the thread that took the slot, and the
+// header allows a handle to go from thread to thread.
+unsafe impl<K: Send> Sync for Slot<K> {}
+
+/// A handle that is taken, until this is dropped.
+pub(super) struct Taken<'a, K>(&'a Slot<K>);
+
+impl<K: Default> Slot<K> {
+    fn new(handle: Handle, is_taken: bool) -> Slot<K> {
+        Slot {
+            is_taken: AtomicBool::new(is_taken),
+            handle,
+            kept: UnsafeCell::default(),
+        }
+    }
+
+    #[inline]
+    fn take(&self) -> Option<Taken<'_, K>> {
+        if self.is_taken.swap(true, Ordering::Acquire) {
+            return None;
+        }
+        helgrind::acquired(self);
+        Some(Taken(self))
+    }
+}
+
+impl<K> Taken<'_, K> {
+    #[inline]
+    pub fn at(&self) -> *mut ffi::Handle {
+        self.0.handle.at()
+    }
+
+    /// What is kept with the handle.
+    #[inline]
+    pub fn kept(&mut self) -> &mut K {
+        // SAFETY: only this thread has the slot, and only one `Taken` borrows it.
+        unsafe { &mut *self.0.kept.get() }
+    }
+}
+
+impl<K> Drop for Taken<'_, K> {
+    #[inline]
+    fn drop(&mut self) {
+        helgrind::released(self.0);
+        self.0.is_taken.store(false, Ordering::Release);
+    }
+}
+
+/// A share of what a handle holds.
+fn share_of(at: *mut ffi::Handle) -> Result<Handle> {
+    // SAFETY: the caller has the handle. The new one is not the same.
+    Handle::fill(|other, error| unsafe { ffi::sm_share(at, other, error) })
+}
+
+impl<K: Default> Shared<K> {
+    pub fn of(handle: Handle) -> Result<Shared<K>> {
+        let seed = share_of(handle.at())?;
+        Ok(Shared {
+            first: Slot::new(handle, false),
+            seed: Slot::new(seed, false),
+            more: Once::new(),
+        })
+    }
+
+    /// The value that a call fills a handle with.
+    pub fn fill(
+        call: impl FnOnce(*mut ffi::Handle, *mut ffi::Error) -> ffi::Code,
+    ) -> Result<Shared<K>> {
+        Shared::of(Handle::fill(call)?)
+    }
+
+    /// The same value, with handles of its own.
+    pub fn share(&self) -> Result<Shared<K>> {
+        Shared::of(share_of(self.take().at())?)
+    }
+
+    /// A handle that no other call has.
+    #[inline]
+    pub fn take(&self) -> Taken<'_, K> {
+        if NUMBER.get() == 0 {
+            if let Some(taken) = self.first.take() {
+                return taken;
+            }
+            NUMBER.set(next_number());
+        }
+        self.take_other()
+    }
+
+    /// A handle for a thread that has a number.
+    #[inline(never)]
+    fn take_other(&self) -> Taken<'_, K> {
+        let number = NUMBER.get();
+        loop {
+            let free = self.free_of(number).or_else(|| self.first.take());
+            if let Some(taken) = free.or_else(|| self.free()).or_else(|| self.added(number)) {
+                return taken;
+            }
+            // Another thread is making a share, or memory ran out.
+            thread::yield_now();
+        }
+    }
+
+    /// The share of this number, if there is one that is free.
+    fn free_of(&self, number: usize) -> Option<Taken<'_, K>> {
+        self.more.get()?.slots[number - 1].get()?.take()
+    }
+
+    /// Any share that is free.
+    fn free(&self) -> Option<Taken<'_, K>> {
+        let mut next = self.more.get();
+        while let Some(table) = next {
+            if let Some(taken) = table.slots.iter().flat_map(Once::get).find_map(Slot::take) {
+                return Some(taken);
+            }
+            next = table.next.get();
+        }
+        None
+    }
+
+    /// A new share, of this number if no share has it.
+    fn added(&self, number: usize) -> Option<Taken<'_, K>> {
+        let handle = share_of(self.seed.take()?.at()).ok()?;
+        let mut slot = Slot::new(handle, true);
+        let mut table = self.more.get_or_init(Table::new);
+        loop {
+            for place in (0..WIDTH).map(|at| &table.slots[(number - 1 + at) % WIDTH]) {
+                match place.set(slot) {
+                    Ok(slot) => return Some(Taken(slot)),
+                    Err(back) => slot = back,
+                }
+            }
+            table = table.next.get_or_init(Table::new);
+        }
+    }
+
+    /// Makes a call that changes the value. All shares are closed before it, so that the
+    /// library does not copy what it changes.
+    pub fn change<T>(&mut self, call: impl FnOnce(*mut ffi::Handle) -> T) -> T {
+        self.more = Once::new();
+        self.seed = Slot::new(Handle::empty(), false);
+        let result = call(self.first.handle.at());
+        self.first.kept = UnsafeCell::default();
+        if let Ok(seed) = share_of(self.first.handle.at()) {
+            self.seed = Slot::new(seed, false);
+        }
+        result
+    }
+}
+
+/// A number for this thread. Numbers come again, so that values do not get more shares with
+/// each thread that ever ran.
+fn next_number() -> usize {
+    static GIVEN: AtomicUsize = AtomicUsize::new(0);
+    1 + GIVEN.fetch_add(1, Ordering::Relaxed) % WIDTH
+}
+
+impl<K> Table<K> {
+    fn new() -> Table<K> {
+        Table {
+            slots: [const { () }; WIDTH].map(|()| Once::new()),
+            next: Once::new(),
+        }
+    }
+}
+
+/// A handle of each of two values. Two threads that take the same two, one of them the other
+/// way round, do not wait for each other.
+pub(super) fn take_both<'a, 'b, A: Default, B: Default>(
+    one: &'a Shared<A>,
+    other: &'b Shared<B>,
+) -> (Taken<'a, A>, Taken<'b, B>) {
+    let is_first = (one as *const Shared<A> as usize) < (other as *const Shared<B> as usize);
+    if is_first {
+        let taken = one.take();
+        (taken, other.take())
+    } else {
+        let taken = other.take();
+        (one.take(), taken)
+    }
+}
+
+#[cfg(test)]
+mod tests;
