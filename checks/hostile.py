@@ -267,11 +267,25 @@ def _(size):
     return b'{"version":3,"sources":[],"names":[],"mappings":"","x":[' + b'[],' * size + b'[]]}'
 
 
-# refused, but only when the record is read: arrays are kept where a record reads lists
-@kind('nested arrays in a list that is read', 1_000, DECODES, 90)
+def nested_arrays(size):
+    return (b'[' * 120 + b']' * 120 + b',') * size + b'null'
+
+
+# refused, but only when the record is read. Of an array where a record reads a text nothing is kept
+@kind('nested arrays in a list that is read', 1_000, DECODES, 4)
 def _(size):
-    nested = b'[' * 120 + b']' * 120
-    return b'{"version":3,"names":[],"mappings":"","sources":[' + (nested + b',') * size + b'null]}'
+    return b'{"version":3,"names":[],"mappings":"","sources":[' + nested_arrays(size) + b']}'
+
+
+# any JSON value may be a name
+@kind('nested arrays as names', 1_000, DECODES, 32)
+def _(size):
+    return b'{"version":3,"sources":[],"mappings":"","names":[' + nested_arrays(size) + b']}'
+
+
+@kind('objects as names', 50_000, DECODES, 150)
+def _(size):
+    return b'{"version":3,"sources":[],"mappings":"","names":[' + b'{"":0},' * size + b'{"":0}]}'
 
 
 @kind('deep arrays', 500_000, DECODES, 4)
@@ -501,7 +515,7 @@ def _(size):
     return within_indexes(size, 40)
 
 
-# each index flattens the ones inside of it
+# flattening walks the nested indexes once
 @kind('a map in ten to forty indexes', 10, of_bench('flatten 1') + of_calls('flatten-and-rewrite'), 2, lambda size, given, written: size * given)
 def _(size):
     return within_indexes(50_000, size)
