@@ -1,4 +1,5 @@
-use Rattle.std.proofs.Common.{ℕ, ◌≡◌, ◌+◌, ◌-◌, ◌*◌, ◌/◌, ◌%◌, ◌^◌, ◌<◌, ◌≤◌, ◌∙◌, ◌++◌, [], List, ap, refl, length, sym}
+use Rattle.std.proofs.Common.{ℕ, ◌≡◌, ◌+◌, ◌-◌, ◌*◌, ◌/◌, ◌%◌, ◌^◌, ◌<◌, ◌∙◌, ◌++◌, [], List, ap, refl, length}
+use Rattle.std.proofs.Common.{sym}
 use Rattle.std.proofs.Common.{slice_index, take, arith}
 use Rattle.std.specs.Int.{bytes_low_first}
 use Rattle.std.proofs.lemmas.List.{length-take-le, take_all}
@@ -56,7 +57,8 @@ loop-number-preserved c =
     elim c.if-filled-ge32.branch [
       | then-filled-ge32 w ↦
           let full = w.if-filled-ge32.true in
-          let rest : c.loop-number.filled + c.args.width - 32 + 32 ≡ c.loop-number.filled + c.args.width = omega arith in
+          let rest : c.loop-number.filled + c.args.width - 32 + 32
+          ≡ c.loop-number.filled + c.args.width = omega arith in
           let room = packed_room c.args.width k xs done c.loop-number.word c.loop-number.filled
           c.loop-number.invariant.packed (omega arith) c.requires.narrow
           (let whole = c.requires.whole in omega arith) (omega arith) in
