@@ -13,7 +13,8 @@ use Rattle.sourcemap_compiled_write.specs.Blocks.{bases, body_bytes, field_numbe
 use Rattle.sourcemap_compiled_write.specs.Blocks.{width_bytes}
 use Rattle.sourcemap_compiled_write.specs.Packing.{field_bytes, fields_of, number_of, padded, token_values}
 use Rattle.sourcemap_compiled_write.specs.Pieces.{pieces}
-use Rattle.sourcemap_compiled_write.proofs.PackingLemmas.{below_width_of, get_or-token_values, no_token, number_of_small}
+use Rattle.sourcemap_compiled_write.proofs.PackingLemmas.{below_width_of, get_or-token_values, no_token}
+use Rattle.sourcemap_compiled_write.proofs.PackingLemmas.{number_of_small}
 use Rattle.sourcemap_compiled_write.proofs.PackingLemmas.{value_back, width_of-le}
 use Rattle.sourcemap_compiled_write.proofs.StandsLemmas.{Stands, Stands-first, Stands-piece, Stands-rest, bits_at-there}
 use Rattle.sourcemap_compiled_write.proofs.StandsLemmas.{byte_at-there, length-field_bytes, length-flat_map-each}
@@ -200,7 +201,8 @@ module _ (file : List ℕ) (head at : ℕ) (ts : List RawToken) (ss : List ℕ) 
       → packed_at file head field place ≡ slice_index (field_numbers ts ss field) place
   unfolding packed_at body_bytes
   packed_read field place l m =
-      let start : u32_at file head + 8 * widths_before file head field ≡ at + length (pieces (field_piece ts ss) field) =
+      let start : u32_at file head + 8 * widths_before file head field ≡ at + length (pieces
+      (field_piece ts ss) field) =
       omega (arith, offset_read, widths_read field (omega arith)) in
       let width = width_read field l in
       let small = field_numbers-small ts ss field scopes in

@@ -16,9 +16,11 @@ use Rattle.sourcemap_tokens.proofs.SearchLemmas.{index-closest}
 use Rattle.sourcemap_compose.specs.Moved.{distance}
 use Rattle.sourcemap_compiled.specs.Blocks.{compiled_token, compiled_tokens, packed_at, scope_number, start_at}
 use Rattle.sourcemap_compiled.specs.Blocks.{token_in}
-use Rattle.sourcemap_compiled.specs.Layout.{IsAccepted, block_count, compiled_debug_id, compiled_magic, compiled_version}
+use Rattle.sourcemap_compiled.specs.Layout.{IsAccepted, block_count, compiled_debug_id, compiled_magic}
+use Rattle.sourcemap_compiled.specs.Layout.{compiled_version}
 use Rattle.sourcemap_compiled.specs.Layout.{content_count, file_text, head_offset}
-use Rattle.sourcemap_compiled.specs.Layout.{name_count, scope_count, source_count, start_offset, tables_end, tables_start}
+use Rattle.sourcemap_compiled.specs.Layout.{name_count, scope_count, source_count, start_offset, tables_end}
+use Rattle.sourcemap_compiled.specs.Layout.{tables_start}
 use Rattle.sourcemap_compiled.specs.Layout.{text_count, token_count}
 use Rattle.sourcemap_compiled.specs.Lookup.{CompiledMeaning, CompiledTokenValue, IsInOrder, compiled_meaning, says}
 use Rattle.sourcemap_compiled.specs.Numbers.{position_number, u32_at}
@@ -39,7 +41,8 @@ use Rattle.sourcemap_compiled_write.proofs.BlockLemmas.{block_of-at, length-bloc
 use Rattle.sourcemap_compiled_write.proofs.BlockRead.{AreSmall, packed_read, scope_number-at, small-list}
 use Rattle.sourcemap_compiled_write.proofs.BlockRead.{token_read}
 use Rattle.sourcemap_compiled_write.proofs.FileLemmas.{body_there, debug_id_there, head_there, header_end_there}
-use Rattle.sourcemap_compiled_write.proofs.FileLemmas.{header_numbers_there, length-file, length-text_offsets, start_there}
+use Rattle.sourcemap_compiled_write.proofs.FileLemmas.{header_numbers_there, length-file, length-text_offsets}
+use Rattle.sourcemap_compiled_write.proofs.FileLemmas.{start_there}
 use Rattle.sourcemap_compiled_write.proofs.FileLemmas.{text_table_there, texts_there}
 use Rattle.sourcemap_compiled_write.proofs.PackingLemmas.{get_or-token_values, no_token}
 use Rattle.sourcemap_compiled_write.proofs.StandsLemmas.{Stands, Stands-item, number-there, range-there, u64_at-there}
@@ -257,7 +260,8 @@ module _ (p : Parts) (w : AreWritable p) where
         let small : first < 2 ^ 64 = omega arith in
         let there : tables_offset p + 8 * block ≡ start_offset file block = omega (arith, tables_read) in
         u64_at-there file (start_offset file block) first small
-        (subst (λ (n : ℕ). Stands file n (start_bytes (block_of p.tokens block))) there (start_there p w.id block inside))
+        (subst (λ (n : ℕ). Stands file n (start_bytes (block_of p.tokens block))) there
+        (start_there p w.id block inside))
 
     line_read : start_at file block / 2 ^ 32 ≡ slice_index (token_values (block_of p.tokens block) 0) 0
     line_read = let column = (values 1 (omega arith)).at 0 in let start = start_read in omega arith
@@ -280,15 +284,18 @@ module _ (p : Parts) (w : AreWritable p) where
         ≡ get_or (block_of p.tokens block) place no_token
     block_token place l =
         let many = length-block_of p.tokens block in
-        token_read file (head_offset file block) (body_offset p block) (block_of p.tokens block) (block_of p.scopes block)
+        token_read file (head_offset file block) (body_offset p block) (block_of p.tokens block)
+        (block_of p.scopes block)
         near values (small-block p.scopes block (record { at = w.scopes })) head_stands (body_there p w.id block inside)
         (start_at file block / 2 ^ 32) place l (omega arith) line_read
 
     block_scope : (place : ℕ) → place < 64
         → packed_at file (head_offset file block) 7 place ≡ slice_index (block_of p.scopes block) place
     block_scope place l =
-        packed_read file (head_offset file block) (body_offset p block) (block_of p.tokens block) (block_of p.scopes block)
-        near values (small-block p.scopes block (record { at = w.scopes })) head_stands (body_there p w.id block inside) 7 place (omega arith)
+        packed_read file (head_offset file block) (body_offset p block) (block_of p.tokens block)
+        (block_of p.scopes block)
+        near values (small-block p.scopes block (record { at = w.scopes })) head_stands
+        (body_there p w.id block inside) 7 place (omega arith)
         l ∙ scope_number-at (block_of p.tokens block) (block_of p.scopes block) place
 
   -- ---- tokens
@@ -389,7 +396,8 @@ module _ (p : Parts) (w : AreWritable p) where
   pub scope_text_back : (id : ℕ) → scope_text file id ≡ Ok (item_at p.scope_names id)
   scope_text_back id =
       let n = length p.sources + (length p.names + id) in
-      text_by id (scope_count file) (text_at file (source_count file + name_count file + id)) p.scope_names scopes_counted
+      text_by id (scope_count file) (text_at file (source_count file + name_count file + id)) p.scope_names
+      scopes_counted
       (λ l. text_back (source_count file + name_count file + id) n (omega (arith, sources_counted, names_counted))
       (omega (arith, many_texts))
       ∙ ap Ok (item-rest p.sources after_sources n (length p.names + id) refl
