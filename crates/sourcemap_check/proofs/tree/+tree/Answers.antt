@@ -44,9 +44,9 @@ check_inner-returns-in_default-clause-inner t c = λ all reports.
 pub check_map-check_sections-requires : goal.check_map-check_sections-requires
 check_map-check_sections-requires t c = (
   let depth = depth-list_at (codes "sections") (view c.args.map.now) (items_view c.in-Some.sections.now.items)
-  (sym c.in-Some.ensures) in
-  let same = ap (λ vs. items_depth (items_view vs)) c.as_slice.ensures.value in
-  omega (arith, depth, same),
+      (sym c.in-Some.ensures) in
+      let same = ap (λ vs. items_depth (items_view vs)) c.as_slice.ensures.value in
+      omega (arith, depth, same),
   tt,
 )
 
