@@ -11,11 +11,11 @@ use Rattle.sourcemap_check_report.specs.Report.{Reports}
 use Rattle.sourcemap_check_segments.specs.declared.last.Position.{Position}
 use Rattle.sourcemap_check.specs.declared.sections.Previous.{Previous}
 use Rattle.sourcemap_check.specs.declared.tree.Checked.{Checked}
-use Rattle.sourcemap_check.specs.Trees.{Tree, tree, Sections, no_sections, bare, mapped, with_section, tree_of}
+use Rattle.sourcemap_check.specs.Trees.{Tree, tree, Sections, no_sections, with_section, tree_of}
 use Rattle.sourcemap_check.specs.Positions.{start_of, moved_by, later_of, last_of, last_in, text_last}
 use Rattle.sourcemap_check.specs.Findings.{section_findings, sections_findings, tree_findings, none_before, map_count}
 use Rattle.sourcemap_check.specs.Findings.{section_count, key_findings, text_findings}
-use Rattle.sourcemap_check.specs.Steps.{ChecksTree, ChecksInner, ChecksNone, ChecksSections}
+use Rattle.sourcemap_check.specs.Steps.{ChecksTree, ChecksInner, ChecksSections}
 
 -- Rules one after another.
 

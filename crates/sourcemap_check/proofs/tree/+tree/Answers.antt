@@ -1,10 +1,8 @@
-use Rattle.std.proofs.Common.{◌≡◌, ◌∙◌, ◌+◌, ap, sym, arith, length, drop, Some, None, true, false, codes, option_map, refl, rules}
+use Rattle.std.proofs.Common.{◌∙◌, ap, sym, arith, length, codes, option_map, refl}
 use Rattle.std.proofs.lemmas.List.{length_push}
 use Rattle.serde_json.specs.Data.{items_depth}
 use Rattle.serde_json.specs.View.{view, items_view}
-use Rattle.sourcemap_check.specs.Trees.{sections_from, inner_of, tree_of}
-use Rattle.sourcemap_check.specs.Findings.{section_findings}
-use Rattle.sourcemap_check.proofs.LoopLemmas.{SectionsSoFar-none, SectionsSoFar-more, SectionsSoFar-all, tree_checked}
+use Rattle.sourcemap_check.proofs.LoopLemmas.{SectionsSoFar-none, SectionsSoFar-more, tree_checked}
 use Rattle.sourcemap_check.proofs.LoopLemmas.{sections_none}
 use Rattle.sourcemap_check.proofs.TreeLemmas.{inner_of-missing, inner_of-other, inner_of-map, depth-get, depth-list_at}
 use Rattle.sourcemap_check.proofs.TreeLemmas.{depth_item, section_next, tree_of-sections, tree_of-bare}
