@@ -11,11 +11,11 @@ use Rattle.sourcemap_check_report.specs.Report.{Reports}
 use Rattle.sourcemap_check_segments.specs.declared.last.Position.{Position}
 use Rattle.sourcemap_check.specs.declared.sections.Previous.{Previous}
 use Rattle.sourcemap_check.specs.declared.tree.Checked.{Checked}
-use Rattle.sourcemap_check.specs.Trees.{Tree, tree, Sections, no_sections, bare, mapped, with_section, tree_of}
+use Rattle.sourcemap_check.specs.Trees.{Tree, tree, Sections, no_sections, with_section, tree_of}
 use Rattle.sourcemap_check.specs.Positions.{start_of, moved_by, later_of, last_of, last_in, text_last}
 use Rattle.sourcemap_check.specs.Findings.{section_findings, sections_findings, tree_findings, none_before, map_count}
 use Rattle.sourcemap_check.specs.Findings.{section_count, key_findings, text_findings}
-use Rattle.sourcemap_check.specs.Steps.{ChecksTree, ChecksInner, ChecksNone, ChecksSections}
+use Rattle.sourcemap_check.specs.Steps.{ChecksTree, ChecksInner, ChecksSections}
 
 -- Rules one after another.
 
@@ -31,16 +31,16 @@ pub rule_by_rule : {R : Type 0} (test : R → Bool) (finding : R → Finding) (m
     → Reports most (all ++ map finding (filter test (take (i + 1) rules))) report
 rule_by_rule test finding most all rules i rule is_broken report h at is reports =
     let own : cond is_broken (finding rule ∷ []) []
-        ≡ map finding (cond (test (get_or rules i rule)) (get_or rules i rule ∷ []) []) =
+    ≡ map finding (cond (test (get_or rules i rule)) (get_or rules i rule ∷ []) []) =
     cond_map is_broken finding rule ∙ (ap (λ b. map finding (cond b (rule ∷ []) [])) is
     ∙ ap (λ r. map finding (cond (test r) (r ∷ []) [])) at) in
     let more : map finding (filter test (take (i + 1) rules))
-        ≡ map finding (filter test (take i rules))
-        ++ map finding (cond (test (get_or rules i rule)) (get_or rules i rule ∷ []) []) =
+    ≡ map finding (filter test (take i rules))
+    ++ map finding (cond (test (get_or rules i rule)) (get_or rules i rule ∷ []) []) =
     ap (map finding) (filter_more test rules i rule h)
     ∙ map-append finding (filter test (take i rules)) (cond (test (get_or rules i rule)) (get_or rules i rule ∷ []) []) in
     let same : (all ++ map finding (filter test (take i rules))) ++ cond is_broken (finding rule ∷ []) []
-        ≡ all ++ map finding (filter test (take (i + 1) rules)) =
+    ≡ all ++ map finding (filter test (take (i + 1) rules)) =
     append_assoc all (map finding (filter test (take i rules))) (cond is_broken (finding rule ∷ []) [])
     ∙ ap (λ fs. all ++ fs) (ap (λ fs. map finding (filter test (take i rules)) ++ fs) own ∙ sym more) in
     subst (λ fs. Reports most fs report) same reports

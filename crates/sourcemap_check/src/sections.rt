@@ -163,7 +163,12 @@ fn add_order(
     let out_of_order = both_before(start, previous.start);
     let overlap = !out_of_order
         & (both_same(start, previous.start) | both_before(start, previous.last));
-    push_if(report, most, finding_at(place, Rule::OutOfOrder), out_of_order)?;
+    push_if(
+        report,
+        most,
+        finding_at(place, Rule::OutOfOrder),
+        out_of_order,
+    )?;
     push_if(report, most, finding_at(place, Rule::Overlap), overlap)
 }
 
@@ -181,7 +186,12 @@ fn add_section_keys(
 {
     for rule in SECTION_RULES {
         let is_broken = breaks(section, rule);
-        push_if(report, most, finding_at(place, Rule::Section(rule)), is_broken)?;
+        push_if(
+            report,
+            most,
+            finding_at(place, Rule::Section(rule)),
+            is_broken,
+        )?;
     }
     Ok(())
 }

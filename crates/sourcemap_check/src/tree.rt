@@ -5,7 +5,6 @@ ghost use Rattle.sourcemap_errors.specs.declared.errors.Error.TheVariants.{OutOf
 ghost use Rattle.sourcemap_check_report.specs.Report.{Reports};
 ghost use Rattle.sourcemap_check_report.specs.declared.report.Finding.{Finding};
 ghost use Rattle.sourcemap_check.specs.Trees.{tree_of, inner_of, sections_from};
-
 ghost use Rattle.sourcemap_check_keys.specs.Values.{list_at};
 ghost use Rattle.sourcemap_check.specs.Steps.{ChecksTree, ChecksInner, ChecksSections};
 

@@ -1,9 +1,9 @@
 -- The rules of ECMA-426 on one section of an index map.
-use Rattle.std.specs.Prelude.{ℕ, ◌&&◌, Bool, not, codes, Option, Some, None, option_and_then, List, ℤ, pos, negsuc, false}
+use Rattle.std.specs.Prelude.{◌&&◌, Bool, not, codes, false}
 use Rattle.std.specs.Option.{option_map_or}
 use Rattle.serde_json.specs.Data.{Data}
 use Rattle.serde_json.specs.Find.{get}
-use Rattle.sourcemap_check_keys.specs.Values.{has, fails, passes, whole_of}
+use Rattle.sourcemap_check_keys.specs.Values.{has, fails, passes}
 use Rattle.sourcemap_check_keys.specs.declared.values.Test.TheVariants.{Object, Position}
 use Rattle.sourcemap_check_report.specs.declared.rules.SectionRule.{SectionRule}
 use Rattle.sourcemap_check_report.specs.declared.rules.SectionRule.TheVariants.{SectionType, OffsetMissing}

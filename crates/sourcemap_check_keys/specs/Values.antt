@@ -1,7 +1,7 @@
 -- What the rules look at in a JSON value.
-use Rattle.std.specs.Prelude.{ℕ, suc, ◌^◌, ◌&&◌, ◌||◌, Bool, true, false, not, is_some, List, Option, Some, None, ℤ, pos}
-use Rattle.std.specs.Prelude.{option_and_then, option_map, Float, unsigned_abs, nat_le, int_lt, int_le, if◌then◌else◌}
-use Rattle.std.specs.Option.{option_map_or, option_or}
+use Rattle.std.specs.Prelude.{ℕ, suc, ◌&&◌, ◌||◌, Bool, true, false, not, is_some, List, Option, Some, None, ℤ, pos}
+use Rattle.std.specs.Prelude.{option_and_then, Float, unsigned_abs, nat_le, int_lt, int_le, if◌then◌else◌}
+use Rattle.std.specs.Option.{option_map_or}
 use Rattle.std.specs.Ordering.{int_eq}
 use Rattle.std.specs.Float.{binary64, float_to_signed}
 use Rattle.std.specs.Float.Ieee.{of_int, eq}

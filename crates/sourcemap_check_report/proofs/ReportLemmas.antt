@@ -1,8 +1,8 @@
 -- Lemmas on reports.
-use Rattle.std.proofs.Common.{◌≡◌, ◌≢◌, ℕ, ◌+◌, ◌<◌, ◌≤◌, ◌==◌, Bool, true, false, cond, min, List, [], ◌∷◌, ◌++◌, length}
-use Rattle.std.proofs.Common.{get_or, slice_index, set, sym, ◌∙◌, ap, refl, subst, append_assoc, arith, get_or-set_same}
+use Rattle.std.proofs.Common.{◌≡◌, ℕ, ◌+◌, ◌<◌, ◌≤◌, ◌==◌, cond, min, List, [], ◌∷◌, ◌++◌, length}
+use Rattle.std.proofs.Common.{slice_index, set, sym, ◌∙◌, ap, refl, subst, append_assoc, arith, get_or-set_same}
 use Rattle.std.proofs.Common.{get_or-set_other, inl, inr}
-use Rattle.std.specs.Prelude.{count_by, nat_lt, if◌then◌else◌, slice_set, vec_items}
+use Rattle.std.specs.Prelude.{nat_lt, if◌then◌else◌}
 use Rattle.std.proofs.lemmas.Bool.{cases_eq, eq-eqb, ne_eqb, lt-ltb, le-ltb}
 use Rattle.std.proofs.lemmas.List.{append-nil}
 use Rattle.std.proofs.lemmas.List.Sums.{fold_push}

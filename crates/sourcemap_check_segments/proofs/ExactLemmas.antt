@@ -1,6 +1,6 @@
 -- The findings of a text are exactly the broken rules.
-use Rattle.std.proofs.Common.{◌≡◌, ℕ, zero, suc, ◌+◌, ◌<◌, Bool, true, false, cond, List, [], ◌∷◌, ◌++◌, map, take, length}
-use Rattle.std.proofs.Common.{get_or, sym, ◌∙◌, ap, refl, subst, append_assoc, arith, inl, inr, Some, None, ◌⊎◌, add-one}
+use Rattle.std.proofs.Common.{◌≡◌, ℕ, zero, suc, ◌+◌, ◌<◌, Bool, true, List, [], ◌∷◌, ◌++◌, map, take, length}
+use Rattle.std.proofs.Common.{get_or, sym, ◌∙◌, ap, refl, subst, append_assoc, arith, inl, inr, Some, ◌⊎◌, add-one}
 use Rattle.std.specs.Prelude.{filter, Contains, slice_get}
 use Rattle.std.proofs.lemmas.List.{append-nil}
 use Rattle.std.proofs.lemmas.Bool.{cases_Bool, cond-true, cond-false}

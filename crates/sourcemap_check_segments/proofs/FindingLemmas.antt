@@ -1,6 +1,6 @@
 -- Lemmas on findings and reports.
-use Rattle.std.proofs.Common.{◌≡◌, ℕ, ◌+◌, ◌<◌, ◌==◌, Bool, true, false, cond, min, List, [], ◌∷◌, ◌++◌, map, take, length}
-use Rattle.std.proofs.Common.{get_or, slice_index, set, sym, ◌∙◌, ap, refl, subst, append_assoc, arith, OnOk}
+use Rattle.std.proofs.Common.{◌≡◌, ℕ, ◌+◌, ◌<◌, ◌==◌, Bool, cond, List, [], ◌∷◌, ◌++◌, map, take, length}
+use Rattle.std.proofs.Common.{get_or, sym, ◌∙◌, ap, refl, subst, append_assoc}
 use Rattle.std.specs.Prelude.{filter, ◌≢◌}
 use Rattle.std.specs.List.{slice_split}
 use Rattle.std.proofs.lemmas.List.{append-nil, map-append}

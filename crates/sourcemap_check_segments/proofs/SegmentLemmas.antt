@@ -1,7 +1,7 @@
 -- Lemmas on the parts of a text, the numbers of a segment, and sums.
-use Rattle.std.proofs.Common.{◌≡◌, ◌≢◌, ℕ, ◌+◌, ◌*◌, ◌%◌, ◌<◌, ◌≤◌, ◌==◌, Bool, true, false, not, min, List, [], ◌∷◌, ◌++◌}
+use Rattle.std.proofs.Common.{◌≡◌, ◌≢◌, ℕ, ◌%◌, ◌<◌, ◌≤◌, ◌==◌, Bool, true, false, not, min, List, [], ◌∷◌, ◌++◌}
 use Rattle.std.proofs.Common.{length, get_or, zero, suc, slice_index, sym, ◌∙◌, ap, refl, subst, append_assoc, arith, All, ℤ, pos, ◌+ℤ◌}
-use Rattle.std.proofs.Common.{Option, Some, None, inl, inr, lit<, of_z, to_z}
+use Rattle.std.proofs.Common.{Some, None, inl, inr, lit<, of_z, to_z}
 use mir.Syntax.{w64, w128}
 use mir.Val.{SFits}
 use Rattle.std.specs.Prelude.{nat_le, if◌then◌else◌, ◌||◌, ◌&&◌}

@@ -1,6 +1,5 @@
 -- All findings of the text of a map, in its order. `own` is the number of the map.
 use Rattle.std.specs.Prelude.{ℕ, ◌+◌, List, [], ◌∷◌, ◌++◌, map, filter}
-use Rattle.sourcemap_check_report.specs.declared.rules.SegmentRule.{SegmentRule}
 use Rattle.sourcemap_check_report.specs.declared.rules.TheConstants.{SEGMENT_RULES}
 use Rattle.sourcemap_check_report.specs.declared.rules.Rule.TheVariants.{Segment}
 use Rattle.sourcemap_check_report.specs.declared.report.Finding.{Finding}

@@ -1,5 +1,5 @@
 -- The rules of ECMA-426 on segments.
-use Rattle.std.specs.Prelude.{◌≡◌, ℕ, ◌+◌, ◌&&◌, Bool, not, List, ◌∷◌, [], ◌++◌, length, take, slice_get, Some, IsTrue}
+use Rattle.std.specs.Prelude.{◌≡◌, ℕ, ◌+◌, ◌&&◌, Bool, not, List, ◌++◌, length, take, slice_get, Some, IsTrue}
 use Rattle.std.specs.Prelude.{pos, int_lt, int_le}
 use Rattle.sourcemap_check_report.specs.declared.rules.SegmentRule.{SegmentRule}
 use Rattle.sourcemap_check_report.specs.declared.rules.SegmentRule.TheVariants.{ForeignByte, CutNumber, FieldCount}

@@ -1,5 +1,5 @@
 -- The steps of a check: the numbers of a segment, and the sums up to it.
-use Rattle.std.specs.Prelude.{◌≡◌, ℕ, ◌*◌, min, List, [], ◌∷◌, ◌++◌, length, slice_index, Option, ℤ, pos, neg_ℤ, ◌≤ℤ◌}
+use Rattle.std.specs.Prelude.{◌≡◌, ℕ, ◌*◌, min, List, [], ◌∷◌, length, slice_index, Option, ℤ, pos, neg_ℤ, ◌≤ℤ◌}
 use Rattle.std.specs.List.{list_any, slice_split}
 use Rattle.std.specs.Option.{option_map_or}
 use Rattle.std.specs.Prelude.{◌==◌, ◌+◌}

@@ -1,4 +1,4 @@
-use Rattle.std.proofs.Common.{◌≡◌, ◌<◌, ◌≤◌, take, length, arith}
+use Rattle.std.proofs.Common.{◌<◌, ◌≤◌, length, arith}
 use Rattle.std.proofs.lemmas.List.{get_or_default, take_all}
 use Rattle.serde_json.specs.View.{view}
 use Rattle.sourcemap_check_report.specs.declared.rules.Rule.TheVariants.{Map}

@@ -1,5 +1,4 @@
-use Rattle.std.proofs.Common.{◌≡◌, ℕ, List, [], ◌∷◌, Some, None, inl, inr, refl, sym, ap, ◌∙◌, subst}
-use Rattle.std.specs.Prelude.{IsUtf8, ◌↔◌}
+use Rattle.std.proofs.Common.{◌≡◌, ℕ, List, [], Some, None, inl, inr, sym, ap, ◌∙◌}
 use Rattle.serde_json.specs.Data.{Data}
 use Rattle.serde_json.specs.Read.{read as read_text}
 use Rattle.sourcemap_check_report.specs.declared.report.Finding.{Finding}

@@ -1,10 +1,8 @@
-use Rattle.std.proofs.Common.{◌≡◌, ◌∙◌, ◌+◌, ap, sym, arith, length, drop, Some, None, true, false, codes, option_map, refl, rules}
+use Rattle.std.proofs.Common.{◌∙◌, ap, sym, arith, length, codes, option_map, refl}
 use Rattle.std.proofs.lemmas.List.{length_push}
 use Rattle.serde_json.specs.Data.{items_depth}
 use Rattle.serde_json.specs.View.{view, items_view}
-use Rattle.sourcemap_check.specs.Trees.{sections_from, inner_of, tree_of}
-use Rattle.sourcemap_check.specs.Findings.{section_findings}
-use Rattle.sourcemap_check.proofs.LoopLemmas.{SectionsSoFar-none, SectionsSoFar-more, SectionsSoFar-all, tree_checked}
+use Rattle.sourcemap_check.proofs.LoopLemmas.{SectionsSoFar-none, SectionsSoFar-more, tree_checked}
 use Rattle.sourcemap_check.proofs.LoopLemmas.{sections_none}
 use Rattle.sourcemap_check.proofs.TreeLemmas.{inner_of-missing, inner_of-other, inner_of-map, depth-get, depth-list_at}
 use Rattle.sourcemap_check.proofs.TreeLemmas.{depth_item, section_next, tree_of-sections, tree_of-bare}
@@ -44,9 +42,9 @@ check_inner-returns-in_default-clause-inner t c = λ all reports.
 pub check_map-check_sections-requires : goal.check_map-check_sections-requires
 check_map-check_sections-requires t c = (
   let depth = depth-list_at (codes "sections") (view c.args.map.now) (items_view c.in-Some.sections.now.items)
-  (sym c.in-Some.ensures) in
-  let same = ap (λ vs. items_depth (items_view vs)) c.as_slice.ensures.value in
-  omega (arith, depth, same),
+      (sym c.in-Some.ensures) in
+      let same = ap (λ vs. items_depth (items_view vs)) c.as_slice.ensures.value in
+      omega (arith, depth, same),
   tt,
 )
 

@@ -1,9 +1,7 @@
-use Rattle.std.proofs.Common.{◌≡◌, ◌≢◌, ◌∙◌, sym, ap, [], length, arith, subst, ℕ, ◌==◌, ◌++◌, List, refl}
+use Rattle.std.proofs.Common.{◌≡◌, ◌≢◌, ◌∙◌, sym, ap, [], length, arith}
 use Rattle.std.proofs.lemmas.List.{append-nil, nil_from_length}
 use Rattle.std.proofs.lemmas.Bool.{eqb-true, eqb-false}
 use Rattle.sourcemap_check_segments.specs.Segments.{segments_of}
-use Rattle.sourcemap_check_report.specs.Report.{Reports}
-use Rattle.sourcemap_check_segments.specs.Steps.{AreTextSums}
 use Rattle.sourcemap_check_segments.proofs.FindingLemmas.{LineSoFar-none, LineSoFar-more, LineSoFar-reports, LineSoFar-sums}
 use Rattle.sourcemap_check_segments.proofs.FindingLemmas.{segments_of-some, Reports-none}
 use Rattle.sourcemap_check_segments.proofs.check.add_line.Goals as goal

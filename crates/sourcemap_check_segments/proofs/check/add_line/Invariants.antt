@@ -1,10 +1,9 @@
-use Rattle.std.proofs.Common.{List, ℕ, ◌++◌, ◌∷◌, [], ◌≡◌, ◌+◌, ◌≤◌, ◌==◌, length}
+use Rattle.std.proofs.Common.{List, ℕ, ◌+◌, ◌≤◌, ◌==◌, length}
 use Rattle.std.specs.List.{slice_split}
 use Rattle.sourcemap_check_report.specs.declared.report.Finding.{Finding}
 use Rattle.sourcemap_check_segments.specs.Segments.{comma}
-use Rattle.sourcemap_check_segments.specs.Findings.{line_findings}
 use Rattle.sourcemap_check_report.specs.Report.{Reports}
-use Rattle.sourcemap_check_segments.specs.Steps.{AreSums, AreTextSums, AreWithin, counts_of, parts_left, bytes_left}
+use Rattle.sourcemap_check_segments.specs.Steps.{AreTextSums, AreWithin, counts_of, parts_left, bytes_left}
 use Rattle.sourcemap_check_segments.proofs.FindingLemmas.{LineSoFar}
 use Rattle.sourcemap_check_segments.proofs.check.add_line.Given as goal
 

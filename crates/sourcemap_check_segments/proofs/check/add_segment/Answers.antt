@@ -1,4 +1,4 @@
-use Rattle.std.proofs.Common.{◌≡◌, ◌<◌, ◌≤◌, take, length, arith}
+use Rattle.std.proofs.Common.{◌<◌, ◌≤◌, length, arith}
 use Rattle.std.proofs.lemmas.List.{get_or_default, take_all}
 use Rattle.sourcemap_check_report.specs.declared.rules.TheConstants.{SEGMENT_RULES}
 use Rattle.sourcemap_check_segments.proofs.FindingLemmas.{Reports-rule, Reports-none}

@@ -1,5 +1,4 @@
-use Rattle.std.proofs.Common.{List, ℕ, ◌++◌, ◌∷◌, [], ◌≡◌, ◌+◌, ◌≤◌, ◌==◌, length}
-use Rattle.std.specs.List.{slice_split}
+use Rattle.std.proofs.Common.{List, ◌+◌, ◌≤◌, length}
 use Rattle.sourcemap_check_segments.specs.Segments.{semicolon, page_of}
 use Rattle.sourcemap_check_segments.specs.Steps.{AreWithin, counts_of, parts_left, bytes_left}
 use Rattle.sourcemap_check_report.specs.declared.report.Finding.{Finding}

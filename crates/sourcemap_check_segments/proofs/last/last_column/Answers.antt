@@ -1,7 +1,7 @@
 use Rattle.std.proofs.Common.{◌++◌, ◌∷◌, ◌≡◌, ◌≢◌, ◌∙◌, sym, ap, [], length, arith, rules, FitsSigned, None}
 use mir.Syntax.{w64, w128}
 use Rattle.std.proofs.lemmas.Bool.{eqb-true, eqb-false}
-use Rattle.std.proofs.lemmas.Int.{ints, to_z-of_z}
+use Rattle.std.proofs.lemmas.Int.{ints}
 use Rattle.std.proofs.lemmas.List.{nil_from_length}
 use Rattle.sourcemap_check_segments.specs.Segments.{segments_of}
 use Rattle.sourcemap_check_segments.specs.Last.{greatest_from, columns_in}

@@ -1,4 +1,4 @@
-use Rattle.std.proofs.Common.{arith, refl, ◌∙◌, ap}
+use Rattle.std.proofs.Common.{arith}
 use Rattle.sourcemap_check_segments.proofs.last.last_position.Goals as goal
 
 pub loop-rest-preserved : goal.loop-rest-preserved

@@ -1,4 +1,4 @@
-use Rattle.std.proofs.Common.{sym, ◌∙◌}
+use Rattle.std.proofs.Common.{sym}
 use Rattle.sourcemap_check_segments.proofs.SegmentLemmas.{large_is}
 use Rattle.sourcemap_check_segments.proofs.segment.has_large.Goals as goal
 

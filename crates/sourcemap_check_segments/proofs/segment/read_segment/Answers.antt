@@ -1,4 +1,4 @@
-use Rattle.std.proofs.Common.{◌≡◌, ◌∙◌, ap, ℕ, get_or, length, FitsSigned, rules}
+use Rattle.std.proofs.Common.{◌≡◌, ◌∙◌, ap, get_or, length, FitsSigned, rules}
 use mir.Syntax.{w64}
 use Rattle.sourcemap_check_segments.specs.Segments.{raws_of, is_count}
 use Rattle.sourcemap_check_segments.specs.Steps.{small_raw}

@@ -1,5 +1,4 @@
-use Rattle.std.proofs.Common.{◌≡◌, ◌%◌, ◌∙◌, sym, arith, Some, None, ap, Bool}
-use Rattle.std.specs.Prelude.{◌||◌}
+use Rattle.std.proofs.Common.{◌≡◌, ◌%◌, ◌∙◌, sym, arith, Some}
 use Rattle.sourcemap_vlq.specs.Vlq.{digit_value}
 use Rattle.sourcemap_check_segments.specs.Segments.{raws_of, has_foreign}
 use Rattle.sourcemap_check_segments.proofs.SegmentLemmas.{not_foreign, raws_of-more, raws_of-next}

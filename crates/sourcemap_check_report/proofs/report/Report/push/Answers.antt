@@ -1,4 +1,4 @@
-use Rattle.std.proofs.Common.{◌≡◌, ◌<◌, ◌≤◌, ◌∙◌, ap, sym, arith, slice_index, length, rules, min, ◌+◌, subst, ℕ, get_or, refl}
+use Rattle.std.proofs.Common.{◌≡◌, ◌<◌, ◌≤◌, ◌∙◌, ap, arith, slice_index, length, rules, min, ◌+◌, subst, get_or, refl}
 use Rattle.sourcemap_check_report.specs.Numbers.{number_of}
 use Rattle.sourcemap_check_report.proofs.ReportLemmas.{Reports-kept, Reports-counted}
 use Rattle.sourcemap_check_report.proofs.report.Report.push.Goals as goal
