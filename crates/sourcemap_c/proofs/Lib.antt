@@ -3,6 +3,7 @@ pub mod OpeningLemmas
 pub mod ReplacingLemmas
 pub mod IgnoreListsLemmas
 pub mod BuildingLemmas
+pub mod BundlesLemmas
 pub mod Steps
 pub mod Lending
 pub mod AssemblingLemmas

@@ -15,7 +15,7 @@ ghost use Rattle.sourcemap_c.specs.Kinds.{tree_in};
 use crate::codes::{OK, WRONG_KIND};
 use crate::kinds::{map_in, put_map};
 use sourcemap::ram_bundle::RamBundle;
-use sourcemap::{DecodedMap, Result, SourceMap, SourceMapIndex, SourceView};
+use sourcemap::{DecodedMap, Error, Result, SourceMap, SourceMapIndex, SourceView};
 use sourcemap_bundle_split::split::BundleSplitter;
 use sourcemap_c_handles::errors::{ErrorReport, Failure, Outcome, finish};
 use sourcemap_c_handles::{Handle, Held};
@@ -53,8 +53,13 @@ fn open(alloc: Global, bundle: &mut Handle, bytes: &[u8]) -> Outcome<()>
 {
     let copy = Vec::from_slice(alloc, bytes)?;
     let parsed = RamBundle::parse_indexed_from_vec(copy)?;
-    bundle.fill(alloc, Held::Bundle(Arc::new(alloc, parsed)?))?;
-    Ok(())
+    match Arc::new(alloc, parsed) {
+        Ok(parsed) => {
+            bundle.fill(alloc, Held::Bundle(parsed))?;
+            Ok(())
+        }
+        Err(_) => Err(Failure::Library(Error::OutOfMemory)),
+    }
 }
 
 /// Writes the number of entries that the header states for the module table. The bundle may end

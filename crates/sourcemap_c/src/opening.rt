@@ -7,7 +7,7 @@ ghost use Rattle.sourcemap_index.specs.Decode.{BytesDecode, UrlDecodes};
 ghost use Rattle.sourcemap_index.specs.Family.{map_tree};
 ghost use Rattle.sourcemap_index_model.specs.MapTree.{MapTree};
 ghost use Rattle.sourcemap_index_model.specs.WellFormed.{IsWellFormed};
-ghost use Rattle.sourcemap_c.specs.Codes.{Answers, Does, NoError, OfLibrary, OfLibraryOrKind};
+ghost use Rattle.sourcemap_c.specs.Codes.{Answers, Does, NoError, OfLibrary, OfLibraryOrKind, UnlessMemory};
 ghost use Rattle.sourcemap_c.specs.Kinds.{kind_of, number_of, shareable_in, tree_in};
 ghost use Rattle.sourcemap_c.specs.Opening.{AreNoUrl, Holds, IsShared};
 
@@ -147,7 +147,7 @@ fn put_share(alloc: Global, held: &Held, other: &mut Handle) -> Outcome<()>
 
 fn share_of(held: &Held) -> Outcome<Held>
     ensures { MatchResult result (λ share. IsShared (shareable_in (Some held.now)) (shareable_in (Some share)))
-        (OfLibraryOrKind NoError (shareable_in (Some held.now) ≡ None)) }
+        (λ failure. UnlessMemory failure (OfLibraryOrKind NoError (shareable_in (Some held.now) ≡ None) failure)) }
 {
     match held {
         Held::Map(map) => Ok(Held::Map(Arc::try_clone(map)?)),

@@ -9,7 +9,7 @@ ghost use Rattle.sourcemap_c.specs.Codes.{Answers, Does, IsNoText, NoError, OfLi
 ghost use Rattle.sourcemap_c.specs.Kinds.{view_in};
 
 use crate::codes::{OK, WRONG_KIND, put_text, text_in};
-use sourcemap::SourceView;
+use sourcemap::{Error, SourceView};
 use sourcemap_c_handles::errors::{ErrorReport, Failure, Outcome, finish};
 use sourcemap_c_handles::{Handle, Held};
 use std::alloc::Global;
@@ -45,8 +45,13 @@ fn open(alloc: Global, view: &mut Handle, text: &[u8]) -> Outcome<()>
         (held_in view.new ≡ held_in view.old) }
 {
     let made = SourceView::new(alloc, text_in(text)?)?;
-    view.fill(alloc, Held::View(Arc::new(alloc, made)?))?;
-    Ok(())
+    match Arc::new(alloc, made) {
+        Ok(made) => {
+            view.fill(alloc, Held::View(made))?;
+            Ok(())
+        }
+        Err(_) => Err(Failure::Library(Error::OutOfMemory)),
+    }
 }
 
 /// Borrows the text of a view.

@@ -47,7 +47,7 @@ sections_send : IsSend (Vec.the_row SourceMapSection.the_row Global.the_row TheI
 sections_send = vecs.the_send SourceMapSection.the_row Global.the_row TheImpl.ghosts section_send heap.the_send frees.the_frees
 
 field_send : IsSend (Held.the_field).row
-field_send = enum_send (enums.shape Held.the_type) ((shared_send, tt), ((builder.the_send, tt), ((view_send, tt), ((bundle_send, tt), ((splitter.the_send, tt), ((search (Crossing.crosses, sendable), tt), ((sections_send, tt), tt)))))))
+field_send = enum_send (enums.shape Held.the_type) ((shared_send, tt), ((builder.the_send, tt), ((view_send, tt), ((bundle_send, tt), ((splitter.the_field_send, tt), ((search (Crossing.crosses, sendable), tt), ((sections_send, tt), tt)))))))
 
 pub held_send : IsSend Held.the_row
 held_send = recorded_send (Held.the_field).row _ _ (Held.the_type).to_one field_send
