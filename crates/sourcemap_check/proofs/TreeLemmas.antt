@@ -11,7 +11,8 @@ use Rattle.serde_json.specs.Data.{Data, null, boolean, number, string, array, ob
 use Rattle.serde_json.specs.Data.{Members, no_members, member, depth, items_depth, members_depth}
 use Rattle.serde_json.specs.Find.{get, get_member, as_array, as_object}
 use Rattle.sourcemap_check_keys.specs.Values.{list_at}
-use Rattle.sourcemap_check.specs.Trees.{Tree, tree, Sections, no_sections, tree_of, sections_in, sections_of, sections_from}
+use Rattle.sourcemap_check.specs.Trees.{Tree, tree, Sections, no_sections, tree_of, sections_in, sections_of}
+use Rattle.sourcemap_check.specs.Trees.{sections_from}
 use Rattle.sourcemap_check.specs.Trees.{inner_of, inner_in, map_tree, with_section}
 
 -- The sections of a map.

@@ -22,7 +22,8 @@ abbrev pub text_last : Data → Option Position
 text_last m =
     if is_index m then None else option_and_then last_position (option_and_then as_str (get (codes "mappings") m))
 
--- a position in a section, as a position in the map that has the section: the offset is added, its column on line 0 only
+-- a position in a section, as a position in the map that has the section: the offset is added, its column on line 0
+-- only
 abbrev pub moved : Position → Position → Position
 moved offset p = record {
   line = capped_sum offset.line p.line;

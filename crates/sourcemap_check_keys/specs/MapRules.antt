@@ -1,9 +1,11 @@
--- The rules of ECMA-426 on the keys of a map. An index map is one with `sections`. Of its keys only `version`, `file` and
+-- The rules of ECMA-426 on the keys of a map. An index map is one with `sections`. Of its keys only `version`, `file`
+-- and
 -- `sections` are looked at, and that it has no `mappings`.
 use Rattle.std.specs.Prelude.{◌&&◌, Bool, not, codes}
 use Rattle.serde_json.specs.Data.{Data}
 use Rattle.sourcemap_check_keys.specs.Values.{has, fails, list_fails, list_has, count_at}
-use Rattle.sourcemap_check_keys.specs.declared.values.Test.TheVariants.{Text, TextOrNull, Number, Whole, Three, BelowZero}
+use Rattle.sourcemap_check_keys.specs.declared.values.Test.TheVariants.{Text, TextOrNull, Number, Whole, Three}
+use Rattle.sourcemap_check_keys.specs.declared.values.Test.TheVariants.{BelowZero}
 use Rattle.sourcemap_check_keys.specs.declared.values.Test.TheVariants.{AtLeast, Array}
 use Rattle.sourcemap_check_report.specs.declared.rules.MapRule.{MapRule}
 use Rattle.sourcemap_check_report.specs.declared.rules.MapRule.TheVariants.{VersionMissing, VersionType, VersionValue}

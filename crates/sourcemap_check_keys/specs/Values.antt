@@ -9,7 +9,8 @@ use Rattle.std.specs.Int.{w64}
 use Rattle.serde_json.specs.Data.{Num, unsigned, negative, float, Data, Items, no_items, item}
 use Rattle.serde_json.specs.Find.{get, as_null, as_number, as_str, as_array, as_object}
 use Rattle.sourcemap_check_keys.specs.declared.values.Test.{Test}
-use Rattle.sourcemap_check_keys.specs.declared.values.Test.TheVariants.{Text, TextOrNull, Number, Whole, Three, BelowZero}
+use Rattle.sourcemap_check_keys.specs.declared.values.Test.TheVariants.{Text, TextOrNull, Number, Whole, Three}
+use Rattle.sourcemap_check_keys.specs.declared.values.Test.TheVariants.{BelowZero}
 use Rattle.sourcemap_check_keys.specs.declared.values.Test.TheVariants.{AtLeast, Position, Object, Array}
 
 -- the whole number that a float is, up to 2^53: `3.0` is 3, `0.5` is none

@@ -1,18 +1,27 @@
 -- The number of each rule. Its code is `SM` and this number plus 101.
 use Rattle.std.specs.Prelude.{ℕ}
 use Rattle.sourcemap_check_report.specs.declared.rules.MapRule.{MapRule}
-use Rattle.sourcemap_check_report.specs.declared.rules.MapRule.TheVariants.{VersionMissing, VersionType, VersionValue, FileType}
-use Rattle.sourcemap_check_report.specs.declared.rules.MapRule.TheVariants.{SourceRootType, SourcesMissing, SourcesType, SourcesContentType}
-use Rattle.sourcemap_check_report.specs.declared.rules.MapRule.TheVariants.{NamesType, IgnoreListType, IgnoreListBelowZero, IgnoreListPastSources}
-use Rattle.sourcemap_check_report.specs.declared.rules.MapRule.TheVariants.{MappingsMissing, MappingsType, MappingsInIndex, SectionsType}
+use Rattle.sourcemap_check_report.specs.declared.rules.MapRule.TheVariants.{VersionMissing, VersionType, VersionValue}
+use Rattle.sourcemap_check_report.specs.declared.rules.MapRule.TheVariants.{FileType}
+use Rattle.sourcemap_check_report.specs.declared.rules.MapRule.TheVariants.{SourceRootType, SourcesMissing, SourcesType}
+use Rattle.sourcemap_check_report.specs.declared.rules.MapRule.TheVariants.{SourcesContentType}
+use Rattle.sourcemap_check_report.specs.declared.rules.MapRule.TheVariants.{NamesType, IgnoreListType}
+use Rattle.sourcemap_check_report.specs.declared.rules.MapRule.TheVariants.{IgnoreListBelowZero, IgnoreListPastSources}
+use Rattle.sourcemap_check_report.specs.declared.rules.MapRule.TheVariants.{MappingsMissing, MappingsType}
+use Rattle.sourcemap_check_report.specs.declared.rules.MapRule.TheVariants.{MappingsInIndex, SectionsType}
 use Rattle.sourcemap_check_report.specs.declared.rules.SectionRule.{SectionRule}
-use Rattle.sourcemap_check_report.specs.declared.rules.SectionRule.TheVariants.{SectionType, OffsetMissing, OffsetType, LineMissing}
-use Rattle.sourcemap_check_report.specs.declared.rules.SectionRule.TheVariants.{LineType, ColumnMissing, ColumnType, MapMissing}
+use Rattle.sourcemap_check_report.specs.declared.rules.SectionRule.TheVariants.{SectionType, OffsetMissing, OffsetType}
+use Rattle.sourcemap_check_report.specs.declared.rules.SectionRule.TheVariants.{LineMissing}
+use Rattle.sourcemap_check_report.specs.declared.rules.SectionRule.TheVariants.{LineType, ColumnMissing, ColumnType}
+use Rattle.sourcemap_check_report.specs.declared.rules.SectionRule.TheVariants.{MapMissing}
 use Rattle.sourcemap_check_report.specs.declared.rules.SectionRule.TheVariants.{MapType}
 use Rattle.sourcemap_check_report.specs.declared.rules.SegmentRule.{SegmentRule}
-use Rattle.sourcemap_check_report.specs.declared.rules.SegmentRule.TheVariants.{ForeignByte, CutNumber, FieldCount, LargeNumber}
-use Rattle.sourcemap_check_report.specs.declared.rules.SegmentRule.TheVariants.{ColumnBelowZero, SourceBelowZero, LineBelowZero, SourceColumnBelowZero}
-use Rattle.sourcemap_check_report.specs.declared.rules.SegmentRule.TheVariants.{NameBelowZero, SourcePastList, NamePastList}
+use Rattle.sourcemap_check_report.specs.declared.rules.SegmentRule.TheVariants.{ForeignByte, CutNumber, FieldCount}
+use Rattle.sourcemap_check_report.specs.declared.rules.SegmentRule.TheVariants.{LargeNumber}
+use Rattle.sourcemap_check_report.specs.declared.rules.SegmentRule.TheVariants.{ColumnBelowZero, SourceBelowZero}
+use Rattle.sourcemap_check_report.specs.declared.rules.SegmentRule.TheVariants.{LineBelowZero, SourceColumnBelowZero}
+use Rattle.sourcemap_check_report.specs.declared.rules.SegmentRule.TheVariants.{NameBelowZero, SourcePastList}
+use Rattle.sourcemap_check_report.specs.declared.rules.SegmentRule.TheVariants.{NamePastList}
 use Rattle.sourcemap_check_report.specs.declared.rules.Rule.{Rule}
 use Rattle.sourcemap_check_report.specs.declared.rules.Rule.TheVariants.{NotJson, NotObject, Map, OutOfOrder, Overlap}
 use Rattle.sourcemap_check_report.specs.declared.rules.Rule.TheVariants.{Section, Segment}

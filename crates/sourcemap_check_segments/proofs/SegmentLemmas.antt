@@ -1,6 +1,7 @@
 -- Lemmas on the parts of a text, the numbers of a segment, and sums.
 use Rattle.std.proofs.Common.{◌≡◌, ◌≢◌, ℕ, ◌%◌, ◌<◌, ◌≤◌, ◌==◌, Bool, true, false, not, min, List, [], ◌∷◌, ◌++◌}
-use Rattle.std.proofs.Common.{length, get_or, zero, suc, slice_index, sym, ◌∙◌, ap, refl, subst, append_assoc, arith, All, ℤ, pos, ◌+ℤ◌}
+use Rattle.std.proofs.Common.{length, get_or, zero, suc, slice_index, sym, ◌∙◌, ap, refl, subst, append_assoc, arith}
+use Rattle.std.proofs.Common.{All, ℤ, pos, ◌+ℤ◌}
 use Rattle.std.proofs.Common.{Some, None, inl, inr, lit<, of_z, to_z}
 use mir.Syntax.{w64, w128}
 use mir.Val.{SFits}
@@ -12,7 +13,8 @@ use Rattle.std.proofs.lemmas.Int.{ints, to_z-of_z}
 use Rattle.std.proofs.lemmas.List.Elements.{All-from_get_or}
 use Rattle.std.proofs.lemmas.List.Splits.{slice_split_none, slice_split_at}
 use Rattle.sourcemap_vlq.specs.Vlq.{digit_value}
-use Rattle.sourcemap_check_segments.specs.Segments.{is_foreign, continues, before_raws, raws_of, value_of, is_large, is_cut}
+use Rattle.sourcemap_check_segments.specs.Segments.{is_foreign, continues, before_raws, raws_of, value_of, is_large}
+use Rattle.sourcemap_check_segments.specs.Segments.{is_cut}
 use Rattle.sourcemap_check_segments.specs.Segments.{is_count, is_sound, is_whole, has_large, has_foreign, delta, sum_at}
 use Rattle.sourcemap_check_segments.specs.Steps.{small_raw, later_raws, IsWithin}
 

@@ -1,11 +1,13 @@
 -- The last generated position of a text: the greatest column of the last line that has one.
-use Rattle.std.specs.Prelude.{ℕ, ◌+◌, ◌&&◌, max, min, if◌then◌else◌, List, [], ◌∷◌, ◌++◌, Option, Some, None, option_map}
+use Rattle.std.specs.Prelude.{ℕ, ◌+◌, ◌&&◌, max, min, if◌then◌else◌, List, [], ◌∷◌, ◌++◌, Option, Some, None}
+use Rattle.std.specs.Prelude.{option_map}
 use Rattle.std.specs.Prelude.{unwrap_or, fold, pos, int_le, unsigned_abs}
 use Rattle.std.specs.Option.{option_or}
 use Rattle.sourcemap_check_segments.specs.declared.last.Position.{Position}
 use Rattle.sourcemap_check_segments.specs.Segments.{page_of, is_sound, sum_at}
 
--- the column of a segment, if the segment is sound and its column is not below 0. `line` are the segments of its line up
+-- the column of a segment, if the segment is sound and its column is not below 0. `line` are the segments of its line
+-- up
 -- to and including it. A column stops at 18446744073709551615
 abbrev pub column_at : (line : List (List ℕ)) → List ℕ → List ℕ
 column_at line segment =

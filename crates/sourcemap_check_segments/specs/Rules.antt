@@ -9,7 +9,8 @@ use Rattle.sourcemap_check_report.specs.declared.rules.SegmentRule.TheVariants.{
 use Rattle.sourcemap_check_report.specs.declared.rules.SegmentRule.TheVariants.{SourcePastList, NamePastList}
 use Rattle.sourcemap_check_report.specs.declared.rules.Rule.TheVariants.{Segment}
 use Rattle.sourcemap_check_report.specs.declared.report.Finding.{Finding}
-use Rattle.sourcemap_check_segments.specs.Segments.{page_of, raws_of, has_foreign, is_cut, is_whole, is_count, has_large}
+use Rattle.sourcemap_check_segments.specs.Segments.{page_of, raws_of, has_foreign, is_cut, is_whole, is_count}
+use Rattle.sourcemap_check_segments.specs.Segments.{has_large}
 use Rattle.sourcemap_check_segments.specs.Segments.{has_field, sum_at, joined}
 
 -- how many sources and how many names a map has

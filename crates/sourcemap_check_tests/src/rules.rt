@@ -7,20 +7,72 @@ use sourcemap_test_support::checks::{Checked, check, check_that};
 // Name, map, codes.
 static MAPS: [(&str, &str, &str); 20] = [
     ("no JSON", r#"{"version":3,"#, "SM101"),
-    ("a header", ")]}'\n{\"version\":3,\"sources\":[],\"mappings\":\"\"}", "SM101"),
+    (
+        "a header",
+        ")]}'\n{\"version\":3,\"sources\":[],\"mappings\":\"\"}",
+        "SM101",
+    ),
     ("a list", "[]", "SM102"),
-    ("3 with a fraction", r#"{"version":3.0,"sources":[],"mappings":""}"#, ""),
-    ("the last of two keys", r#"{"version":2,"version":3,"sources":[],"mappings":""}"#, ""),
-    ("null is no text", r#"{"version":3,"file":null,"sources":[],"mappings":""}"#, "SM106"),
-    ("null in sources", r#"{"version":3,"sources":[null],"mappings":"AAAA"}"#, ""),
-    ("null in names", r#"{"version":3,"sources":[],"names":[null],"mappings":""}"#, "SM111"),
-    ("below 0", r#"{"version":3,"sources":["a"],"ignoreList":[-1],"mappings":""}"#, "SM113"),
-    ("a zero of many digits", r#"{"version":3,"sources":[],"mappings":"gggggggggggggggggA"}"#, ""),
-    ("the least number", r#"{"version":3,"sources":[],"mappings":"B"}"#, "SM135"),
-    ("an empty segment", r#"{"version":3,"sources":[],"mappings":"A,;"}"#, "SM133"),
-    ("empty lines", r#"{"version":3,"sources":[],"mappings":";;A;"}"#, ""),
-    ("columns begin anew", r#"{"version":3,"sources":[],"mappings":"C;D"}"#, "SM135"),
-    ("a column that goes back", r#"{"version":3,"sources":[],"mappings":"E,D"}"#, ""),
+    (
+        "3 with a fraction",
+        r#"{"version":3.0,"sources":[],"mappings":""}"#,
+        "",
+    ),
+    (
+        "the last of two keys",
+        r#"{"version":2,"version":3,"sources":[],"mappings":""}"#,
+        "",
+    ),
+    (
+        "null is no text",
+        r#"{"version":3,"file":null,"sources":[],"mappings":""}"#,
+        "SM106",
+    ),
+    (
+        "null in sources",
+        r#"{"version":3,"sources":[null],"mappings":"AAAA"}"#,
+        "",
+    ),
+    (
+        "null in names",
+        r#"{"version":3,"sources":[],"names":[null],"mappings":""}"#,
+        "SM111",
+    ),
+    (
+        "below 0",
+        r#"{"version":3,"sources":["a"],"ignoreList":[-1],"mappings":""}"#,
+        "SM113",
+    ),
+    (
+        "a zero of many digits",
+        r#"{"version":3,"sources":[],"mappings":"gggggggggggggggggA"}"#,
+        "",
+    ),
+    (
+        "the least number",
+        r#"{"version":3,"sources":[],"mappings":"B"}"#,
+        "SM135",
+    ),
+    (
+        "an empty segment",
+        r#"{"version":3,"sources":[],"mappings":"A,;"}"#,
+        "SM133",
+    ),
+    (
+        "empty lines",
+        r#"{"version":3,"sources":[],"mappings":";;A;"}"#,
+        "",
+    ),
+    (
+        "columns begin anew",
+        r#"{"version":3,"sources":[],"mappings":"C;D"}"#,
+        "SM135",
+    ),
+    (
+        "a column that goes back",
+        r#"{"version":3,"sources":[],"mappings":"E,D"}"#,
+        "",
+    ),
     (
         "one past the list",
         r#"{"version":3,"sources":["a"],"names":["n"],"mappings":"ACAAA,ADAAC"}"#,

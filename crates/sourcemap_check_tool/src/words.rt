@@ -51,7 +51,8 @@ fn map_sentence(rule: MapRule) -> &'static str {
         MapRule::NamesType => "names is no list of texts",
         MapRule::IgnoreListType => "ignoreList is no list of whole numbers",
         MapRule::IgnoreListBelowZero => "ignoreList has a number below 0",
-        MapRule::IgnoreListPastSources => "ignoreList has a number that is not below the number of sources",
+        MapRule::IgnoreListPastSources =>
+            "ignoreList has a number that is not below the number of sources",
         MapRule::MappingsMissing => "there is no mappings",
         MapRule::MappingsType => "mappings is no text",
         MapRule::MappingsInIndex => "an index map has mappings",

@@ -2,7 +2,8 @@ use Rattle.std.proofs.Common.{◌≡◌, ◌≢◌, ◌∙◌, sym, ap, [], leng
 use Rattle.std.proofs.lemmas.List.{append-nil, nil_from_length}
 use Rattle.std.proofs.lemmas.Bool.{eqb-true, eqb-false}
 use Rattle.sourcemap_check_segments.specs.Segments.{segments_of}
-use Rattle.sourcemap_check_segments.proofs.FindingLemmas.{LineSoFar-none, LineSoFar-more, LineSoFar-reports, LineSoFar-sums}
+use Rattle.sourcemap_check_segments.proofs.FindingLemmas.{LineSoFar-none, LineSoFar-more, LineSoFar-reports}
+use Rattle.sourcemap_check_segments.proofs.FindingLemmas.{LineSoFar-sums}
 use Rattle.sourcemap_check_segments.proofs.FindingLemmas.{segments_of-some, Reports-none}
 use Rattle.sourcemap_check_segments.proofs.check.add_line.Goals as goal
 
