@@ -1,0 +1,3 @@
+mod CompileLemmas
+mod MeaningLemmas
+mod ScopesLemmas

@@ -1,0 +1,5 @@
+pub mod Compile
+pub mod Errors
+pub mod Meaning
+pub mod Scopes
+pub mod Texts
