@@ -27,14 +27,14 @@ def numbers(segment):
 
 
 def tokens_of(mappings):
-    """Tokens as (line, column, source, original line, original column, name, range)."""
+    """Tokens as (line, column, source, original line, original column, name, range, scope)."""
     tokens, source, src_line, src_col, name = [], 0, 0, 0, 0
     for line, text in enumerate(mappings.split(';')):
         column = 0
         for segment in filter(None, text.split(',')):
             n = numbers(segment)
             column += n[0]
-            token = [line, column, NO_ID, NO_ID, NO_ID, NO_ID, 0]
+            token = [line, column, NO_ID, NO_ID, NO_ID, NO_ID, 0, 0]
             if len(n) > 1:
                 source, src_line, src_col = source + n[1], src_line + n[2], src_col + n[3]
                 token[2:5] = source, src_line, src_col
@@ -50,20 +50,19 @@ def pack(values, width):
     return whole.to_bytes(8 * width, 'little')
 
 
-def write(tokens, sources, names, file=None, contents=None, debug_id=None):
+def write(tokens, sources, names, file=None, contents=None, debug_id=None, scopes=()):
     """`contents` is None for a map without contents, else a list with None for missing contents."""
-    texts = [t.encode() + b'\0' for t in sources + names]
+    texts = [t.encode() + b'\0' for t in [*sources, *names, *scopes]]
     texts += [b'' if t is None else t.encode() + b'\0' for t in [file] + (contents or [])]
     blocks = [tokens[i:i + BLOCK] for i in range(0, len(tokens), BLOCK)]
     starts = heads = bodies = b''
     for block in blocks:
         start = 64 + len(bodies)
-        bases = [min((t[f] + 1) % 2**32 for t in block) - 1 & NO_ID for f in range(7)]
-        bases[0], bases[6] = block[0][0], 0
-        packed = [[(t[f] - bases[f]) % 2**32 for t in block] for f in range(7)]
+        bases = [block[0][0], *(min((t[f] + 1) % 2**32 for t in block) - 1 & NO_ID for f in range(1, 6)), 0, 0]
+        packed = [[(t[f] - bases[f]) % 2**32 for t in block] for f in range(8)]
         widths = [max(p).bit_length() for p in packed]
         starts += struct.pack('<Q', (block[0][0] << 32) + block[0][1])
-        heads += struct.pack('<6I', start, *bases[1:6]) + bytes(widths) + b'\0'
+        heads += struct.pack('<6I', start, *bases[1:6]) + bytes(widths)
         bodies += b''.join(map(pack, packed, widths))
     tables, table = 64 + len(bodies), b''
     offset = tables + 40 * len(blocks) + 4 * (len(texts) + 1)
@@ -73,7 +72,7 @@ def write(tokens, sources, names, file=None, contents=None, debug_id=None):
     table += struct.pack('<I', offset)
     header = struct.pack('<8I', MAGIC, VERSION, offset, len(tokens), len(sources), len(names), len(contents or []),
                          debug_id is not None)
-    header += (debug_id or bytes(16)) + struct.pack('<I', tables) + bytes(12)
+    header += (debug_id or bytes(16)) + struct.pack('<II', tables, len(scopes)) + bytes(8)
     return header + bodies + starts + heads + table + b''.join(texts)
 
 
@@ -85,14 +84,17 @@ def token(data, index):
     tables, blocks = number(data, 48), (number(data, 12) + 63) // 64
     block, place = divmod(index, BLOCK)
     head = tables + 8 * blocks + 32 * block
+    position = number(data, tables + 8 * block, 8)
     start, values = number(data, head), []
-    for field in range(7):
+    for field in range(8):
         width = data[head + 24 + field] % 64
         bit = place * width
         packed = (number(data, start + bit // 8, 8) >> bit % 8) % 2**width
-        base = {0: number(data, tables + 8 * block, 8) >> 32, 6: 0}.get(field, number(data, head + 4 * field))
+        base = {0: position >> 32, 6: 0, 7: 0}.get(field, number(data, head + 4 * field))
         values.append((base + packed) % 2**32)
         start += 8 * width
+    if place == 0:
+        values[:2] = position >> 32, position % 2**32
     return tuple(values)
 
 
@@ -109,11 +111,12 @@ def lookup(data, line, column):
     if not exact and not before:
         return None
     found = exact[0] if exact else before[-1]
-    sources, names = number(data, 16), number(data, 20)
+    sources, names, scopes = number(data, 16), number(data, 20), number(data, 52)
     added = column - found[1] if found[6] and found[0] == line else 0
     source = text(data, found[2]) if found[2] < sources else None
     name = text(data, sources + found[5]) if found[5] < names else None
-    return source, found[3], min(found[4] + added, NO_ID), name
+    scope = text(data, sources + names + found[7] - 1) if 0 < found[7] <= scopes else None
+    return source, found[3], min(found[4] + added, NO_ID), name, scope
 
 
 if __name__ == '__main__':

@@ -1,16 +1,14 @@
 -- The index at which the search in a compiled map ends determines the closest token.
 use Rattle.std.proofs.Common.{◌≡◌, refl, sym, ap, subst, ◌∙◌, ℕ, ◌+◌, ◌-◌, ◌*◌, ◌/◌, ◌%◌, ◌^◌, ◌<◌, ◌≤◌}
 use Rattle.std.proofs.Common.{List, length, get_or}
-use Rattle.std.proofs.Common.{zero-add, true, false, arith, inl, inr, min, Some, None, Option, option_map}
-use Rattle.std.specs.Ordering.{is_eq, is_le, is_lt}
-use Rattle.std.specs.Option.{IfSome, SomeIff}
+use Rattle.std.proofs.Common.{zero, suc, zero-add, Bool, true, false, ◌==◌, if◌then◌else◌, arith, inl, inr, min, Some, None}
+use Rattle.std.specs.Ordering.{is_eq, is_lt}
 use Rattle.std.proofs.lemmas.Bool.{cases_eq, cases_lt, cases_order}
 use Rattle.std.proofs.lemmas.Bool.Decides.{nat_tests}
 use Rattle.std.proofs.lemmas.List.FromFn.{get_or-map-range_with_len, length-map-range_with_len}
 use Rattle.sourcemap_tokens.specs.declared.tokens.RawToken.{RawToken}
 use Rattle.sourcemap_tokens.specs.Tokens.{closest_token, destination, position_cmp}
-use Rattle.sourcemap_tokens.proofs.SearchLemmas.{IsApart, IsBracket, closest-at_most, closest-hit, closest-miss}
-use Rattle.sourcemap_tokens.proofs.SearchLemmas.{closest-none}
+use Rattle.sourcemap_tokens.proofs.SearchLemmas.{IsApart, IsBracket, closest-hit, closest-miss, closest-none}
 use Rattle.sourcemap_tokens.proofs.TokensLemmas.{position_cmp_total}
 use Rattle.sourcemap_compiled.specs.Blocks.{compiled_token, compiled_tokens, position_in, start_at, token_in}
 use Rattle.sourcemap_compiled.specs.Layout.{block_count, head_offset, token_count}
@@ -19,7 +17,7 @@ use Rattle.sourcemap_compiled.specs.Numbers.{position_number}
 
 -- ---- positions as numbers
 
-less_by_number : (a b c d : ℕ) → b < 2 ^ 32 → d < 2 ^ 32 → a * 2 ^ 32 + b < c * 2 ^ 32 + d
+pub less_by_number : (a b c d : ℕ) → b < 2 ^ 32 → d < 2 ^ 32 → a * 2 ^ 32 + b < c * 2 ^ 32 + d
     → is_lt (position_cmp (a, b) (c, d)) ≡ true
 less_by_number a b c d m n l = elim (cases_order a c) [
   | inl same ↦ let later : b < d = omega arith in grind (arith, nat_tests)
@@ -27,7 +25,7 @@ less_by_number a b c d m n l = elim (cases_order a c) [
   | inr (inr more) ↦ absurd (omega arith)
 ]
 
-not_less_by_number : (a b c d : ℕ) → b < 2 ^ 32 → d < 2 ^ 32 → c * 2 ^ 32 + d ≤ a * 2 ^ 32 + b
+pub not_less_by_number : (a b c d : ℕ) → b < 2 ^ 32 → d < 2 ^ 32 → c * 2 ^ 32 + d ≤ a * 2 ^ 32 + b
     → is_lt (position_cmp (a, b) (c, d)) ≡ false
 not_less_by_number a b c d m n l = elim (cases_order a c) [
   | inl same ↦ let later : d ≤ b = omega arith in grind (arith, nat_tests)
@@ -51,25 +49,73 @@ apart_by_number a b c d other = elim (cases_eq a c) [
   | inr line ↦ grind (arith, nat_tests)
 ]
 
-after_by_number : (a b c d : ℕ) → b < 2 ^ 32 → d < 2 ^ 32 → c * 2 ^ 32 + d < a * 2 ^ 32 + b
-    → is_le (position_cmp (a, b) (c, d)) ≡ false
-after_by_number a b c d m n l = elim (cases_order a c) [
-  | inl same ↦ let later : d < b = omega arith in grind (arith, nat_tests)
-  | inr (inl less) ↦ absurd (omega arith)
-  | inr (inr more) ↦ grind (arith, nat_tests)
-]
-
 -- ---- tokens by index
 
--- the token at a place of a block has the index 64 times the block, plus the place
-pub token_at_place : (bytes : List ℕ) (block place : ℕ) → place < 64
+-- the first token of a block
+pub position_of-first : (bytes : List ℕ) (block : ℕ) → position_of bytes (64 * block) ≡ start_at bytes block
+unfolding compiled_token
+position_of-first bytes block =
+    let of_block : 64 * block / 64 ≡ block = omega arith in
+    let of_place : 64 * block % 64 ≡ 0 = omega arith in
+    rw (of_block, of_place) (omega arith)
+
+pick_other : (b : Bool) (t : RawToken) (line column : ℕ) → b ≡ false
+    → (if b then record t { dst_line = line; dst_col = column } else t) ≡ t
+pick_other b t line column e = rw e refl
+
+-- the token at another place
+pub token_at_place : (bytes : List ℕ) (block place : ℕ) → 0 < place → place < 64
     → compiled_token bytes (64 * block + place)
     ≡ token_in bytes (start_at bytes block / 2 ^ 32) (head_offset bytes block) place
 unfolding compiled_token
-token_at_place bytes block place l =
+token_at_place bytes block place some l =
     let of_block : (64 * block + place) / 64 ≡ block = omega arith in
     let of_place : (64 * block + place) % 64 ≡ place = omega arith in
-    rw (of_block, of_place) refl
+    let other : (place == 0) ≡ false = grind (arith, nat_tests) in
+    rw (of_block, of_place) (pick_other (place == 0)
+    (token_in bytes (start_at bytes block / 2 ^ 32) (head_offset bytes block) place) (start_at bytes block / 2 ^ 32)
+    (start_at bytes block % 2 ^ 32) other)
+
+placed_at : (bytes : List ℕ) (block place : ℕ) → 0 < place → place < 64
+    → position_of bytes (64 * block + place)
+    ≡ position_in bytes (start_at bytes block / 2 ^ 32) (head_offset bytes block) place
+placed_at bytes block place some l = ap (λ t. position_number (destination t)) (token_at_place bytes block place some l)
+
+with_same : (t : RawToken) (line column : ℕ) → line ≡ t.dst_line → column ≡ t.dst_col
+    → record t { dst_line = line; dst_col = column } ≡ t
+with_same t line column a b = rw (a, b) refl
+
+-- the token at any place, if the numbers at place 0 say where the block starts
+pub token_of_block : (bytes : List ℕ) (block place : ℕ) → place < 64
+    → start_at bytes block ≡ position_in bytes (start_at bytes block / 2 ^ 32) (head_offset bytes block) 0
+    → compiled_token bytes (64 * block + place)
+    ≡ token_in bytes (start_at bytes block / 2 ^ 32) (head_offset bytes block) place
+unfolding compiled_token
+token_of_block bytes block zero l starts =
+    let of_block : (64 * block + 0) / 64 ≡ block = omega arith in
+    let of_place : (64 * block + 0) % 64 ≡ 0 = omega arith in
+    rw (of_block, of_place) (with_same
+    (token_in bytes (start_at bytes block / 2 ^ 32) (head_offset bytes block) 0) (start_at bytes block / 2 ^ 32)
+    (start_at bytes block % 2 ^ 32) (omega arith) (omega arith))
+token_of_block bytes block (suc place) l starts = token_at_place bytes block (suc place) (omega arith) l
+
+over : (b : Bool) (t : RawToken) (line column line' column' : ℕ)
+    → record t { dst_line = line'; dst_col = column' }
+    ≡ record (if b then record t { dst_line = line; dst_col = column } else t) { dst_line = line'; dst_col = column' }
+over true t line column line' column' = refl
+over false t line column line' column' = refl
+
+rest_of_token : (bytes : List ℕ) (index line column : ℕ)
+    → record (token_in bytes (start_at bytes (index / 64) / 2 ^ 32) (head_offset bytes (index / 64)) (index % 64)) {
+      dst_line = line;
+      dst_col = column;
+    }
+    ≡ record (compiled_token bytes index) { dst_line = line; dst_col = column }
+unfolding compiled_token
+rest_of_token bytes index line column =
+    over (index % 64 == 0)
+    (token_in bytes (start_at bytes (index / 64) / 2 ^ 32) (head_offset bytes (index / 64)) (index % 64))
+    (start_at bytes (index / 64) / 2 ^ 32) (start_at bytes (index / 64) % 2 ^ 32) line column
 
 pub length-compiled_tokens : (bytes : List ℕ) → length (compiled_tokens bytes) ≡ token_count bytes
 length-compiled_tokens bytes = length-map-range_with_len (compiled_token bytes) 0 (token_count bytes)
@@ -82,63 +128,93 @@ get_or-compiled_tokens bytes index d l =
 -- the generated column of a token has 32 bits
 pub column_small : (bytes : List ℕ) (index : ℕ) → (compiled_token bytes index).dst_col < 2 ^ 32
 unfolding compiled_token
-column_small bytes index = omega arith
+column_small bytes index = elim (cases_eq (index % 64) 0) [
+  | inl first ↦ rw first (omega arith)
+  | inr later ↦ let other : (index % 64 == 0) ≡ false = grind (arith, nat_tests) in rw other (omega arith)
+]
 
--- ---- the search in the starts, then in a block, ends at the first token at or after a position
+-- a token from its numbers and its position
+pub with_position : (bytes : List ℕ) (index position : ℕ) → position ≡ position_of bytes index
+    → record (token_in bytes (start_at bytes (index / 64) / 2 ^ 32) (head_offset bytes (index / 64)) (index % 64)) {
+      dst_line = position / 2 ^ 32;
+      dst_col = position % 2 ^ 32;
+    }
+    ≡ compiled_token bytes index
+with_position bytes index position is =
+    let small = column_small bytes index in
+    rest_of_token bytes index (position / 2 ^ 32) (position % 2 ^ 32)
+    ∙ with_same (compiled_token bytes index) (position / 2 ^ 32) (position % 2 ^ 32) (omega arith) (omega arith)
 
-module _ (bytes : List ℕ) (position : ℕ) (up : IsInOrder bytes) where
+-- ---- where the search in the starts, then in a block, ends
+
+module _ (bytes : List ℕ) (position : ℕ) where
   -- no block starts before the position
   pub first_at_front : (0 < block_count bytes → position ≤ start_at bytes 0) → IsFirstAt bytes position 0
   first_at_front from = record {
     within = omega arith;
     before = λ l. absurd (omega arith);
-    from = λ l. let starts = up.starts 0 (omega arith) in
-        let here = from (omega arith) in
-        subst (λ n. position ≤ n) starts here;
+    from = λ l. rw (position_of-first bytes 0) (from (omega arith));
   }
 
   module _ (block size place : ℕ) (inside : block < block_count bytes)
-      (whole : size ≡ min (token_count bytes - 64 * block) 64) (within : place ≤ size)
+      (whole : size ≡ min (token_count bytes - 64 * block) 64) (within : place ≤ size) (later : 0 < place)
       (starts : start_at bytes block < position)
       (next : block + 1 < block_count bytes → position ≤ start_at bytes (block + 1))
-      (before : 0 < place
+      (before : 1 < place
       → position_in bytes (start_at bytes block / 2 ^ 32) (head_offset bytes block) (place - 1) < position)
       (from : place < size
       → position ≤ position_in bytes (start_at bytes block / 2 ^ 32) (head_offset bytes block) place) where
-    placed : (k : ℕ) → k < 64
-        → position_of bytes (64 * block + k)
-        ≡ position_in bytes (start_at bytes block / 2 ^ 32) (head_offset bytes block) k
-    placed k l = ap (λ t. position_number (destination t)) (token_at_place bytes block k l)
-
-    front : start_at bytes block ≡ position_of bytes (64 * block)
-    front = up.starts block inside
-
-    some : 0 < place
-    some = elim (cases_eq place 0) [
-      | inl none ↦
-          let at : position ≤ position_in bytes (start_at bytes block / 2 ^ 32) (head_offset bytes block) 0 =
-          subst (λ k. position ≤ position_in bytes (start_at bytes block / 2 ^ 32) (head_offset bytes block) k) none
-          (from (omega arith)) in
-          let same : position_of bytes (64 * block)
-          ≡ position_in bytes (start_at bytes block / 2 ^ 32) (head_offset bytes block) 0 =
-          ap (position_of bytes) (omega arith) ∙ placed 0 (omega arith) in
-          absurd (omega (arith, front))
-      | inr other ↦ omega arith
+    ahead : position_of bytes (64 * block + place - 1) < position
+    ahead = elim (cases_lt 1 place) [
+      | inl more ↦
+          let back : 64 * block + place - 1 ≡ 64 * block + (place - 1) = omega arith in
+          rw back (rw (placed_at bytes block (place - 1) (omega arith) (omega arith)) (before more))
+      | inr one ↦
+          let back : 64 * block + place - 1 ≡ 64 * block = omega arith in
+          rw back (rw (position_of-first bytes block) starts)
     ]
 
     pub first_at_place : IsFirstAt bytes position (64 * block + place)
     first_at_place = record {
       within = omega arith;
-      before = λ l. let back : 64 * block + place - 1 ≡ 64 * block + (place - 1) = omega (arith, some) in
-          rw back (rw (placed (place - 1) (omega (arith, some))) (before some));
+      before = λ l. ahead;
       from = λ l. elim (cases_lt place size) [
-        | inl here ↦ rw (placed place (omega arith)) (from here)
+        | inl here ↦ rw (placed_at bytes block place later (omega arith)) (from here)
         | inr end ↦
             let after : 64 * block + place ≡ 64 * (block + 1) = omega arith in
             let there : block + 1 < block_count bytes = omega arith in
-            rw after (subst (λ n. position ≤ n) (up.starts (block + 1) there) (next there))
+            rw after (rw (position_of-first bytes (block + 1)) (next there))
       ];
     }
+
+  -- the positions that the search in a block returns
+  module _ (block size place : ℕ) (whole : size ≡ min (token_count bytes - 64 * block) 64) (within : place ≤ size)
+      (later : 0 < place) where
+    pub ahead_at : (ahead : ℕ) → (place ≡ 1 → ahead ≡ start_at bytes block)
+        → (1 < place
+        → ahead ≡ position_in bytes (start_at bytes block / 2 ^ 32) (head_offset bytes block) (place - 1))
+        → ahead ≡ position_of bytes (64 * block + place - 1)
+    ahead_at ahead first more = elim (cases_eq place 1) [
+      | inl one ↦
+          let back : 64 * block + place - 1 ≡ 64 * block = omega arith in
+          first one ∙ sym (ap (position_of bytes) back ∙ position_of-first bytes block)
+      | inr other ↦
+          let back : 64 * block + place - 1 ≡ 64 * block + (place - 1) = omega arith in
+          more (omega arith)
+          ∙ sym (ap (position_of bytes) back ∙ placed_at bytes block (place - 1) (omega arith) (omega arith))
+    ]
+
+    pub next_there : (next : ℕ)
+        → (place < size → next ≡ position_in bytes (start_at bytes block / 2 ^ 32) (head_offset bytes block) place)
+        → (place ≡ size → block + 1 < block_count bytes → next ≡ start_at bytes (block + 1))
+        → 64 * block + place < token_count bytes → next ≡ position_of bytes (64 * block + place)
+    next_there next here end l = elim (cases_lt place size) [
+      | inl less ↦ here less ∙ sym (placed_at bytes block place later (omega arith))
+      | inr all ↦
+          let after : 64 * block + place ≡ 64 * (block + 1) = omega arith in
+          end (omega arith) (omega arith)
+          ∙ sym (ap (position_of bytes) after ∙ position_of-first bytes (block + 1))
+    ]
 
 -- ---- the first token at or after a position determines the closest one
 
@@ -183,28 +259,8 @@ module _ (bytes : List ℕ) (p : ℕ × ℕ) (index : ℕ) (up : IsInOrder bytes
   found_none front other =
       closest-none position_cmp_total destination (compiled_tokens bytes) p index up.tokens bracket front (apart other)
 
-  -- `r` is the index before this one, if there is one
-  pub found_below : (r : Option ℕ) → SomeIff r (1 ≤ index) (index - 1)
-      → (index < token_count bytes → position_of bytes index ≡ position_number p → ⊥)
-      → option_map (λ k. (k, compiled_token bytes k)) r ≡ closest_token (compiled_tokens bytes) p
-  found_below None none other =
-      found_none (elim (cases_eq index 0) [ inl front ↦ front | inr later ↦ absurd (none (omega arith)) ]) other
-  found_below (Some k) some other = rw some.1 (found_before some.0 other)
-
--- the closest token is not after the position
-pub never_after : (bytes : List ℕ) (p : ℕ × ℕ) (index : ℕ) → p.1 < 2 ^ 32
-    → Some (index, compiled_token bytes index) ≡ closest_token (compiled_tokens bytes) p
-    → position_number p < position_of bytes index → ⊥
-never_after bytes p index small closest after =
-    let at_most : is_le (position_cmp (destination (compiled_token bytes index)) p) ≡ true =
-    subst (λ o. IfSome o (λ (e : ℕ × RawToken). is_le (position_cmp (destination e.1) p) ≡ true)) (sym closest)
-    (closest-at_most destination position_cmp (compiled_tokens bytes) p) in
-    let never : is_le (position_cmp (destination (compiled_token bytes index)) p) ≡ false =
-    after_by_number _ _ p.0 p.1 (column_small bytes index) small after in
-    cc
-
 -- a fact on a block, by the values of its parts
-pub by_parts : (P : List ℕ → ℕ → ℕ → Type 0) (bytes bytes' : List ℕ) (line line' head head' : ℕ) → bytes ≡ bytes'
-    → line ≡ line' → head ≡ head' → P bytes line head → P bytes' line' head'
-by_parts P bytes bytes' line line' head head' a b c is =
-    subst (λ x. P bytes' line' x) c (subst (λ x. P bytes' x head) b (subst (λ x. P x line head) a is))
+pub by_parts : (P : List ℕ → ℕ → ℕ → Type 0) (bytes bytes' : List ℕ) (start start' head head' : ℕ) → bytes ≡ bytes'
+    → start ≡ start' → head ≡ head' → P bytes start head → P bytes' start' head'
+by_parts P bytes bytes' start start' head head' a b c is =
+    subst (λ x. P bytes' start' x) c (subst (λ x. P bytes' x head) b (subst (λ x. P x start head) a is))

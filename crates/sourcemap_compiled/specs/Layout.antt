@@ -15,7 +15,7 @@ abbrev pub compiled_version : ℕ
 compiled_version = 1
 
 -- The header: the magic number at 0, the version at 4, the file length at 8, four counts from 12 on, 1 or 0 at 28
--- for a debug id or none, the 16 bytes of the debug id at 32, and at 48 the offset of the tables.
+-- for a debug id or none, the 16 bytes of the debug id at 32, at 48 the offset of the tables, and at 52 one count more.
 
 abbrev pub file_length : List ℕ → ℕ
 file_length bytes = u32_at bytes 8
@@ -32,6 +32,10 @@ name_count bytes = u32_at bytes 20
 -- how many source ids have an item for contents: 0 if the map was compiled without contents
 abbrev pub content_count : List ℕ → ℕ
 content_count bytes = u32_at bytes 24
+
+-- the scopes are the names of functions; a map has them if it comes from Hermes
+abbrev pub scope_count : List ℕ → ℕ
+scope_count bytes = u32_at bytes 52
 
 abbrev pub compiled_debug_id : List ℕ → Option (List ℕ)
 compiled_debug_id bytes = if u32_at bytes 28 == 0 then None else Some (slice_range bytes 32 48)
@@ -54,9 +58,13 @@ start_offset bytes block = tables_start bytes + 8 * block
 abbrev pub head_offset : List ℕ → ℕ → ℕ
 head_offset bytes block = tables_start bytes + 8 * block_count bytes + 32 * block
 
--- the texts are those of the sources, those of the names, the file, and the contents
+-- the number of the text that is the file
+abbrev pub file_text : List ℕ → ℕ
+file_text bytes = source_count bytes + name_count bytes + scope_count bytes
+
+-- the texts are those of the sources, those of the names, those of the scopes, the file, and the contents
 abbrev pub text_count : List ℕ → ℕ
-text_count bytes = source_count bytes + name_count bytes + 1 + content_count bytes
+text_count bytes = file_text bytes + 1 + content_count bytes
 
 -- where each text starts in the file, and one number more, where the last text ends
 abbrev pub text_offset : List ℕ → ℕ → ℕ

@@ -3,6 +3,6 @@ pub mod Errors
 pub mod Layout
 pub mod Lookup
 pub mod Numbers
-pub mod Packing
+pub mod Soundness
 pub mod Stored
 pub mod Texts

@@ -4,7 +4,8 @@ use Rattle.std.specs.Prelude.{Option, Some, None, Result, Ok, Err}
 use Rattle.std.specs.Str.{IsUtf8}
 use denote.Ref.{Bor}
 use Rattle.sourcemap_compiled.specs.Numbers.{u32_at}
-use Rattle.sourcemap_compiled.specs.Layout.{content_count, name_count, source_count, text_offset}
+use Rattle.sourcemap_compiled.specs.Layout.{content_count, file_text, name_count, scope_count, source_count, text_offset}
+use Rattle.sourcemap_compiled.specs.Blocks.{scope_number}
 use Rattle.sourcemap_compiled.specs.declared.errors.CompiledMapError.{CompiledMapError}
 use Rattle.sourcemap_compiled.specs.declared.errors.CompiledMapError.TheVariants.{InvalidUtf8, TextOutside}
 
@@ -30,13 +31,23 @@ compiled_source bytes id = if nat_lt id (source_count bytes) then text_at bytes 
 abbrev pub compiled_name : List ℕ → ℕ → Result (Option (List ℕ)) CompiledMapError
 compiled_name bytes id = if nat_lt id (name_count bytes) then text_at bytes (source_count bytes + id) else Ok None
 
+-- the scope with this id; none if no scope has this id
+abbrev pub scope_text : List ℕ → ℕ → Result (Option (List ℕ)) CompiledMapError
+scope_text bytes id =
+    if nat_lt id (scope_count bytes) then text_at bytes (source_count bytes + name_count bytes + id) else Ok None
+
+-- the scope of the token with this index, if it has one
+abbrev pub compiled_scope : List ℕ → ℕ → Result (Option (List ℕ)) CompiledMapError
+compiled_scope bytes index =
+    let number = scope_number bytes index in if number == 0 then Ok None else scope_text bytes (number - 1)
+
 abbrev pub compiled_file : List ℕ → Result (Option (List ℕ)) CompiledMapError
-compiled_file bytes = text_at bytes (source_count bytes + name_count bytes)
+compiled_file bytes = text_at bytes (file_text bytes)
 
 -- the contents for this source id, if the map has some
 abbrev pub compiled_contents : List ℕ → ℕ → Result (Option (List ℕ)) CompiledMapError
 compiled_contents bytes id =
-    if nat_lt id (content_count bytes) then text_at bytes (source_count bytes + name_count bytes + 1 + id) else Ok None
+    if nat_lt id (content_count bytes) then text_at bytes (file_text bytes + 1 + id) else Ok None
 
 -- what a call returns that reads these bytes as text: the text, or `InvalidUtf8` if they are not UTF-8
 abbrev pub ReadsText : Result (Option (List ℕ)) CompiledMapError → Result (Option (Bor (List ℕ))) CompiledMapError

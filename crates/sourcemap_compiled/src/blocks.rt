@@ -1,7 +1,7 @@
 //! Blocks of packed tokens.
-ghost use Rattle.std.specs.Prelude.{◌≡◌, ◌≤◌, ◌<◌, ◌+◌, ◌-◌, ◌*◌, ◌^◌, length};
-ghost use Rattle.sourcemap_compiled.specs.Blocks.{base_at, packed_at, position_in, token_in, value_at, width_at};
-ghost use Rattle.sourcemap_compiled.specs.Blocks.{widths_before};
+ghost use Rattle.std.specs.Prelude.{◌≡◌, ◌≤◌, ◌<◌, ◌+◌, ◌-◌, ◌*◌, ◌/◌, ◌%◌, ◌^◌, length};
+ghost use Rattle.sourcemap_compiled.specs.Blocks.{base_at, packed_at, position_in, scope_field, token_in, value_at};
+ghost use Rattle.sourcemap_compiled.specs.Blocks.{width_at, widths_before};
 ghost use Rattle.sourcemap_compiled.specs.Numbers.{position_number};
 
 use crate::numbers::{bits_at, u32_at};
@@ -22,30 +22,44 @@ const NAME: usize = 5;
 
 const RANGE: usize = 6;
 
+const SCOPE: usize = 7;
+
 /// The number of tokens in a block. The last block may have fewer.
 pub(crate) const BLOCK_SIZE: usize = 64;
 
 // Where the widths of the fields are in a head.
 const WIDTHS: usize = 24;
 
-/// A block: the bytes of the file, where its head is in them, and the line of its first token.
+/// A block: the bytes of the file, where the block starts, and where its head is in the bytes.
 #[derive(Clone, Copy)]
 pub(crate) struct Block<'a> {
     pub(crate) bytes: &'a [u8],
-    pub(crate) line: u32,
+    pub(crate) start: u64,
     pub(crate) head: usize,
     ghost whole: { head + 32 ≤ length bytes.now },
 }
 
+/// Where a search ends: the index of a token, the position of the token ahead of it, and its own.
+#[derive(Clone, Copy)]
+pub(crate) struct Bracket {
+    pub(crate) index: usize,
+    pub(crate) ahead: u64,
+    pub(crate) next: u64,
+}
+
 impl<'a> Block<'a> {
-    /// Returns the token at a place.
-    pub(crate) fn token(&self, place: usize) -> RawToken
+    /// Returns the token at a place, whose generated position is known.
+    #[inline(always)]
+    pub(crate) fn token(&self, place: usize, position: u64) -> RawToken
         requires { place < 64 }
-        ensures { result ≡ token_in self.now.bytes.now self.now.line self.now.head place }
+        ensures { result ≡ record (token_in self.now.bytes.now (self.now.start / 2 ^ 32) self.now.head place) {
+          dst_line = position / 2 ^ 32;
+          dst_col = position % 2 ^ 32;
+        } }
     {
         RawToken {
-            dst_line: self.value(self.line, LINE, place),
-            dst_col: self.value(self.base(COLUMN), COLUMN, place),
+            dst_line: (position >> 32) as u32,
+            dst_col: (position % (1 << 32)) as u32,
             src_line: self.value(self.base(SOURCE_LINE), SOURCE_LINE, place),
             src_col: self.value(self.base(SOURCE_COLUMN), SOURCE_COLUMN, place),
             src_id: self.value(self.base(SOURCE), SOURCE, place),
@@ -54,40 +68,78 @@ impl<'a> Block<'a> {
         }
     }
 
-    /// Returns the generated position of the token at a place, as one number.
+    /// Returns the scope of the token at a place: 0 for none, otherwise the id plus 1.
+    pub(crate) fn scope(&self, place: usize) -> u64
+        requires { place < 64 }
+        ensures { result ≡ packed_at self.now.bytes.now self.now.head scope_field place }
+    {
+        self.packed(SCOPE, place)
+    }
+
+    /// Returns the generated position of the token at a place other than 0, as one number.
+    #[inline(always)]
     pub(crate) fn position(&self, place: usize) -> u64
         requires { place < 64 }
-        ensures { result ≡ position_in self.now.bytes.now self.now.line self.now.head place }
+        ensures { result ≡ position_in self.now.bytes.now (self.now.start / 2 ^ 32) self.now.head place }
     {
-        let line = self.value(self.line, LINE, place);
+        let line = self.value(self.line(), LINE, place);
         let column = self.value(self.base(COLUMN), COLUMN, place);
         position_number(line, column)
     }
 
-    /// Returns the first of the first `size` places whose token is at or after a position, or
-    /// `size`. If the tokens are not in order, the token before is before the position, and this
-    /// one is not.
-    pub(crate) fn first_at(&self, size: usize, position: u64) -> usize
-        requires { size ≤ 64 }
-        ensures within { result ≤ size }
-        ensures before { 0 < result → position_in self.now.bytes.now self.now.line self.now.head (result - 1) < position }
-        ensures from { result < size → position ≤ position_in self.now.bytes.now self.now.line self.now.head result }
+    /// Searches the places below `size` for a token at or after a position, where the token ahead
+    /// of it is before the position. Returns its place with both positions. If all tokens are
+    /// before the position, returns `size`, and `after` for the position there. If the tokens are
+    /// in order, the place is that of the first token at or after the position.
+    #[inline(always)]
+    pub(crate) fn search(&self, size: usize, position: u64, after: u64) -> Bracket
+        requires few { size ≤ 64 }
+        requires some { 0 < size }
+        requires starts { self.now.start < position }
+        ensures within { result.index ≤ size }
+        ensures later { 0 < result.index }
+        ensures first { result.index ≡ 1 → result.ahead ≡ self.now.start }
+        ensures ahead { 1 < result.index → result.ahead
+            ≡ position_in self.now.bytes.now (self.now.start / 2 ^ 32) self.now.head (result.index - 1) }
+        ensures next { result.index < size → result.next
+            ≡ position_in self.now.bytes.now (self.now.start / 2 ^ 32) self.now.head result.index }
+        ensures end { result.index ≡ size → result.next ≡ after }
+        ensures before { result.ahead < position }
+        ensures from { result.index < size → position ≤ result.next }
     {
-        let mut low = 0;
+        let mut low = 1;
         let mut high = size;
+        let mut ahead = self.start;
+        let mut next = after;
         while low < high {
             let middle = low + (high - low) / 2;
-            if self.position(middle) < position {
+            let here = self.position(middle);
+            if here < position {
                 low = middle + 1;
+                ahead = here;
             } else {
                 high = middle;
+                next = here;
             }
         }
-        low
+        Bracket {
+            index: low,
+            ahead,
+            next,
+        }
     }
 
+    // The line in which the block starts.
+    #[inline(always)]
+    fn line(&self) -> u32
+        ensures { result ≡ self.now.start / 2 ^ 32 }
+    {
+        (self.start >> 32) as u32
+    }
+
+    #[inline(always)]
     fn value(&self, base: u32, field: usize, place: usize) -> u32
-        requires field { field < 7 }
+        requires field { field < 8 }
         requires place { place < 64 }
         ensures { result ≡ value_at self.now.bytes.now base self.now.head field place }
     {
@@ -95,9 +147,10 @@ impl<'a> Block<'a> {
         (sum % (1 << 32)) as u32
     }
 
+    #[inline(always)]
     #[tactic(auto, unfolding(crate::specs::Blocks::packed_at))]
     fn packed(&self, field: usize, place: usize) -> u64
-        requires field { field < 7 }
+        requires field { field < 8 }
         requires place { place < 64 }
         ensures number { result ≡ packed_at self.now.bytes.now self.now.head field place }
         ensures small { result < 2 ^ 63 }
@@ -107,26 +160,29 @@ impl<'a> Block<'a> {
         bits_at(self.bytes, start, place * width, width)
     }
 
+    #[inline(always)]
     fn base(&self, field: usize) -> u32
-        requires { field < 7 }
+        requires { field < 8 }
         ensures { result ≡ base_at self.now.bytes.now self.now.head field }
     {
         u32_at(self.bytes, self.head + 4 * field)
     }
 
+    #[inline(always)]
     fn width(&self, field: usize) -> usize
-        requires { field < 7 }
+        requires { field < 8 }
         ensures value { result ≡ width_at self.now.bytes.now self.now.head field }
         ensures narrow { result < 64 }
     {
         usize::from(self.bytes[self.head + WIDTHS + field] % 64)
     }
 
+    #[inline(always)]
     #[tactic(auto, using(crate::proofs::BlocksLemmas::widths_before_steps))]
     fn widths_before(&self, field: usize) -> usize
-        requires { field < 7 }
+        requires { field < 8 }
         ensures sum { result ≡ widths_before self.now.bytes.now self.now.head field }
-        ensures few { result < 64 * 7 }
+        ensures few { result < 64 * 8 }
     {
         let mut sum = 0;
         for before in 0..field {

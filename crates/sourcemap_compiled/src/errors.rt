@@ -12,6 +12,8 @@ pub enum CompiledMapError {
     WrongVersion(u32),
     /// There are more bytes than the header says, or the tables pass the end of the file.
     WrongExtent,
+    /// The token with this index is before the token ahead of it.
+    OutOfOrder(u32),
     /// A text ends before its start, or after the end of the file.
     TextOutside,
     /// A text is not UTF-8.
@@ -34,6 +36,9 @@ impl fmt::Display for CompiledMapError {
             CompiledMapError::WrongExtent => f.write_str(
                 "a table of the compiled map has a wrong extent",
             ),
+            CompiledMapError::OutOfOrder(index) => {
+                write!(f, "the compiled map is out of order at token {index}")
+            }
             CompiledMapError::TextOutside => f.write_str(
                 "a text passes the end of the compiled map",
             ),

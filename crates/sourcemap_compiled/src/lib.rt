@@ -7,7 +7,7 @@ pub mod errors;
 mod lookup;
 pub mod map;
 mod numbers;
-mod packing;
 mod search;
 mod texts;
 pub mod token;
+mod verify;

@@ -1,13 +1,10 @@
 //! Lookups in a compiled map.
-ghost use Rattle.std.specs.Prelude.{◌≡◌, ◌≤◌, ◌<◌, IfSome, option_map};
+ghost use Rattle.std.specs.Prelude.{◌≡◌, IfSome, MatchOption, option_map};
 ghost use Rattle.sourcemap_compose.specs.Moved.{distance};
-ghost use Rattle.sourcemap_tokens.specs.Tokens.{destination};
 ghost use Rattle.sourcemap_compiled.specs.Blocks.{compiled_token};
-ghost use Rattle.sourcemap_compiled.specs.Layout.{token_count};
-ghost use Rattle.sourcemap_compiled.specs.Lookup.{IsInOrder, compiled_meaning, lookup};
+ghost use Rattle.sourcemap_compiled.specs.Lookup.{IsInOrder, IsNextTo, StartsAfter, compiled_meaning, lookup};
 ghost use Rattle.sourcemap_compiled.specs.Numbers.{position_number};
 
-use crate::blocks::position_number;
 use crate::map::CompiledMap;
 use crate::token::CompiledToken;
 use sourcemap_tokens::tokens::RawToken;
@@ -22,35 +19,20 @@ impl<'a> CompiledMap<'a> {
     /// token to the position, but at most 4294967295.
     ///
     /// This holds if the file is in order, as `compile` writes it. `parse` does not look at the
-    /// order. In a file out of order, the result is some token at or before the position, or `None`.
+    /// order. In a file out of order, the result is a token at the position, with the token ahead of
+    /// it elsewhere, or a token before the position, with the next token after it; `None` only if
+    /// the first token is after the position.
     pub fn lookup_token(&self, line: u32, column: u32) -> Option<CompiledToken<'a>>
         ensures value { IsInOrder (bytes_of self.now)
             → option_map token_value result ≡ lookup (bytes_of self.now) (line, column) }
         ensures meaning { IsInOrder (bytes_of self.now)
             → option_map meaning_of_token result ≡ compiled_meaning (bytes_of self.now) (line, column) }
-        ensures own { IfSome result (λ found.
-            (found.index < token_count (bytes_of self.now))
-            × (found.raw ≡ compiled_token (bytes_of self.now) found.index)) }
-        ensures at_most { IfSome result (λ found.
-            position_number (destination found.raw) ≤ position_number (line, column)) }
+        ensures own { IfSome result (λ found. found.raw ≡ compiled_token (bytes_of self.now) found.index) }
+        ensures next { MatchOption result (StartsAfter (bytes_of self.now) (position_number (line, column)))
+            (λ found. IsNextTo (bytes_of self.now) (position_number (line, column)) found.index) }
     {
-        self.closest(line, column)
-    }
-
-    fn closest(&self, line: u32, column: u32) -> Option<CompiledToken<'a>>
-        ensures value { IsInOrder (bytes_of self.now)
-            → option_map token_value result ≡ lookup (bytes_of self.now) (line, column) }
-        ensures own { IfSome result (λ found.
-            (found.index < token_count (bytes_of self.now))
-            × (found.raw ≡ compiled_token (bytes_of self.now) found.index)) }
-        ensures at_most { IfSome result (λ found.
-            position_number (destination found.raw) ≤ position_number (line, column)) }
-    {
-        let index = self.closest_index(line, column)?;
-        let raw = self.token(index);
-        if position_number(line, column) < position_number(raw.dst_line, raw.dst_col) {
-            return None;
-        }
+        let (index, position) = self.closest_index(line, column)?;
+        let raw = self.token(index, position);
         let extra_columns = distance(&raw, line, column);
         Some(CompiledToken {
             map: *self,

@@ -1,10 +1,10 @@
 //! Compiled maps, and what they hold.
-ghost use Rattle.std.specs.Prelude.{◌≡◌, ◌≤◌, ◌<◌, ◌/◌, ◌^◌, Some, IfErr, IfOk, length};
-ghost use Rattle.sourcemap_tokens.specs.Tokens.{destination};
-ghost use Rattle.sourcemap_compiled.specs.Blocks.{compiled_token, start_at};
+ghost use Rattle.std.specs.Prelude.{◌≡◌, ◌≤◌, ◌<◌, ◌^◌, Some, IfErr, IfOk, length};
+ghost use Rattle.sourcemap_compiled.specs.Blocks.{compiled_token, scope_number, start_at};
 ghost use Rattle.sourcemap_compiled.specs.Layout.{IsAccepted, block_count, content_count, head_offset, name_count};
-ghost use Rattle.sourcemap_compiled.specs.Layout.{refusal, source_count, tables_end, tables_start, token_count};
-ghost use Rattle.sourcemap_compiled.specs.Numbers.{position_number};
+ghost use Rattle.sourcemap_compiled.specs.Layout.{refusal, scope_count, source_count, tables_end, tables_start};
+ghost use Rattle.sourcemap_compiled.specs.Layout.{token_count};
+ghost use Rattle.sourcemap_compiled.specs.Lookup.{position_of};
 
 use crate::blocks::{BLOCK_SIZE, Block};
 use crate::errors::CompiledMapError;
@@ -88,6 +88,13 @@ impl<'a> CompiledMap<'a> {
         u32_at(self.bytes, 20)
     }
 
+    /// The number of scopes, which are names of functions. Their ids are the numbers below it.
+    pub fn scope_count(&self) -> u32
+        ensures { result ≡ scope_count (bytes_of self.now) }
+    {
+        u32_at(self.bytes, 52)
+    }
+
     pub(crate) fn content_count(&self) -> u32
         ensures { result ≡ content_count (bytes_of self.now) }
     {
@@ -109,7 +116,20 @@ impl<'a> CompiledMap<'a> {
         (self.token_count() as usize).div_ceil(BLOCK_SIZE)
     }
 
-    /// Returns the position of the first token of a block, as one number.
+    /// Returns where a block starts, or 0 if there is no such block.
+    #[inline(always)]
+    pub(crate) fn start_or_zero(&self, block: usize) -> u64
+        ensures { block < block_count (bytes_of self.now) → result ≡ start_at (bytes_of self.now) block }
+    {
+        if block < self.block_count() {
+            self.start(block)
+        } else {
+            0
+        }
+    }
+
+    /// Returns where a block starts.
+    #[inline(always)]
     pub(crate) fn start(&self, block: usize) -> u64
         requires { block < block_count (bytes_of self.now) }
         ensures { result ≡ start_at (bytes_of self.now) block }
@@ -117,36 +137,53 @@ impl<'a> CompiledMap<'a> {
         u64_at(self.bytes, self.tables() + START_LENGTH * block)
     }
 
+    #[inline(always)]
     pub(crate) fn block(&self, block: usize) -> Block<'a>
         requires { block < block_count (bytes_of self.now) }
         ensures bytes { result.bytes.now ≡ bytes_of self.now }
-        ensures line { result.line ≡ start_at (bytes_of self.now) block / 2 ^ 32 }
+        ensures start { result.start ≡ start_at (bytes_of self.now) block }
         ensures head { result.head ≡ head_offset (bytes_of self.now) block }
     {
         let heads = self.tables() + START_LENGTH * self.block_count();
         Block {
             bytes: self.bytes,
-            line: (self.start(block) >> 32) as u32,
+            start: self.start(block),
             head: heads + HEAD_LENGTH * block,
         }
     }
 
-    /// Returns the token with this index.
-    #[tactic(auto, unfolding(crate::specs::Blocks::compiled_token))]
-    pub(crate) fn token(&self, index: usize) -> RawToken
-        requires { index < token_count (bytes_of self.now) }
+    /// Returns the token with this index, whose generated position is known.
+    #[inline(always)]
+    pub(crate) fn token(&self, index: usize, position: u64) -> RawToken
+        requires within { index < token_count (bytes_of self.now) }
+        requires position { position ≡ position_of (bytes_of self.now) index }
         ensures { result ≡ compiled_token (bytes_of self.now) index }
     {
-        self.block(index / BLOCK_SIZE).token(index % BLOCK_SIZE)
+        self.block(index / BLOCK_SIZE)
+            .token(index % BLOCK_SIZE, position)
+    }
+
+    /// Returns the scope of the token with this index: 0 for none, otherwise the id plus 1.
+    pub(crate) fn scope_number(&self, index: usize) -> u64
+        requires { index < token_count (bytes_of self.now) }
+        ensures { result ≡ scope_number (bytes_of self.now) index }
+    {
+        self.block(index / BLOCK_SIZE).scope(index % BLOCK_SIZE)
     }
 
     /// Returns the generated position of the token with this index, as one number.
     #[tactic(auto, unfolding(crate::specs::Blocks::compiled_token))]
     pub(crate) fn position(&self, index: usize) -> u64
         requires { index < token_count (bytes_of self.now) }
-        ensures { result ≡ position_number (destination (compiled_token (bytes_of self.now) index)) }
+        ensures { result ≡ position_of (bytes_of self.now) index }
     {
-        self.block(index / BLOCK_SIZE).position(index % BLOCK_SIZE)
+        let block = self.block(index / BLOCK_SIZE);
+        let place = index % BLOCK_SIZE;
+        if place > 0 {
+            block.position(place)
+        } else {
+            block.start
+        }
     }
 }
 
@@ -159,6 +196,7 @@ fn tables_end(bytes: &[u8]) -> usize
     let sources = u32_at(bytes, 16) as usize;
     let names = u32_at(bytes, 20) as usize;
     let contents = u32_at(bytes, 24) as usize;
+    let scopes = u32_at(bytes, 52) as usize;
     let tables = u32_at(bytes, TABLES) as usize;
-    tables + (START_LENGTH + HEAD_LENGTH) * blocks + 4 * (sources + names + contents + 2)
+    tables + (START_LENGTH + HEAD_LENGTH) * blocks + 4 * (sources + names + scopes + contents + 2)
 }

@@ -16,17 +16,38 @@ pub(crate) fn u32_at(bytes: &[u8], offset: usize) -> u32
 /// Returns the number in the eight bytes from `offset` on.
 #[tactic(auto, unfolding(crate::specs::Numbers::u64_at))]
 pub(crate) fn u64_at(bytes: &[u8], offset: usize) -> u64
+    requires { offset + 8 ≤ length bytes.now }
     ensures { result ≡ u64_at bytes.now offset }
 {
-    match bytes.get(offset..) {
-        Some(rest) if rest.len() >= 8 => LittleEndian::read_u64(rest),
-        Some(rest) => number_of_few(rest),
-        None => 0,
+    LittleEndian::read_u64(&bytes[offset..])
+}
+
+/// Returns the number in the eight bytes from `offset` on, which may pass the end.
+#[inline(always)]
+fn u64_anywhere(bytes: &[u8], offset: usize) -> u64
+    requires { 8 ≤ length bytes.now }
+    ensures { result ≡ u64_at bytes.now offset }
+{
+    if offset <= bytes.len() - 8 {
+        u64_at(bytes, offset)
+    } else {
+        u64_at_end(bytes, offset)
     }
 }
 
 #[cold]
-fn number_of_few(bytes: &[u8]) -> u64
+#[tactic(auto, unfolding(crate::specs::Numbers::u64_at))]
+fn u64_at_end(bytes: &[u8], offset: usize) -> u64
+    requires { length bytes.now < offset + 8 }
+    ensures { result ≡ u64_at bytes.now offset }
+{
+    match bytes.get(offset..) {
+        Some(rest) => u64_of_few(rest),
+        None => 0,
+    }
+}
+
+fn u64_of_few(bytes: &[u8]) -> u64
     requires { length bytes.now < 8 }
     ensures { result ≡ u64_at bytes.now 0 }
 {
@@ -45,14 +66,18 @@ fn padded(bytes: &[u8]) -> [u8; 8]
 }
 
 /// Returns the number in `width` bits, from the bit `bit` of the bytes from `start` on.
-#[inline]
+#[inline(always)]
 pub(crate) fn bits_at(bytes: &[u8], start: usize, bit: usize, width: usize) -> u64
+    requires long { 8 ≤ length bytes.now }
     requires start { start < 2 ^ 40 }
     requires bit { bit < 2 ^ 40 }
     requires width { width < 64 }
     ensures number { result ≡ bits_at bytes.now start bit width }
     ensures small { result < 2 ^ width }
 {
-    let word = u64_at(bytes, start + bit / 8);
+    if width == 0 {
+        return 0;
+    }
+    let word = u64_anywhere(bytes, start + bit / 8);
     word >> (bit % 8) & ((1 << width) - 1)
 }

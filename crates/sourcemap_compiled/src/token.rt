@@ -1,5 +1,6 @@
 //! Tokens of a compiled map with their texts.
-ghost use Rattle.std.specs.Prelude.{◌≡◌};
+ghost use Rattle.std.specs.Prelude.{◌≡◌, ◌<◌};
+ghost use Rattle.sourcemap_compiled.specs.Layout.{token_count};
 
 use crate::errors::CompiledMapError;
 use crate::map::CompiledMap;
@@ -14,13 +15,15 @@ pub struct CompiledToken<'a> {
     pub(crate) raw: RawToken,
     pub(crate) index: usize,
     pub(crate) extra_columns: u32,
+    ghost inside: { index < token_count map.bytes.now },
 }
 
 impl<'a> CompiledToken<'a> {
-    ghost use Rattle.std.specs.Prelude.{◌<◌, ◌↔◌, ◌==◌, IsTrue, not};
+    ghost use Rattle.std.specs.Prelude.{◌↔◌, ◌==◌, IsOk, IsTrue, not};
     ghost use Rattle.sourcemap_tokens.specs.Tokens.{no_id};
     ghost use Rattle.sourcemap_compiled.specs.Layout.{name_count};
     ghost use Rattle.sourcemap_compiled.specs.Stored.{bytes_of, meaning_of_token, token_value};
+    ghost use Rattle.sourcemap_compiled.specs.Soundness.{IsSound};
     ghost use Rattle.sourcemap_compiled.specs.Texts.{ReadsText};
 
     /// The map of the token.
@@ -93,7 +96,8 @@ impl<'a> CompiledToken<'a> {
     /// The source with the token's source id, resolved; `None` if no source has this id. The error
     /// is `TextOutside` or `InvalidUtf8`.
     pub fn get_source(&self) -> Result<Option<&'a str>, CompiledMapError>
-        ensures { ReadsText (meaning_of_token self.now).source result }
+        ensures text { ReadsText (meaning_of_token self.now).source result }
+        ensures sound { IsSound (token_value self.now).bytes → IsOk result }
     {
         self.map.source(self.raw.src_id)
     }
@@ -109,7 +113,8 @@ impl<'a> CompiledToken<'a> {
     /// The name with the token's name id; `None` if no name has this id. The error is `TextOutside`
     /// or `InvalidUtf8`.
     pub fn get_name(&self) -> Result<Option<&'a str>, CompiledMapError>
-        ensures { ReadsText (meaning_of_token self.now).name result }
+        ensures text { ReadsText (meaning_of_token self.now).name result }
+        ensures sound { IsSound (token_value self.now).bytes → IsOk result }
     {
         self.map.name(self.raw.name_id)
     }
@@ -126,6 +131,15 @@ impl<'a> CompiledToken<'a> {
         ensures { result ≡ (token_value self.now).raw.name_id }
     {
         self.raw.name_id
+    }
+
+    /// The scope of the token, the name of a function of a Hermes map; `None` if it has none. The
+    /// error is `TextOutside` or `InvalidUtf8`.
+    pub fn get_scope(&self) -> Result<Option<&'a str>, CompiledMapError>
+        ensures text { ReadsText (meaning_of_token self.now).scope result }
+        ensures sound { IsSound (token_value self.now).bytes → IsOk result }
+    {
+        self.map.scope_of(self.index)
     }
 
     /// The raw token. Its original column does not include the columns that a lookup adds.

@@ -1,0 +1,9 @@
+pub mod Blocks
+pub mod Errors
+pub mod File
+pub mod Packing
+pub mod Parts
+pub mod Pieces
+pub mod Stored
+pub mod TextValues
+pub mod Texts
