@@ -1,19 +1,21 @@
 -- What follows from the answer of `compile`.
 use Rattle.std.proofs.Common.{◌≡◌, refl, sym, ap, subst, ◌∙◌, ℕ, zero, suc, List, [], Some, None, Option, option_map, IfOk, IfSome}
-use Rattle.std.proofs.Common.{Result, Ok, Err, Vec, Global, Bool, true, false, ◌-◌, ◌==◌, slice_get}
+use Rattle.std.proofs.Common.{Result, Ok, Err, Vec, Global, Bool, true, false, ◌-◌, ◌==◌, ◌∷◌, ◌++◌, slice_get, arith}
 use Rattle.std.specs.Prelude.{slice_index}
 use Rattle.std.specs.Str.{IsUtf8}
 use Rattle.sourcemap_tokens.specs.Items.{item_at}
-use Rattle.sourcemap_tokens.proofs.AllLemmas.{All-at}
+use Rattle.sourcemap_tokens.proofs.AllLemmas.{All-append, All-at}
 use Rattle.sourcemap_cache.specs.Texts.{AreTexts}
 use Rattle.sourcemap_errors.specs.declared.errors.Error.{Error}
 use Rattle.sourcemap_errors.specs.declared.errors.Error.TheVariants.{OutOfMemory}
 use Rattle.sourcemap_compiled.specs.Layout.{IsAccepted}
-use Rattle.sourcemap_compiled.specs.Lookup.{IsInOrder, compiled_meaning}
-use Rattle.sourcemap_compiled_write.specs.File.{file_bytes}
+use Rattle.sourcemap_compiled.specs.Lookup.{compiled_meaning}
+use Rattle.sourcemap_compiled.specs.Soundness.{IsReadable, IsSound}
+use Rattle.sourcemap_compiled_write.specs.File.{AreWritable, file_bytes, texts_of}
 use Rattle.sourcemap_compiled_write.specs.Meaning.{parts_meaning, scope_in}
 use Rattle.sourcemap_compiled_write.specs.Parts.{Parts}
 use Rattle.sourcemap_compiled_write.proofs.ReadBack.{accepted as file_accepted, meaning_back, order_back}
+use Rattle.sourcemap_compiled_write.proofs.ReadBack.{text_back, texts_counted}
 use Rattle.sourcemap_index_model.specs.Flat.{AnswersLike as FlatAnswersLike, flat}
 use Rattle.sourcemap_index_model.specs.FlatList.{IsOrderly}
 use Rattle.sourcemap_index_model.specs.MapTree.{LeafMap, held, hermes, index, leaf, regular, MapTree}
@@ -21,7 +23,7 @@ use Rattle.sourcemap_index_model.specs.Meaning.{meaning as meaning_any}
 use Rattle.sourcemap_map_regular.specs.Map.{MapValue, Meaning, meaning}
 use Rattle.sourcemap_tokens.specs.Tokens.{closest_token}
 use Rattle.sourcemap_tokens.specs.declared.tokens.RawToken.{RawToken}
-use Rattle.sourcemap_cache.specs.Compile.{ArePartsOf, CompileAnswer, FileAnswer, IsCompiled, IsFileOf, bytes_in, parts_with, regular_parts}
+use Rattle.sourcemap_cache.specs.Compile.{ArePartsOf, AreSound, CompileAnswer, FileAnswer, IsCompiled, IsFileOf, bytes_in, parts_with, regular_parts}
 use Rattle.sourcemap_cache.specs.Meaning.{AnswersLike, HasScopesInOrder, MeansLike, MeansTheSame, SaysTexts, closest_scope, compiled, without_scope}
 use Rattle.sourcemap_hermes.specs.Map.{HermesValue}
 use Rattle.sourcemap_cache.specs.Scopes.{AreScopesInOrder, scope_names, scope_numbers}
@@ -105,9 +107,6 @@ one_file choice t a b order of_a of_b =
 pub accepted : (choice : WithContents) (t : MapTree) (bytes : List ℕ) → IsCompiled choice t bytes → IsAccepted bytes
 accepted choice t bytes (p, is, file) = subst IsAccepted (sym file.file) (file_accepted p file.writable)
 
-pub sorted : (choice : WithContents) (t : MapTree) (bytes : List ℕ) → IsCompiled choice t bytes → IsInOrder bytes
-sorted choice t bytes (p, is, file) = subst IsInOrder (sym file.file) (order_back p file.writable file.sound.tokens)
-
 -- Texts.
 
 -- an item of a list of texts is a text
@@ -125,6 +124,10 @@ text_scope p i all = by_case (slice_index p.scopes i == 0) refl
     by_case true e = rw e tt
     by_case false e = rw e (text_item p.scope_names (slice_index p.scopes i - 1) all)
 
+readable : (text : Option (List ℕ)) → IfSome text IsUtf8 → IsReadable (Ok text)
+readable None is = tt
+readable (Some text) is = is
+
 pub said_texts : (choice : WithContents) (t : MapTree) (bytes : List ℕ) (at : ℕ × ℕ) → IsCompiled choice t bytes
     → IfSome (compiled_meaning bytes at) SaysTexts
 said_texts choice t bytes at (p, is, file) =
@@ -134,10 +137,32 @@ said_texts choice t bytes at (p, is, file) =
     by_case : (o : Option (ℕ × RawToken)) → closest_token p.tokens at ≡ o → IfSome (parts_meaning p at) SaysTexts
     by_case None e = rw e tt
     by_case (Some found) e = rw e (record {
-      source = text_item p.sources found.1.src_id file.sound.sources;
-      name = text_item p.names found.1.name_id file.sound.names;
-      scope = text_scope p found.0 file.sound.scope_names;
+      source = readable (item_at p.sources found.1.src_id) (text_item p.sources found.1.src_id file.sound.sources);
+      name = readable (item_at p.names found.1.name_id) (text_item p.names found.1.name_id file.sound.names);
+      scope = readable (scope_in p found.0) (text_scope p found.0 file.sound.scope_names);
     })
+
+-- Sound files.
+
+abbrev IsText : Option (List ℕ) → Type 0
+IsText text = IfSome text IsUtf8
+
+all_texts : (p : Parts) → AreSound p → AreTexts (texts_of p)
+all_texts p sound =
+    All-append IsText p.sources (p.names ++ (p.scope_names ++ (p.file ∷ p.contents))) sound.sources
+    (All-append IsText p.names (p.scope_names ++ (p.file ∷ p.contents)) sound.names
+    (All-append IsText p.scope_names (p.file ∷ p.contents) sound.scope_names (sound.file, sound.contents)))
+
+sound_file : (p : Parts) → AreWritable p → AreSound p → IsSound (file_bytes p)
+sound_file p writable sound = record {
+  order = order_back p writable sound.tokens;
+  texts = λ n within.
+      let there = text_back p writable n n refl (omega (arith, within, texts_counted p writable)) in
+      subst IsReadable (sym there) (readable (item_at (texts_of p) n) (text_item (texts_of p) n (all_texts p sound)));
+}
+
+pub sound : (choice : WithContents) (t : MapTree) (bytes : List ℕ) → IsCompiled choice t bytes → IsSound bytes
+sound choice t bytes (p, is, file) = subst IsSound (sym file.file) (sound_file p file.writable file.sound)
 
 -- Answers.
 
@@ -176,8 +201,8 @@ module _ (choice : WithContents) (t u : MapTree) (result : Result (Vec ℕ Globa
   pub answer_accepted : IfOk result (λ bytes. IsAccepted bytes.items)
   answer_accepted = if_ok IsAccepted (accepted choice t)
 
-  pub answer_sorted : IfOk result (λ bytes. IsInOrder bytes.items)
-  answer_sorted = if_ok IsInOrder (sorted choice t)
+  pub answer_sound : IfOk result (λ bytes. IsSound bytes.items)
+  answer_sound = if_ok IsSound (sound choice t)
 
   pub answer_like : (m : MapValue) → flat t ≡ Ok m → (IsOrderly t → FlatAnswersLike t m)
       → IfOk result (λ bytes. IsOrderly u → AnswersLike u bytes.items)

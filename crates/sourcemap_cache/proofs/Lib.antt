@@ -1,3 +1,4 @@
 mod CompileLemmas
 mod MeaningLemmas
+mod PartsLemmas
 mod ScopesLemmas

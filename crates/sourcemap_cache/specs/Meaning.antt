@@ -1,8 +1,7 @@
 -- What a position means in a compiled map, compared with the map that was compiled.
-use Rattle.std.specs.Prelude.{◌≡◌, ℕ, List, Option, Some, None, option_map, option_and_then, IfSome, Result, Ok, IfOk}
-use Rattle.std.specs.Str.{IsUtf8}
+use Rattle.std.specs.Prelude.{◌≡◌, ℕ, List, Option, Some, None, option_map, option_and_then, IfSome, Ok}
 use Rattle.sourcemap_compiled.specs.Lookup.{CompiledMeaning, compiled_meaning}
-use Rattle.sourcemap_compiled.specs.declared.errors.CompiledMapError.{CompiledMapError}
+use Rattle.sourcemap_compiled.specs.Soundness.{IsReadable}
 use Rattle.sourcemap_hermes.specs.Map.{token_scope}
 use Rattle.sourcemap_index_model.specs.Flat.{flat}
 use Rattle.sourcemap_index_model.specs.MapTree.{hermes, leaf, MapTree}
@@ -52,10 +51,6 @@ MeansTheSame t bytes = (m : MapValue) × (flat t ≡ Ok m) × MeansLike t m byte
 abbrev pub AnswersLike : MapTree → List ℕ → Type 0
 AnswersLike t bytes = (p : ℕ × ℕ)
     → IfSome (meaning t p) (λ says. option_map without_scope (compiled_meaning bytes p) ≡ Some (compiled None says))
-
--- there is no text, or it is UTF-8, so a call that reads it returns no error
-abbrev pub IsReadable : Result (Option (List ℕ)) CompiledMapError → Type 0
-IsReadable text = IfOk text (λ found. IfSome found IsUtf8)
 
 -- the texts of a meaning are UTF-8, so the getters of its token return no error
 pub record SaysTexts (says : CompiledMeaning) : Type 0 where

@@ -1,7 +1,7 @@
 //! Compiles maps of any kind.
 ghost use Rattle.std.specs.Prelude.{◌≡◌, IfOk};
 ghost use Rattle.sourcemap_compiled.specs.Layout.{IsAccepted};
-ghost use Rattle.sourcemap_compiled.specs.Lookup.{IsInOrder};
+ghost use Rattle.sourcemap_compiled.specs.Soundness.{IsSound};
 ghost use Rattle.sourcemap_hermes.specs.Map.{hermes_value};
 ghost use Rattle.sourcemap_index.specs.Family.{index_value, map_tree};
 ghost use Rattle.sourcemap_index_model.specs.FlatList.{IsOrderly};
@@ -41,9 +41,10 @@ pub fn compile(
     // meaning in the map has the same meaning in the file.
     ensures orderly { IfOk result (λ bytes. IsOrderly (map_tree map.now)
         → AnswersLike (map_tree map.now) bytes.items) }
-    // `CompiledMap::parse` accepts the file, and lookups in it are exact.
+    // `CompiledMap::parse` accepts the file, and so does `verify`: lookups are exact, and no getter
+    // returns an error.
     ensures accepted { IfOk result (λ bytes. IsAccepted bytes.items) }
-    ensures in_order { IfOk result (λ bytes. IsInOrder bytes.items) }
+    ensures sound { IfOk result (λ bytes. IsSound bytes.items) }
 {
     match map {
         DecodedMap::Regular(map) => file_with(alloc, map, contents, &[], &[]),

@@ -1,7 +1,8 @@
 //! Laws of compiled maps.
 ghost use Rattle.std.specs.Prelude.{◌≡◌, ℕ, IfSome, List};
 ghost use Rattle.sourcemap_compiled.specs.Layout.{IsAccepted};
-ghost use Rattle.sourcemap_compiled.specs.Lookup.{IsInOrder, compiled_meaning};
+ghost use Rattle.sourcemap_compiled.specs.Lookup.{compiled_meaning};
+ghost use Rattle.sourcemap_compiled.specs.Soundness.{IsSound};
 ghost use Rattle.sourcemap_index_model.specs.Flat.{AnswersLike as FlatAnswersLike, flat};
 ghost use Rattle.sourcemap_index_model.specs.MapTree.{MapTree};
 ghost use Rattle.sourcemap_map_regular.specs.Map.{MapValue};
@@ -32,12 +33,12 @@ pub fn equal_maps_compile_alike()
         → IsCompiled choice t a → IsCompiled choice t b → a ≡ b }
 {}
 
-/// A law: `CompiledMap::parse` accepts the file of a map, and lookups in it are exact.
+/// A law: `CompiledMap::parse` accepts the file of a map, and `verify` accepts it too.
 pub fn compiled_maps_are_read()
     ensures accepted { (choice : WithContents) (t : MapTree) (bytes : List ℕ)
         → IsCompiled choice t bytes → IsAccepted bytes }
-    ensures in_order { (choice : WithContents) (t : MapTree) (bytes : List ℕ)
-        → IsCompiled choice t bytes → IsInOrder bytes }
+    ensures sound { (choice : WithContents) (t : MapTree) (bytes : List ℕ)
+        → IsCompiled choice t bytes → IsSound bytes }
 {}
 
 /// A law: the texts that the file of a map has for a position are UTF-8. So the getters of a token

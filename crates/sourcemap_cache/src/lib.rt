@@ -1,4 +1,4 @@
-//! Compiles maps of any kind, and re-exports the reader of compiled maps.
+//! Compiled maps: compiles maps of any kind, and looks positions up in the compiled bytes.
 #![tactic(auto)]
 
 pub mod compiling;
@@ -7,3 +7,10 @@ pub mod laws;
 pub mod parts;
 mod scopes;
 mod texts;
+
+pub use compiling::compile;
+pub use errors::CompileError;
+pub use parts::WithContents;
+pub use sourcemap_compiled::errors::CompiledMapError;
+pub use sourcemap_compiled::map::CompiledMap;
+pub use sourcemap_compiled::token::CompiledToken;
