@@ -1,5 +1,5 @@
 -- Blocks: the items of a block, and the numbers of a field.
-use Rattle.std.proofs.Common.{◌≡◌, refl, sym, ap, subst, ◌∙◌, ℕ, ◌+◌, ◌-◌, ◌*◌, ◌^◌, ◌<◌, ◌≤◌, min}
+use Rattle.std.proofs.Common.{◌≡◌, refl, sym, ap, subst, ◌∙◌, ℕ, ◌+◌, ◌-◌, ◌*◌, ◌^◌, ◌<◌, min}
 use Rattle.std.proofs.Common.{List, length, slice_index, get_or, map, take, drop, arith, length-drop}
 use Rattle.std.proofs.Common.{length-take, append_assoc, false, ◌==◌, ◌/◌, ◌%◌, [], ◌∷◌, ◌++◌}
 use Rattle.std.proofs.lemmas.List.{drop-map, drop_min, get_or-drop, get_or-take, take-map, take_min}
@@ -38,11 +38,12 @@ length-block_of xs block =
 
 -- the values of a block are values of the list
 pub token_values-block : (ts : List RawToken) (block field place : ℕ) → place < 64
-    → slice_index (token_values (block_of ts block) field) place ≡ slice_index (token_values ts field) (64 * block + place)
+    → slice_index (token_values (block_of ts block) field) place ≡ slice_index (token_values ts field)
+    (64 * block + place)
 token_values-block ts block field place l =
     let value = λ (t : RawToken). slice_index (fields_of t) field in
     let same : token_values (block_of ts block) field ≡ take 64 (drop (64 * block) (token_values ts field)) =
-    sym (take-map value 64 (drop (64 * block) ts) ) ∙ ap (take 64) (sym (drop-map value (64 * block) ts)) in
+    sym (take-map value 64 (drop (64 * block) ts)) ∙ ap (take 64) (sym (drop-map value (64 * block) ts)) in
     ap (λ (xs : List ℕ). slice_index xs place) same
     ∙ get_or-take 64 (drop (64 * block) (token_values ts field)) place 0 l
     ∙ get_or-drop (64 * block) (token_values ts field) place 0
@@ -69,7 +70,8 @@ field_small ts field k e small i = subst (λ (n : ℕ). slice_index (token_value
 -- ---- starts and heads
 
 pub start_bytes-first : (ts : List RawToken) → 0 < length ts
-    → little_bytes 8 (position_number ((get_or ts 0 no_token).dst_line, (get_or ts 0 no_token).dst_col)) ≡ start_bytes ts
+    → little_bytes 8 (position_number ((get_or ts 0 no_token).dst_line, (get_or ts 0 no_token).dst_col))
+    ≡ start_bytes ts
 unfolding start_bytes
 start_bytes-first ts l =
     let line : slice_index (token_values ts 0) 0 ≡ (get_or ts 0 no_token).dst_line =

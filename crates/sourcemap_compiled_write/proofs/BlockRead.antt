@@ -1,5 +1,5 @@
 -- What the reader reads of a block that was written.
-use Rattle.std.proofs.Common.{◌≡◌, refl, sym, ap, subst, ◌∙◌, ℕ, zero, suc, ◌+◌, ◌-◌, ◌*◌, ◌/◌, ◌%◌, ◌^◌, ◌<◌, ◌≤◌}
+use Rattle.std.proofs.Common.{◌≡◌, refl, sym, ap, subst, ◌∙◌, ℕ, zero, suc, ◌+◌, ◌-◌, ◌*◌, ◌%◌, ◌^◌, ◌<◌, ◌≤◌}
 use Rattle.std.proofs.Common.{List, [], ◌∷◌, ◌++◌, length, slice_index, get_or, map, replicate, arith, length-append}
 use Rattle.std.proofs.Common.{Bool, true, false, ◌==◌, nat_lt, if◌then◌else◌}
 use Rattle.std.specs.List.{flat_map}
@@ -11,9 +11,10 @@ use Rattle.sourcemap_compiled.specs.Numbers.{u32_at}
 use Rattle.sourcemap_compiled.specs.Blocks.{packed_at, token_in, width_at, widths_before}
 use Rattle.sourcemap_compiled_write.specs.Blocks.{bases, body_bytes, field_numbers, field_width, head_bases, head_bytes}
 use Rattle.sourcemap_compiled_write.specs.Blocks.{width_bytes}
-use Rattle.sourcemap_compiled_write.specs.Packing.{field_bytes, fields_of, number_of, padded, token_values, width_of}
+use Rattle.sourcemap_compiled_write.specs.Packing.{field_bytes, fields_of, number_of, padded, token_values}
 use Rattle.sourcemap_compiled_write.specs.Pieces.{pieces}
-use Rattle.sourcemap_compiled_write.proofs.PackingLemmas.{below_width_of, get_or-token_values, no_token, number_of_small}
+use Rattle.sourcemap_compiled_write.proofs.PackingLemmas.{below_width_of, get_or-token_values, no_token}
+use Rattle.sourcemap_compiled_write.proofs.PackingLemmas.{number_of_small}
 use Rattle.sourcemap_compiled_write.proofs.PackingLemmas.{value_back, width_of-le}
 use Rattle.sourcemap_compiled_write.proofs.StandsLemmas.{Stands, Stands-first, Stands-piece, Stands-rest, bits_at-there}
 use Rattle.sourcemap_compiled_write.proofs.StandsLemmas.{byte_at-there, length-field_bytes, length-flat_map-each}
@@ -136,8 +137,22 @@ module _ (file : List ℕ) (head at : ℕ) (ts : List RawToken) (ss : List ℕ) 
 
   bases-small : AreSmall (bases ts)
   bases-small =
-      small-list (bases ts) ((values 0 (omega arith)).at 0, (omega arith, (omega arith, (omega arith, (omega arith,
-      (omega arith, (omega arith, (omega arith, tt))))))))
+      small-list (bases ts) (
+        (values 0 (omega arith)).at 0,
+        (
+          omega arith,
+          (
+            omega arith,
+            (
+              omega arith,
+              (
+                omega arith,
+                (omega arith, (omega arith, (omega arith, tt))),
+              ),
+            ),
+          ),
+        ),
+      )
 
   numbers_there : Stands file head (flat_map (little_bytes 4) (at ∷ head_bases ts))
   unfolding head_bytes
@@ -186,7 +201,8 @@ module _ (file : List ℕ) (head at : ℕ) (ts : List RawToken) (ss : List ℕ) 
       → packed_at file head field place ≡ slice_index (field_numbers ts ss field) place
   unfolding packed_at body_bytes
   packed_read field place l m =
-      let start : u32_at file head + 8 * widths_before file head field ≡ at + length (pieces (field_piece ts ss) field) =
+      let start : u32_at file head + 8 * widths_before file head field ≡ at + length (pieces
+      (field_piece ts ss) field) =
       omega (arith, offset_read, widths_read field (omega arith)) in
       let width = width_read field l in
       let small = field_numbers-small ts ss field scopes in

@@ -1,15 +1,19 @@
 -- Where the parts of a file stand that was written, and how long they are.
-use Rattle.std.proofs.Common.{◌≡◌, refl, sym, ap, subst, ◌∙◌, ℕ, zero, suc, ◌+◌, ◌-◌, ◌*◌, ◌/◌, ◌%◌, ◌^◌, ◌<◌, ◌≤◌}
-use Rattle.std.proofs.Common.{List, [], ◌∷◌, ◌++◌, length, slice_index, arith, length-append, Some, None, Option, IfSome}
+use Rattle.std.proofs.Common.{◌≡◌, refl, ap, subst, ◌∙◌, ℕ, suc, ◌+◌, ◌*◌, ◌<◌}
+use Rattle.std.proofs.Common.{List, [], ◌∷◌, ◌++◌, length, slice_index, arith, length-append, Some, None, Option}
+use Rattle.std.proofs.Common.{IfSome}
 use Rattle.std.specs.List.{flat_map}
 use Rattle.byteorder.specs.Endian.{little_bytes}
 use Rattle.byteorder.specs.Numbers.{length-bytes_low_first}
 use Rattle.sourcemap_tokens.specs.declared.tokens.RawToken.{RawToken}
 use Rattle.sourcemap_compiled.specs.Numbers.{position_number}
-use Rattle.sourcemap_compiled_write.specs.Blocks.{block_of, body_bytes, field_width, head_bases, head_bytes, start_bytes}
+use Rattle.sourcemap_compiled_write.specs.Blocks.{block_of, body_bytes, field_width, head_bases, head_bytes}
+use Rattle.sourcemap_compiled_write.specs.Blocks.{start_bytes}
 use Rattle.sourcemap_compiled_write.specs.Blocks.{width_bytes}
-use Rattle.sourcemap_compiled_write.specs.File.{blocks_of, bodies_of, body_offset, debug_id_bytes, file_bytes, header_bytes}
-use Rattle.sourcemap_compiled_write.specs.File.{header_end, header_numbers, heads_of, length_of, starts_of, tables_offset}
+use Rattle.sourcemap_compiled_write.specs.File.{blocks_of, bodies_of, body_offset, debug_id_bytes, file_bytes}
+use Rattle.sourcemap_compiled_write.specs.File.{header_bytes}
+use Rattle.sourcemap_compiled_write.specs.File.{header_end, header_numbers, heads_of, length_of, starts_of}
+use Rattle.sourcemap_compiled_write.specs.File.{tables_offset}
 use Rattle.sourcemap_compiled_write.specs.File.{texts_of, texts_offset}
 use Rattle.sourcemap_compiled_write.specs.Packing.{token_values}
 use Rattle.sourcemap_compiled_write.specs.Parts.{Parts}
@@ -27,11 +31,20 @@ pub length-head : (offset : ℕ) (ts : List RawToken) (ss : List ℕ) → length
 unfolding head_bytes width_bytes
 length-head offset ts ss =
     length-append (flat_map (little_bytes 4) (offset ∷ head_bases ts)) (pieces (λ k. field_width ts ss k ∷ []) 8)
-    ∙ omega (arith, length-numbers (offset ∷ head_bases ts), length-pieces (λ k. field_width ts ss k ∷ []) 1 (λ k. refl) 8)
+    ∙ omega (
+      arith,
+      length-numbers (offset ∷ head_bases ts),
+      length-pieces (λ k. field_width ts ss k ∷ []) 1
+          (λ k. refl) 8,
+    )
 
 pub length-start : (ts : List RawToken) → length (start_bytes ts) ≡ 8
 unfolding start_bytes
-length-start ts = length-bytes_low_first 0 8 (position_number (slice_index (token_values ts 0) 0, slice_index (token_values ts 1) 0))
+length-start ts = length-bytes_low_first 0 8 (position_number (
+  slice_index (token_values ts 0) 0,
+  slice_index
+      (token_values ts 1) 0,
+))
 
 pub length-text_offsets : (offset : ℕ) (texts : List (Option (List ℕ)))
     → length (text_offsets offset texts) ≡ length texts
@@ -66,20 +79,34 @@ module _ (p : Parts) where
     length-header =
         length-append (flat_map (little_bytes 4) (header_numbers p))
         (debug_id_bytes p.debug_id ++ flat_map (little_bytes 4) (header_end p))
-        ∙ omega (arith, length-append (debug_id_bytes p.debug_id) (flat_map (little_bytes 4) (header_end p)),
-        length-numbers (header_numbers p), length-numbers (header_end p), length-debug_id p.debug_id id)
+        ∙ omega (
+          arith,
+          length-append (debug_id_bytes p.debug_id) (flat_map (little_bytes 4) (header_end p)),
+          length-numbers (header_numbers p),
+          length-numbers (header_end p),
+          length-debug_id p.debug_id id,
+        )
 
     pub length-file : length (file_bytes p) ≡ length_of p
     unfolding file_bytes
     length-file =
         let n = blocks_of p in
-        length-append (header_bytes p) (bodies_of p n ++ (starts_of p n ++ (heads_of p n ++ (table_bytes (texts_offset p) (texts_of p)
+        length-append (header_bytes p) (bodies_of p n ++ (starts_of p n ++ (heads_of p n ++ (table_bytes
+        (texts_offset p) (texts_of p)
         ++ texts_bytes (texts_of p)))))
-        ∙ omega (arith, length-header,
-        length-append (bodies_of p n) (starts_of p n ++ (heads_of p n ++ (table_bytes (texts_offset p) (texts_of p) ++ texts_bytes (texts_of p)))),
-        length-append (starts_of p n) (heads_of p n ++ (table_bytes (texts_offset p) (texts_of p) ++ texts_bytes (texts_of p))),
-        length-append (heads_of p n) (table_bytes (texts_offset p) (texts_of p) ++ texts_bytes (texts_of p)),
-        length-append (table_bytes (texts_offset p) (texts_of p)) (texts_bytes (texts_of p)), length-starts n, length-heads n, length-table (texts_offset p) (texts_of p))
+        ∙ omega (
+          arith,
+          length-header,
+          length-append (bodies_of p n) (starts_of p n ++ (heads_of p n ++ (table_bytes (texts_offset p)
+              (texts_of p) ++ texts_bytes (texts_of p)))),
+          length-append (starts_of p n) (heads_of p n ++ (table_bytes (texts_offset p) (texts_of p) ++ texts_bytes
+              (texts_of p))),
+          length-append (heads_of p n) (table_bytes (texts_offset p) (texts_of p) ++ texts_bytes (texts_of p)),
+          length-append (table_bytes (texts_offset p) (texts_of p)) (texts_bytes (texts_of p)),
+          length-starts n,
+          length-heads n,
+          length-table (texts_offset p) (texts_of p),
+        )
 
     -- ---- places
 
@@ -130,18 +157,23 @@ module _ (p : Parts) where
         (starts_of p (blocks_of p)) _ (omega (arith, length-starts (blocks_of p))) after_bodies
 
     heads_there : Stands (file_bytes p) (tables_offset p + 8 * blocks_of p) (heads_of p (blocks_of p))
-    heads_there = Stands-first (file_bytes p) (tables_offset p + 8 * blocks_of p) (heads_of p (blocks_of p)) _ after_starts
+    heads_there = Stands-first (file_bytes p) (tables_offset p + 8 * blocks_of p) (heads_of p
+        (blocks_of p)) _ after_starts
 
-    after_heads : Stands (file_bytes p) (tables_offset p + 40 * blocks_of p) (table_bytes (texts_offset p) (texts_of p) ++ texts_bytes (texts_of p))
+    after_heads : Stands (file_bytes p) (tables_offset p + 40 * blocks_of p) (table_bytes (texts_offset p)
+        (texts_of p) ++ texts_bytes (texts_of p))
     after_heads = Stands-rest (file_bytes p) (tables_offset p + 8 * blocks_of p) (tables_offset p + 40 * blocks_of p)
         (heads_of p (blocks_of p)) _ (omega (arith, length-heads (blocks_of p))) after_starts
 
-    pub text_table_there : Stands (file_bytes p) (tables_offset p + 40 * blocks_of p) (table_bytes (texts_offset p) (texts_of p))
+    pub text_table_there : Stands (file_bytes p) (tables_offset p + 40 * blocks_of p) (table_bytes (texts_offset p)
+        (texts_of p))
     text_table_there =
-        Stands-first (file_bytes p) (tables_offset p + 40 * blocks_of p) (table_bytes (texts_offset p) (texts_of p)) _ after_heads
+        Stands-first (file_bytes p) (tables_offset p + 40 * blocks_of p) (table_bytes (texts_offset p)
+        (texts_of p)) _ after_heads
 
     pub texts_there : Stands (file_bytes p) (texts_offset p) (texts_bytes (texts_of p))
-    texts_there = Stands-rest (file_bytes p) (tables_offset p + 40 * blocks_of p) (texts_offset p) (table_bytes (texts_offset p) (texts_of p))
+    texts_there = Stands-rest (file_bytes p) (tables_offset p + 40 * blocks_of p) (texts_offset p) (table_bytes
+        (texts_offset p) (texts_of p))
         (texts_bytes (texts_of p)) (omega (arith, length-table (texts_offset p) (texts_of p))) after_heads
 
     module _ (block : ℕ) (inside : block < blocks_of p) where

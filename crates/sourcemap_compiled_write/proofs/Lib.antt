@@ -3,6 +3,7 @@ pub mod BlockRead
 pub mod BytesLemmas
 pub mod FileLemmas
 pub mod PackingLemmas
+pub mod ReadBack
 pub mod StandsLemmas
 pub mod TextsLemmas
 pub mod WriteLemmas

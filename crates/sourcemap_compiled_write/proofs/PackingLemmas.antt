@@ -10,10 +10,12 @@ use Rattle.std.specs.Int.{bytes_low_first}
 use Rattle.std.proofs.Math.Nat.{add-mul-div_left, add-mul-div_right, add-mul-mod_self_left, div-eq_of_lt, div-one}
 use Rattle.std.proofs.Math.Nat.{mod-eq_of_lt}
 use Rattle.std.proofs.Math.Nat.{mul-add, mul_assoc, mul_comm, mul-suc, mul-zero, suc-mul, zero-div, zero-mod, zero-mul}
-use Rattle.std.proofs.lemmas.List.{append-nil, get_or-map, get_or-take, get_or_past, length-take, length-map, length_push, map_push}
+use Rattle.std.proofs.lemmas.List.{append-nil, get_or-map, get_or-take, get_or_past, length-take, length-take-le}
+use Rattle.std.proofs.lemmas.List.{length-map, length_push, map_push}
 use Rattle.std.proofs.lemmas.List.{set_at}
 use Rattle.std.proofs.lemmas.List.{take_more}
-use Rattle.std.proofs.lemmas.Nat.{leading_length, mul-add-lt, pow-add, pow_pos, shr-shr, shr_below}
+use Rattle.byteorder.specs.Numbers.{length-bytes_low_first}
+use Rattle.std.proofs.lemmas.Nat.{leading_length, mul-add-lt, mul-le, pow-add, pow_pos, shr-shr, shr_below}
 use Rattle.sourcemap_compiled_write.specs.Packing.{field_bytes, fields_of, number_of, packed, token_values, width_of}
 use Rattle.sourcemap_compiled_write.proofs.BytesLemmas.{bytes-low, bytes-shift, bytes-split, pow256}
 
@@ -181,6 +183,23 @@ IsPacked-at w xs before out out' word word' filled filled' is a b c =
     subst (λ (x : List ℕ). IsPacked w xs before x word' filled') (sym a)
     (subst (λ (x : ℕ). IsPacked w xs before out x filled') (sym b)
     (subst (λ (x : ℕ). IsPacked w xs before out word x) (sym c) is))
+
+-- how many bytes are written, and that four more have room
+module _ (w k : ℕ) (xs out : List ℕ) (word filled : ℕ) (is : IsPacked w (take k xs) [] out word filled)
+    (inside : k ≤ length xs) where
+  pub packed_bytes : 8 * length out + filled ≡ w * k
+  packed_bytes =
+      let many : length out ≡ 4 * is.words =
+      ap length is.out_is ∙ length-bytes_low_first 0 (4 * is.words) (packed w (take k xs)) in
+      let total : w * k ≡ 32 * is.words + filled =
+      subst (λ (n : ℕ). w * n ≡ 32 * is.words + filled) (length-take-le k xs inside) is.total in
+      omega arith
+
+  pub packed_room : w ≤ 32 → k < 64 → 32 ≤ filled + w → length out + 4 ≤ 256
+  packed_room narrow few full =
+      let sum : w * (k + 1) ≡ w * k + w * 1 = mul-add w k 1 in
+      let most : w * (k + 1) ≤ 32 * 64 = mul-le w (k + 1) 32 64 narrow (omega arith) in
+      omega (arith, packed_bytes)
 
 -- four bytes do not see what stands above 32 bits
 pub bytes-of_low : (n : ℕ) → bytes_low_first 0 4 (n % 2 ^ 32) ≡ bytes_low_first 0 4 n

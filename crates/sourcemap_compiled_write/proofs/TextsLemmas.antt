@@ -1,7 +1,8 @@
 -- Texts and the text table: one text more, and what is read of them.
-use Rattle.std.proofs.Common.{◌≡◌, refl, sym, ap, subst, ◌∙◌, ℕ, zero, suc, ◌+◌, ◌-◌, ◌*◌, ◌^◌, ◌<◌, ◌≤◌, ◌==◌, ◌||◌}
-use Rattle.std.proofs.Common.{List, [], ◌∷◌, ◌++◌, length, slice_index, slice_range, slice_get, get_or, map, take, drop, arith}
-use Rattle.std.proofs.Common.{append_assoc, length-append, take-append-drop, nat_lt, if◌then◌else◌, inl, inr, Option, Some, None, Result, Ok, Err}
+use Rattle.std.proofs.Common.{◌≡◌, refl, sym, ap, ◌∙◌, ℕ, zero, suc, ◌+◌, ◌-◌, ◌<◌, ◌≤◌, ◌==◌, ◌||◌}
+use Rattle.std.proofs.Common.{List, [], ◌∷◌, ◌++◌, length, slice_index, slice_range, get_or, map, take, drop, arith}
+use Rattle.std.proofs.Common.{length-append, take-append-drop, nat_lt, if◌then◌else◌, inl, inr, Option, Some, None}
+use Rattle.std.proofs.Common.{Result, Ok, Err}
 use Rattle.std.specs.List.{flat_map}
 use Rattle.std.proofs.lemmas.Bool.{cases_lt, le-ltb, lt-ltb}
 use Rattle.std.proofs.lemmas.Bool.Decides.{nat_tests}
@@ -109,7 +110,7 @@ pub text-there : (bytes : List ℕ) (start end : ℕ) (text : Option (List ℕ))
     → end ≤ length bytes → Stands bytes start (text_bytes text)
     → ◌≡◌ {A = Result (Option (List ℕ)) CompiledMapError}
     (if nat_lt end start || nat_lt (length bytes) end then Err TextOutside
-      else if start == end then Ok None else Ok (Some (slice_range bytes start (end - 1))))
+    else if start == end then Ok None else Ok (Some (slice_range bytes start (end - 1))))
     (Ok text)
 text-there bytes start end None e l s =
     let same : start ≡ end = omega arith in

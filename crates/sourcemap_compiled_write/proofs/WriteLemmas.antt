@@ -1,9 +1,10 @@
 -- The parts of the file, one appended after the other.
-use Rattle.std.proofs.Common.{◌≡◌, refl, sym, ap, subst, ◌∙◌, ℕ, ◌+◌, ◌-◌, ◌*◌, ◌^◌, ◌<◌, ◌≤◌, List, [], ◌∷◌, ◌++◌}
-use Rattle.std.proofs.Common.{length, slice_index, drop, arith, append_assoc, length-append, Option, inl, inr}
+use Rattle.std.proofs.Common.{◌≡◌, refl, sym, ap, subst, ◌∙◌, ℕ, ◌+◌, ◌-◌, ◌*◌, ◌^◌, ◌<◌, List, [], ◌∷◌, ◌++◌}
+use Rattle.std.proofs.Common.{length, slice_index, take, drop, arith, append_assoc, length-append, Option}
+use Rattle.std.proofs.Common.{inl, inr}
 use Rattle.std.specs.List.{flat_map}
 use Rattle.std.proofs.lemmas.Bool.{cases_lt}
-use Rattle.std.proofs.lemmas.List.{append-nil, drop_at}
+use Rattle.std.proofs.lemmas.List.{append-nil, drop_all, drop_at, take_all}
 use Rattle.std.proofs.lemmas.List.Concat.{flat_map-append}
 use Rattle.byteorder.specs.Endian.{little_bytes}
 use Rattle.sourcemap_tokens.specs.declared.tokens.RawToken.{RawToken}
@@ -24,8 +25,11 @@ pub length-texts_of : (p : Parts) → length (texts_of p)
     ≡ length p.sources + length p.names + length p.scope_names + length p.contents + 1
 length-texts_of p =
     length-append p.sources (p.names ++ (p.scope_names ++ (p.file ∷ p.contents)))
-    ∙ omega (arith, length-append p.names (p.scope_names ++ (p.file ∷ p.contents)),
-    length-append p.scope_names (p.file ∷ p.contents))
+    ∙ omega (
+      arith,
+      length-append p.names (p.scope_names ++ (p.file ∷ p.contents)),
+      length-append p.scope_names (p.file ∷ p.contents),
+    )
 
 abbrev pub size : List (Option (List ℕ)) → ℕ
 size texts = length (texts_bytes texts)
@@ -34,8 +38,12 @@ pub size-texts_of : (p : Parts) → size (texts_of p)
     ≡ size p.sources + size p.names + size p.scope_names + size (p.file ∷ []) + size p.contents
 size-texts_of p =
     length-texts-append p.sources (p.names ++ (p.scope_names ++ (p.file ∷ p.contents)))
-    ∙ omega (arith, length-texts-append p.names (p.scope_names ++ (p.file ∷ p.contents)),
-    length-texts-append p.scope_names (p.file ∷ p.contents), length-texts-append (p.file ∷ []) p.contents)
+    ∙ omega (
+      arith,
+      length-texts-append p.names (p.scope_names ++ (p.file ∷ p.contents)),
+      length-texts-append p.scope_names (p.file ∷ p.contents),
+      length-texts-append (p.file ∷ []) p.contents,
+    )
 
 join_texts : (bs : List ℕ) (xs ys : List (Option (List ℕ)))
     → bs ++ texts_bytes xs ++ texts_bytes ys ≡ bs ++ texts_bytes (xs ++ ys)
@@ -114,6 +122,13 @@ small_more ts block before here field k l m = elim (cases_lt k (64 * block)) [
 ]
 
 -- ---- the whole file
+
+-- a list in place of one of the same length
+pub all_replaced : (n : ℕ) (now items : List ℕ) → n ≡ length items → length now ≡ length items
+    → take n (now ++ drop (length now) items) ≡ now
+all_replaced n now items many kept =
+    ap (λ (l : List ℕ). take n (now ++ l)) (drop_all (length now) items (omega arith))
+    ∙ ap (take n) (append-nil now) ∙ take_all n now (omega arith)
 
 pub file_joined : (p : Parts) (zeros a b c whole : List ℕ) → length zeros ≡ 64
     → a ≡ zeros ++ (bodies_of p (blocks_of p) ++ (starts_of p (blocks_of p) ++ heads_of p (blocks_of p)))

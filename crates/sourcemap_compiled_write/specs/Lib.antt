@@ -1,6 +1,7 @@
 pub mod Blocks
 pub mod Errors
 pub mod File
+pub mod Meaning
 pub mod Packing
 pub mod Parts
 pub mod Pieces

@@ -4,6 +4,7 @@
 
 mod blocks;
 pub mod errors;
+pub mod laws;
 mod packing;
 pub mod parts;
 mod texts;

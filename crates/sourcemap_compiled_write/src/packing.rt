@@ -1,5 +1,6 @@
 //! The numbers that stand for the fields of a block of tokens, packed in so many bits each.
-ghost use Rattle.std.specs.Prelude.{◌≡◌, ℕ, ◌≤◌, ◌<◌, ◌^◌, ◌++◌, OnOk, length, map, slice_index};
+ghost use Rattle.std.specs.Prelude.{◌≡◌, ℕ, ◌+◌, ◌*◌, ◌≤◌, ◌<◌, ◌^◌, ◌++◌, OnOk, length, map, slice_index, take};
+ghost use Rattle.byteorder.specs.Endian.{little_bytes};
 ghost use Rattle.sourcemap_compiled_write.specs.Packing.{base_of, field_bytes, fields_of, number_of, padded};
 ghost use Rattle.sourcemap_compiled_write.specs.Packing.{token_values, width_of};
 
@@ -16,18 +17,42 @@ pub(crate) fn push_field(out: &mut Vec<u8>, numbers: &[u32], width: usize) -> Re
     if width == 0 {
         return Ok(());
     }
+    let bytes = pack(numbers, width);
+    out.extend_from_slice(&bytes[..8 * width])?;
+    Ok(())
+}
+
+/// Returns 64 numbers of `width` bits each, in the first bytes.
+#[inline(always)]
+fn pack(numbers: &[u32], width: usize) -> [u8; 256]
+    requires whole { length numbers.now ≡ 64 }
+    requires narrow { width ≤ 32 }
+    requires fit { (k : ℕ) → slice_index numbers.now k < 2 ^ width }
+    ensures { take (8 * width) result ≡ field_bytes width numbers.now }
+{
+    let mut bytes = [0; 256];
+    let mut at = 0;
     let mut word = 0u64;
     let mut filled = 0;
     for number in numbers {
         word += u64::from(*number) << filled;
         filled += width;
         if filled >= 32 {
-            out.extend_from_slice(&((word % (1 << 32)) as u32).to_le_bytes())?;
+            put_word(&mut bytes, at, (word % (1 << 32)) as u32);
+            at += 4;
             word >>= 32;
             filled -= 32;
         }
     }
-    Ok(())
+    bytes
+}
+
+#[inline(always)]
+fn put_word(bytes: &mut [u8], at: usize, word: u32)
+    requires { at + 4 ≤ length bytes.old }
+    ensures { take (at + 4) bytes.new ≡ take at bytes.old ++ little_bytes 4 word }
+{
+    bytes[at..at + 4].copy_from_slice(&word.to_le_bytes());
 }
 
 /// Returns a field of a token, by its number.

@@ -43,7 +43,7 @@ pub fn write_file(alloc: Global, parts: &FileParts<'_>) -> Result<Vec<u8>, Write
     push_all_texts(&mut out, parts)?;
     let size = tables + rest as u32;
     let header = header_of(alloc, parts, &id, size, tables)?;
-    put_header(&mut out, header.as_slice());
+    put_header(out.as_mut_slice(), header.as_slice());
     Ok(out)
 }
 
@@ -231,11 +231,11 @@ fn header_of(
     Ok(header)
 }
 
-/// Puts the header in front of the file, over the bytes that are there.
-fn put_header(out: &mut Vec<u8>, header: &[u8])
+/// Puts the header over the first bytes of the file.
+fn put_header(file: &mut [u8], header: &[u8])
     requires whole { length header.now ≡ 64 }
-    requires room { 64 ≤ length out.old.items }
-    ensures { out.new.items ≡ header.now ++ drop 64 out.old.items }
+    requires room { 64 ≤ length file.old }
+    ensures { file.new ≡ header.now ++ drop 64 file.old }
 {
-    out[..64].copy_from_slice(header);
+    file[..64].copy_from_slice(header);
 }

@@ -1,4 +1,4 @@
-use Rattle.std.proofs.Common.{◌≡◌, ◌∙◌, ◌<◌, ◌^◌, ◌++◌, ◌∷◌, [], List, ℕ, ap, refl, subst, sym, slice_index, inl, inr, arith}
+use Rattle.std.proofs.Common.{◌≡◌, ◌∙◌, ◌<◌, ◌^◌, ◌++◌, ◌∷◌, [], ℕ, ap, subst, slice_index, inl, inr, arith}
 use Rattle.std.proofs.lemmas.Bool.{cases_lt}
 use Rattle.sourcemap_compiled_write.specs.Blocks.{body_bytes, field_numbers, field_width, width_bytes}
 use Rattle.sourcemap_compiled_write.specs.Packing.{field_bytes, token_values, width_of}

@@ -1,8 +1,7 @@
 use Rattle.std.proofs.Common.{ℕ, ◌≡◌, ◌+◌, ◌-◌, ◌<◌, ◌^◌, ◌∷◌, [], ◌++◌, ◌∙◌, List, length, map, replicate, set, take}
-use Rattle.std.proofs.Common.{sym, ap, subst, slice_index, below_more, inl, inr, arith}
-use Rattle.std.proofs.lemmas.Bool.{cases_lt}
-use Rattle.std.proofs.lemmas.List.{get_or_past, length-map, length-take-le}
-use Rattle.sourcemap_compiled_write.specs.Packing.{fields_of, number_of, token_values}
+use Rattle.std.proofs.Common.{sym, ap, slice_index, below_more, arith}
+use Rattle.std.proofs.lemmas.List.{length-map, length-take-le}
+use Rattle.sourcemap_compiled_write.specs.Packing.{number_of, token_values}
 use Rattle.sourcemap_compiled_write.proofs.PackingLemmas.{fill_more, get_or-token_values, no_token, numbers_more}
 use Rattle.sourcemap_compiled_write.proofs.PackingLemmas.{small_all}
 use Rattle.sourcemap_compiled_write.proofs.packing.numbers_of.Goals as goal

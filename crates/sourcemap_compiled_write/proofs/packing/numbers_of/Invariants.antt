@@ -1,4 +1,4 @@
-use Rattle.std.proofs.Common.{◌≡◌, ℕ, ◌++◌, ◌-◌, ◌<◌, ◌^◌, length, map, replicate, slice_index, take}
+use Rattle.std.proofs.Common.{◌≡◌, ℕ, ◌++◌, ◌-◌, ◌<◌, ◌^◌, map, replicate, slice_index, take}
 use Rattle.sourcemap_compiled_write.specs.Packing.{number_of, token_values}
 use Rattle.sourcemap_compiled_write.proofs.packing.numbers_of.Given as goal
 

@@ -1,4 +1,4 @@
-use Rattle.std.proofs.Common.{ℕ, ◌≤◌, List, slice_index, subst, sym, ◌∙◌, ap, max, arith}
+use Rattle.std.proofs.Common.{◌≤◌, slice_index, subst, sym, ◌∙◌, ap, max, arith}
 use Rattle.std.specs.List.{fold}
 use Rattle.std.proofs.lemmas.List.{take_all}
 use Rattle.sourcemap_compiled_write.proofs.PackingLemmas.{below_width, le_greatest}

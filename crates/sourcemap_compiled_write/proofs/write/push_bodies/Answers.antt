@@ -1,12 +1,12 @@
-use Rattle.std.proofs.Common.{◌≡◌, ◌∙◌, ◌+◌, ◌*◌, ◌<◌, ◌≤◌, ◌^◌, ◌++◌, [], List, ℕ, ap, length, length-append, subst, sym}
-use Rattle.std.proofs.Common.{min, rules, slice_index, arith}
+use Rattle.std.proofs.Common.{◌≡◌, ◌∙◌, ◌+◌, ◌<◌, ◌≤◌, ◌^◌, [], List, ℕ, ap, length, length-append, subst, sym}
+use Rattle.std.proofs.Common.{rules, slice_index, arith}
 use Rattle.sourcemap_tokens.specs.declared.tokens.RawToken.{RawToken}
 use Rattle.sourcemap_compiled_write.specs.Blocks.{block_of, body_bytes, head_bytes, start_bytes}
-use Rattle.sourcemap_compiled_write.specs.File.{blocks_of, bodies_of, body_offset, heads_of, starts_of}
+use Rattle.sourcemap_compiled_write.specs.File.{blocks_of, bodies_of, body_offset}
 use Rattle.sourcemap_compiled_write.specs.Packing.{token_values}
 use Rattle.sourcemap_compiled_write.specs.Stored.{parts_value}
 use Rattle.sourcemap_compiled_write.proofs.BlockLemmas.{length-block_of}
-use Rattle.sourcemap_compiled_write.proofs.StandsLemmas.{length-pieces-le, pieces-more, pieces-none, pieces_start, pieces_step}
+use Rattle.sourcemap_compiled_write.proofs.StandsLemmas.{length-pieces-le, pieces-none, pieces_start, pieces_step}
 use Rattle.sourcemap_compiled_write.proofs.WriteLemmas.{small_more}
 use Rattle.sourcemap_compiled_write.proofs.write.push_bodies.Goals as goal
 
