@@ -1,21 +1,19 @@
 -- What follows from the answer of `compile`.
 use Rattle.std.proofs.Common.{◌≡◌, refl, sym, ap, subst, ◌∙◌, ℕ, zero, suc, List, [], Some, None, Option, option_map, IfOk, IfSome}
-use Rattle.std.proofs.Common.{Result, Ok, Err, Vec, Global, Bool, true, false, ◌-◌, ◌==◌, ◌∷◌, ◌++◌, slice_get, arith}
+use Rattle.std.proofs.Common.{Result, Ok, Err, Vec, Global, Bool, true, false, ◌-◌, ◌==◌}
 use Rattle.std.specs.Prelude.{slice_index}
 use Rattle.std.specs.Str.{IsUtf8}
 use Rattle.sourcemap_tokens.specs.Items.{item_at}
-use Rattle.sourcemap_tokens.proofs.AllLemmas.{All-append, All-at}
 use Rattle.sourcemap_cache.specs.Texts.{AreTexts}
 use Rattle.sourcemap_errors.specs.declared.errors.Error.{Error}
 use Rattle.sourcemap_errors.specs.declared.errors.Error.TheVariants.{OutOfMemory}
 use Rattle.sourcemap_compiled.specs.Layout.{IsAccepted}
 use Rattle.sourcemap_compiled.specs.Lookup.{compiled_meaning}
-use Rattle.sourcemap_compiled.specs.Soundness.{IsReadable, IsSound}
-use Rattle.sourcemap_compiled_write.specs.File.{AreWritable, file_bytes, texts_of}
+use Rattle.sourcemap_compiled.specs.Soundness.{IsSound}
+use Rattle.sourcemap_compiled_write.specs.File.{file_bytes}
 use Rattle.sourcemap_compiled_write.specs.Meaning.{parts_meaning, scope_in}
 use Rattle.sourcemap_compiled_write.specs.Parts.{Parts}
-use Rattle.sourcemap_compiled_write.proofs.ReadBack.{accepted as file_accepted, meaning_back, order_back}
-use Rattle.sourcemap_compiled_write.proofs.ReadBack.{text_back, texts_counted}
+use Rattle.sourcemap_compiled_write.proofs.ReadBack.{accepted as file_accepted, meaning_back}
 use Rattle.sourcemap_index_model.specs.Flat.{AnswersLike as FlatAnswersLike, flat}
 use Rattle.sourcemap_index_model.specs.FlatList.{IsOrderly}
 use Rattle.sourcemap_index_model.specs.MapTree.{LeafMap, held, hermes, index, leaf, regular, MapTree}
@@ -23,13 +21,14 @@ use Rattle.sourcemap_index_model.specs.Meaning.{meaning as meaning_any}
 use Rattle.sourcemap_map_regular.specs.Map.{MapValue, Meaning, meaning}
 use Rattle.sourcemap_tokens.specs.Tokens.{closest_token}
 use Rattle.sourcemap_tokens.specs.declared.tokens.RawToken.{RawToken}
-use Rattle.sourcemap_cache.specs.Compile.{ArePartsOf, AreSound, CompileAnswer, FileAnswer, IsCompiled, IsFileOf, bytes_in, parts_with, regular_parts}
+use Rattle.sourcemap_cache.specs.Compile.{ArePartsOf, CompileAnswer, FileAnswer, IsCompiled, IsFileOf, bytes_in, parts_with, regular_parts}
 use Rattle.sourcemap_cache.specs.Meaning.{AnswersLike, HasScopesInOrder, MeansLike, MeansTheSame, SaysTexts, closest_scope, compiled, without_scope}
 use Rattle.sourcemap_hermes.specs.Map.{HermesValue}
 use Rattle.sourcemap_cache.specs.Scopes.{AreScopesInOrder, scope_names, scope_numbers}
 use Rattle.sourcemap_cache.specs.declared.errors.CompileError.{CompileError}
 use Rattle.sourcemap_cache.specs.declared.errors.CompileError.TheVariants.{Map, TooLarge}
 use Rattle.sourcemap_cache.specs.declared.parts.WithContents.{WithContents}
+use Rattle.sourcemap_cache.proofs.SoundLemmas.{readable, sound_file, text_item}
 use Rattle.sourcemap_cache.proofs.MeaningLemmas.{hermes_mean, parts_mean, parts_say, said}
 
 -- the file means what equal parts mean
@@ -109,24 +108,12 @@ accepted choice t bytes (p, is, file) = subst IsAccepted (sym file.file) (file_a
 
 -- Texts.
 
--- an item of a list of texts is a text
-text_item : (texts : List (Option (List ℕ))) (id : ℕ) → AreTexts texts → IfSome (item_at texts id) IsUtf8
-text_item texts id all = by_case (slice_get texts id) refl
-  where
-    by_case : (o : Option (Option (List ℕ))) → slice_get texts id ≡ o → IfSome (item_at texts id) IsUtf8
-    by_case None e = rw e tt
-    by_case (Some text) e = rw e (All-at (λ t. IfSome t IsUtf8) texts id text e all)
-
 text_scope : (p : Parts) (i : ℕ) → AreTexts p.scope_names → IfSome (scope_in p i) IsUtf8
 text_scope p i all = by_case (slice_index p.scopes i == 0) refl
   where
     by_case : (b : Bool) → (slice_index p.scopes i == 0) ≡ b → IfSome (scope_in p i) IsUtf8
     by_case true e = rw e tt
     by_case false e = rw e (text_item p.scope_names (slice_index p.scopes i - 1) all)
-
-readable : (text : Option (List ℕ)) → IfSome text IsUtf8 → IsReadable (Ok text)
-readable None is = tt
-readable (Some text) is = is
 
 pub said_texts : (choice : WithContents) (t : MapTree) (bytes : List ℕ) (at : ℕ × ℕ) → IsCompiled choice t bytes
     → IfSome (compiled_meaning bytes at) SaysTexts
@@ -143,23 +130,6 @@ said_texts choice t bytes at (p, is, file) =
     })
 
 -- Sound files.
-
-abbrev IsText : Option (List ℕ) → Type 0
-IsText text = IfSome text IsUtf8
-
-all_texts : (p : Parts) → AreSound p → AreTexts (texts_of p)
-all_texts p sound =
-    All-append IsText p.sources (p.names ++ (p.scope_names ++ (p.file ∷ p.contents))) sound.sources
-    (All-append IsText p.names (p.scope_names ++ (p.file ∷ p.contents)) sound.names
-    (All-append IsText p.scope_names (p.file ∷ p.contents) sound.scope_names (sound.file, sound.contents)))
-
-sound_file : (p : Parts) → AreWritable p → AreSound p → IsSound (file_bytes p)
-sound_file p writable sound = record {
-  order = order_back p writable sound.tokens;
-  texts = λ n within.
-      let there = text_back p writable n n refl (omega (arith, within, texts_counted p writable)) in
-      subst IsReadable (sym there) (readable (item_at (texts_of p) n) (text_item (texts_of p) n (all_texts p sound)));
-}
 
 pub sound : (choice : WithContents) (t : MapTree) (bytes : List ℕ) → IsCompiled choice t bytes → IsSound bytes
 sound choice t bytes (p, is, file) = subst IsSound (sym file.file) (sound_file p file.writable file.sound)

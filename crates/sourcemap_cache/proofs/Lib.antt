@@ -2,3 +2,4 @@ mod CompileLemmas
 mod MeaningLemmas
 mod PartsLemmas
 mod ScopesLemmas
+mod SoundLemmas
