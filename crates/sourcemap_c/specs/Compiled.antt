@@ -1,5 +1,5 @@
 -- Calls on the bytes of compiled maps, and the call that compiles a map.
-use Rattle.std.specs.Prelude.{◌≡◌, ◌<◌, ℕ, List, Bool, true, false, Option, Some, None, option_map, Result, Ok, Err, slice_get, string_bytes}
+use Rattle.std.specs.Prelude.{◌≡◌, ◌⊎◌, ◌<◌, ℕ, List, Bool, true, false, Option, Some, None, option_map, Result, Ok, Err, slice_get, string_bytes}
 use Rattle.std.specs.Str.{IsUtf8}
 use Rattle.sourcemap_cache.specs.Compile.{CompileAnswer, IsCompiled}
 use Rattle.sourcemap_cache.specs.declared.errors.CompileError.TheVariants.{Map, TooLarge}
@@ -7,9 +7,11 @@ use Rattle.sourcemap_cache.specs.declared.parts.WithContents.{WithContents}
 use Rattle.sourcemap_cache.specs.declared.parts.WithContents.TheVariants.{No, Yes}
 use Rattle.sourcemap_compiled.specs.Layout.{refusal}
 use Rattle.sourcemap_compiled.specs.Lookup.{CompiledTokenValue, IsInOrder, lookup, says}
+use Rattle.sourcemap_compiled.specs.Soundness.{HasFault, IsSound}
 use Rattle.sourcemap_compiled.specs.declared.errors.CompiledMapError.{CompiledMapError}
-use Rattle.sourcemap_compiled.specs.declared.errors.CompiledMapError.TheVariants.{InvalidUtf8, TextOutside, Truncated}
-use Rattle.sourcemap_compiled.specs.declared.errors.CompiledMapError.TheVariants.{WrongExtent, WrongMagic, WrongVersion}
+use Rattle.sourcemap_compiled.specs.declared.errors.CompiledMapError.TheVariants.{InvalidUtf8, OutOfOrder, TextOutside}
+use Rattle.sourcemap_compiled.specs.declared.errors.CompiledMapError.TheVariants.{Truncated, WrongExtent, WrongMagic}
+use Rattle.sourcemap_compiled.specs.declared.errors.CompiledMapError.TheVariants.{WrongVersion}
 use Rattle.sourcemap_errors.specs.declared.errors.Error.{Error}
 use Rattle.sourcemap_errors.specs.declared.errors.Error.TheVariants.{IncompatibleSourceMap}
 use Rattle.sourcemap_index_model.specs.MapTree.{MapTree}
@@ -26,11 +28,17 @@ compiled_code WrongMagic = 36
 compiled_code (WrongVersion _) = 37
 compiled_code WrongExtent = 38
 compiled_code TextOutside = 39
+compiled_code (OutOfOrder _) = 40
 
 -- the code of a check: `SM_OK`, or why the bytes are no compiled map
 abbrev pub check_code : Option CompiledMapError → ℕ
 check_code None = 0
 check_code (Some e) = compiled_code e
+
+-- the code of a check of all bytes: `SM_OK` for a sound file, otherwise the code of its first fault
+abbrev pub ReturnsVerdict : List ℕ → (code : ℕ) → Type 0
+ReturnsVerdict bytes code =
+    ((code ≡ 0) × IsSound bytes) ⊎ ((e : CompiledMapError) × HasFault bytes e × (code ≡ compiled_code e))
 
 -- If the bytes are a compiled map, `Says` holds. Otherwise the code says why they are none, and nothing is written
 abbrev pub OnCompiled : {X : Type 0} → Option CompiledMapError → (Says : Type 0) → (code : ℕ) → (old new : X) → Type 0

@@ -1,13 +1,13 @@
 //! Compiled maps: bytes of the caller, which are looked up where they lie. These calls read nothing
 //! but the bytes and write nothing but their result, so any number of threads may make them at once
 //! with the same bytes.
-ghost use Rattle.std.specs.Prelude.{◌≡◌, ◌≤◌, ℕ, None, Some, cond, is_some, length, min, option_map, slice_get};
+ghost use Rattle.std.specs.Prelude.{◌≡◌, ◌≤◌, ℕ, IfNone, IfSome, None, Some, cond, is_some, length, min, option_map, slice_get};
 ghost use Rattle.sourcemap_compiled.specs.Layout.{refusal};
 ghost use Rattle.sourcemap_compiled.specs.Lookup.{IsInOrder, lookup};
 ghost use Rattle.sourcemap_compiled.specs.Stored.{bytes_of, token_value};
 ghost use Rattle.sourcemap_compiled.specs.Texts.{ReadsText, compiled_contents, compiled_name, compiled_source};
 ghost use Rattle.sourcemap_c.specs.Codes.{IsAbsentUnlessOk, ReturnsValue};
-ghost use Rattle.sourcemap_c.specs.Compiled.{AreAnsweredBy, OnCompiled, ReturnsCompiled, ReturnsText, check_code, compiled_code, compiled_found};
+ghost use Rattle.sourcemap_c.specs.Compiled.{AreAnsweredBy, OnCompiled, ReturnsCompiled, ReturnsText, ReturnsVerdict, check_code, compiled_code, compiled_found};
 
 use crate::codes::{ABSENT, OK};
 use sourcemap_c_handles::layout::{Found, MapToken, Position};
@@ -22,6 +22,7 @@ enum CompiledCode {
     Version = 37,
     Extent = 38,
     Text = 39,
+    Order = 40,
 }
 
 fn code_of(error: CompiledMapError) -> u32
@@ -34,6 +35,7 @@ fn code_of(error: CompiledMapError) -> u32
         CompiledMapError::WrongVersion(_) => CompiledCode::Version,
         CompiledMapError::WrongExtent => CompiledCode::Extent,
         CompiledMapError::TextOutside => CompiledCode::Text,
+        CompiledMapError::OutOfOrder(_) => CompiledCode::Order,
     };
     code as u32
 }
@@ -45,6 +47,27 @@ pub extern "C" fn sm_compiled_check(bytes: &[u8]) -> u32
 {
     match CompiledMap::parse(bytes) {
         Ok(_) => OK,
+        Err(error) => code_of(error),
+    }
+}
+
+/// Checks all bytes of a compiled map: its header, the order of its tokens, and its texts.
+#[unsafe(no_mangle)]
+pub extern "C" fn sm_compiled_verify(bytes: &[u8]) -> u32
+    ensures verdict { IfNone (refusal bytes.now) (ReturnsVerdict bytes.now result) }
+    ensures refused { IfSome (refusal bytes.now) (λ e. result ≡ compiled_code e) }
+{
+    match CompiledMap::parse(bytes) {
+        Ok(map) => verdict(map),
+        Err(error) => code_of(error),
+    }
+}
+
+fn verdict(map: CompiledMap<'_>) -> u32
+    ensures { ReturnsVerdict (bytes_of map) result }
+{
+    match map.verify() {
+        Ok(()) => OK,
         Err(error) => code_of(error),
     }
 }

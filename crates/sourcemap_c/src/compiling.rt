@@ -1,16 +1,17 @@
 //! Compiling of maps.
-ghost use Rattle.std.specs.Prelude.{◌≡◌, None, bool_eq};
+ghost use Rattle.std.specs.Prelude.{◌≡◌, MatchResult, None, Some};
 ghost use Rattle.sourcemap_c_handles.specs.Handles.{held_in};
+ghost use Rattle.sourcemap_cache.specs.Compile.{IsCompiled};
 ghost use Rattle.sourcemap_index.specs.Family.{map_tree};
 ghost use Rattle.sourcemap_c.specs.Codes.{Answers, Does, OfLibraryOrKind};
 ghost use Rattle.sourcemap_c.specs.Compiled.{HoldsCompiled, IsCompileError, choice_of};
 ghost use Rattle.sourcemap_c.specs.Kinds.{bytes_in, tree_in};
 
 use crate::kinds::{map_in, put_bytes};
-use sourcemap::{DecodedMap, Error};
+use sourcemap::{DecodedMap, Result};
 use sourcemap_c_handles::Handle;
 use sourcemap_c_handles::errors::{ErrorReport, Failure, Outcome, finish};
-use sourcemap_cache::{CompileError, WithContents, compile};
+use sourcemap_cache::{WithContents, compile};
 use std::alloc::Global;
 
 /// Fills `bytes` with the compiled map.
@@ -53,4 +54,11 @@ fn compile_to(
         Some(map) => put_bytes(alloc, bytes, compiled(alloc, map, contents)?),
         None => Err(Failure::WrongKind),
     }
+}
+
+fn compiled(alloc: Global, map: &DecodedMap, contents: WithContents) -> Result<Vec<u8>>
+    ensures { MatchResult result (λ bytes. IsCompiled contents (map_tree map.now) bytes.items)
+        (IsCompileError contents (Some (map_tree map.now))) }
+{
+    Ok(compile(alloc, map, contents)?)
 }

@@ -13,3 +13,9 @@ pub use Rattle.sourcemap_compiled.specs.Stored
 pub use Rattle.sourcemap_compiled.specs.Texts as CompiledTexts
 pub use Rattle.sourcemap_compiled_write.specs.File
 pub use Rattle.sourcemap_compiled_write.specs.Parts
+pub use Rattle.sourcemap_index.specs.Family
+pub use Rattle.sourcemap_index_model.specs.Flat
+pub use Rattle.sourcemap_index_model.specs.FlatList
+pub use Rattle.sourcemap_index_model.specs.MapTree
+pub use Rattle.sourcemap_map_regular.specs.Map
+pub use Rattle.sourcemap_tokens.specs.Tokens

@@ -38,10 +38,11 @@ pub fn origin_in(bytes: &[u8], line: u32, col: u32) -> Result<Option<Origin<'_>>
     compiled_maps_mean_the_same();
     compiled_texts_are_utf8();
     let map = CompiledMap::parse(bytes)?;
-    match map.lookup_token(line, col) {
-        None => Ok(None),
-        Some(token) => Ok(Some(origin_of(token)?)),
-    }
+    let Some(token) = map.lookup_token(line, col) else {
+        return Ok(None);
+    };
+    let origin = origin_of(token)?;
+    Ok(Some(origin))
 }
 
 fn origin_of<'a>(token: CompiledToken<'a>) -> Result<Origin<'a>, CompiledMapError>
@@ -49,11 +50,13 @@ fn origin_of<'a>(token: CompiledToken<'a>) -> Result<Origin<'a>, CompiledMapErro
         → SaysTexts (meaning_of_token token.entry)
         → IsOkAnd result (λ origin. origin_value origin ≡ says) }
 {
+    let source = token.get_source()?;
+    let name = token.get_name()?;
     Ok(Origin {
-        source: token.get_source()?,
+        source,
         line: token.get_src_line(),
         column: token.get_src_col(),
-        name: token.get_name()?,
+        name,
         is_range: token.is_range(),
     })
 }
