@@ -1,0 +1,5 @@
+mod CompileLemmas
+mod MeaningLemmas
+mod PartsLemmas
+mod ScopesLemmas
+mod SoundLemmas

@@ -1,0 +1,16 @@
+//! Compiled maps: compiles maps of any kind, and looks positions up in the compiled bytes.
+#![tactic(auto)]
+
+pub mod compiling;
+pub mod errors;
+pub mod laws;
+pub mod parts;
+mod scopes;
+mod texts;
+
+pub use compiling::compile;
+pub use errors::CompileError;
+pub use parts::WithContents;
+pub use sourcemap_compiled::errors::CompiledMapError;
+pub use sourcemap_compiled::map::CompiledMap;
+pub use sourcemap_compiled::token::CompiledToken;
