@@ -3,8 +3,6 @@
 
 #[cfg(test)]
 mod rules;
-#[cfg(test)]
-mod standard;
 
 use sourcemap_check::check::{Options, check};
 use sourcemap_errors::errors::Result;
