@@ -123,7 +123,8 @@ class Split(HandleOwner, Sequence[Optional[Module]]):
 
     def close(self) -> None:
         super().close()
-        self._bundle.close()
+        if '_bundle' in self.__dict__:
+            self._bundle.close()
 
     def __len__(self) -> int:
         """How many module numbers the bundle has."""
