@@ -49,12 +49,12 @@ passes Object d = is_some (as_object d)
 passes Array d = is_some (as_array d)
 
 abbrev pub all_items : Test → Items → Bool
-all_items test no_items = true
-all_items test (item d ds) = passes test d && all_items test ds
+all_items wanted no_items = true
+all_items wanted (item d ds) = passes wanted d && all_items wanted ds
 
 abbrev pub some_item : Test → Items → Bool
-some_item test no_items = false
-some_item test (item d ds) = passes test d || some_item test ds
+some_item wanted no_items = false
+some_item wanted (item d ds) = passes wanted d || some_item wanted ds
 
 abbrev pub count_items : Items → ℕ
 count_items no_items = 0
