@@ -341,11 +341,12 @@ sm_code sm_name(sm_map *map, uint32_t id, sm_text *text);
 ** handle holds no map. A map may have contents past its last source. */
 sm_code sm_contents(sm_map *map, uint32_t id, sm_text *text);
 
-/* Writes the ids of the ignore list to `ids`, in rising order, from index `first` of
-** the list on. The call stops at the end of the list or of `ids`. Returns how many it
-** wrote: 0 of an index map, and of a handle without a map. An id may name no source.
-** The rest of `ids` is as it was. */
-size_t sm_ignore_list(sm_map *map, uint32_t first, uint32_t *ids, size_t length);
+/* Writes the ids of the ignore list that are not below `from` to `ids`, in rising
+** order. The call stops at the end of the list or of `ids`. Returns how many it wrote:
+** 0 of an index map, and of a handle without a map. An id may name no source. The rest
+** of `ids` is as it was. To read on, pass the last id plus 1: a call takes the time of
+** what it writes. No id follows SM_NONE. */
+size_t sm_ignore_list_from(sm_map *map, uint32_t from, uint32_t *ids, size_t length);
 
 /* Writes the tokens of a map to `tokens`, in the order of their generated positions,
 ** from index `first` on. The call stops after the last token of the map or at the end

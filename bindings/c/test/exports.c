@@ -101,7 +101,7 @@ FILL(split_open, split, sm_split_open(&split, handle, &error))
 static sm_code ignore_list(sm_handle *handle)
 {
     uint32_t ids[1] = { 0 };
-    return count_code(sm_ignore_list(handle, 0, ids, 1));
+    return count_code(sm_ignore_list_from(handle, 0, ids, 1));
 }
 
 static sm_code tokens(sm_handle *handle)
@@ -237,7 +237,7 @@ const struct export_row EXPORTS[] = {
     { "sm_source", source, MAPS, false },
     { "sm_name", name_of, MAPS, false },
     { "sm_contents", contents, MAPS, false },
-    { "sm_ignore_list", ignore_list, LISTS, false },
+    { "sm_ignore_list_from", ignore_list, LISTS, false },
     { "sm_tokens", tokens, LISTS, false },
     { "sm_token_text", token_text, LISTS, false },
     { "sm_lookup", lookup, MAPS, false },

@@ -2,7 +2,10 @@
 #include "inputs.h"
 #include "tests.h"
 
+#include <stdio.h>
+#include <stdlib.h>
 #include <string.h>
+#include <time.h>
 
 static bool are_counts(sm_map *map, uint32_t tokens, uint32_t sources, uint32_t names, uint32_t ignored,
                        uint32_t sections)
@@ -99,16 +102,75 @@ static void test_ignore_list(void)
     sm_map map = SM_EMPTY;
     uint32_t ids[4] = { 7, 7, 7, 7 };
     OPEN(&map, "{\"sources\":[\"a\",\"b\",\"c\",\"d\"],\"mappings\":\"\",\"ignoreList\":[3,0,2,0]}");
-    CHECK_NUMBER(sm_ignore_list(&map, 0, ids, 4), 3);
+    CHECK_NUMBER(sm_ignore_list_from(&map, 0, ids, 4), 3);
     CHECK(ids[0] == 0 && ids[1] == 2 && ids[2] == 3 && ids[3] == 7);
-    CHECK_NUMBER(sm_ignore_list(&map, 1, ids, 1), 1);
+    CHECK_NUMBER(sm_ignore_list_from(&map, 1, ids, 1), 1);
     CHECK(ids[0] == 2 && ids[1] == 2);
-    CHECK_NUMBER(sm_ignore_list(&map, 3, ids, 4), 0);
-    CHECK_NUMBER(sm_ignore_list(&map, SM_NONE, ids, 4), 0);
-    CHECK_NUMBER(sm_ignore_list(&map, 0, ids, 0), 0);
+    CHECK_NUMBER(sm_ignore_list_from(&map, 3, ids, 4), 1);
+    CHECK(ids[0] == 3 && ids[1] == 2);
+    CHECK_NUMBER(sm_ignore_list_from(&map, 4, ids, 4), 0);
+    CHECK_NUMBER(sm_ignore_list_from(&map, SM_NONE, ids, 4), 0);
+    CHECK_NUMBER(sm_ignore_list_from(&map, 0, ids, 0), 0);
+    OPEN(&map, "{\"sources\":[],\"mappings\":\"\",\"ignoreList\":[4294967295,4294967294]}");
+    CHECK_NUMBER(sm_ignore_list_from(&map, SM_NONE, ids, 4), 1);
+    CHECK(ids[0] == SM_NONE && ids[1] == 2);
+    CHECK_NUMBER(sm_ignore_list_from(&map, 7, ids, 1), 1);
+    CHECK(ids[0] == SM_NONE - 1);
     OPEN(&map, INDEX_MAP);
-    CHECK_NUMBER(sm_ignore_list(&map, 0, ids, 4), 0);
+    CHECK_NUMBER(sm_ignore_list_from(&map, 0, ids, 4), 0);
     sm_close(&map);
+}
+
+#define IDS 100000
+#define PAGE 100
+
+/* Reads all ids by this many at a time, and returns the processor time that it took. */
+static clock_t read_ids(sm_map *map, uint32_t *ids, size_t page)
+{
+    clock_t start = clock();
+    uint32_t from = 0;
+    size_t read = 0, count;
+    do {
+        count = sm_ignore_list_from(map, from, ids + read, page);
+        read += count;
+        from = count > 0 ? ids[read - 1] + 1 : from;
+    } while (count == page && read < IDS);
+    CHECK_NUMBER(read, IDS);
+    return clock() - start;
+}
+
+static clock_t least(clock_t one, clock_t other)
+{
+    return one < other ? one : other;
+}
+
+/* Reading a long list by pages takes the time of the list, not of the list times the pages. */
+static void test_ignore_list_by_pages(void)
+{
+    sm_map map = SM_EMPTY;
+    uint32_t *ids = calloc(IDS, sizeof *ids);
+    char *json = malloc(IDS * 8 + 64);
+    clock_t by_pages = 0, at_once = 0;
+    size_t length = 0, i, n, wrong = 0;
+    length += (size_t)sprintf(json, "{\"sources\":[],\"mappings\":\"\",\"ignoreList\":[");
+    for (i = 0; i < IDS; i++)
+        length += (size_t)sprintf(json + length, i > 0 ? ",%lu" : "%lu", (unsigned long)(3 * i));
+    sprintf(json + length, "]}");
+    open_text(&map, json);
+    for (n = 0; n < 5; n++) {
+        clock_t time = read_ids(&map, ids, IDS);
+        at_once = n > 0 ? least(at_once, time) : time;
+        memset(ids, 0, IDS * sizeof *ids);
+        time = read_ids(&map, ids, PAGE);
+        by_pages = n > 0 ? least(by_pages, time) : time;
+    }
+    for (i = 0; i < IDS; i++)
+        wrong += ids[i] != 3 * i;
+    CHECK_NUMBER(wrong, 0);
+    CHECK(by_pages < 20 * at_once + CLOCKS_PER_SEC / 200);
+    sm_close(&map);
+    free(json);
+    free(ids);
 }
 
 static void test_tokens(void)
@@ -281,6 +343,7 @@ void test_reading(void)
     test_file_and_root();
     test_debug_ids();
     test_ignore_list();
+    test_ignore_list_by_pages();
     test_tokens();
     test_printed_tokens();
     test_printed_ids();

@@ -669,7 +669,7 @@ static void test_without_memory(void)
 {
     static const char *const FREE[] = {
         "sm_count", "sm_file", "sm_source_root", "sm_get_debug_id", "sm_source", "sm_name", "sm_contents",
-        "sm_ignore_list", "sm_tokens", "sm_lookup", "sm_lookup_many", "sm_lookup_span", "sm_lookup_index",
+        "sm_ignore_list_from", "sm_tokens", "sm_lookup", "sm_lookup_many", "sm_lookup_span", "sm_lookup_index",
         "sm_lookup_source", "sm_lookup_name", "sm_hermes_function_name", "sm_scope_for", "sm_bytes_text",
         "sm_section_start_of", "sm_section_url", "sm_module_offsets", "sm_module_path", "sm_module_path_count",
         "sm_builder_source", "sm_view_text", "sm_view_count", "sm_view_line", "sm_view_slice", "sm_bundle_count"

@@ -378,18 +378,20 @@ static napi_value contents(napi_env env, napi_callback_info info) {
 static napi_value ignore_list(napi_env env, napi_callback_info info) {
     napi_value handle, array;
     held_map *held = NULL;
-    uint32_t ids[CHUNK], at = 0;
+    uint32_t ids[CHUNK], from = 0, at = 0;
     size_t read;
     TRY(take_handle(env, info, 1, &handle, &held));
     TRY(napi_create_array(env, &array));
     memset(ids, 0, sizeof ids);
-    while ((read = sm_ignore_list(&held->map, at, ids, CHUNK)) > 0) {
+    do {
+        read = sm_ignore_list_from(&held->map, from, ids, CHUNK);
         for (size_t i = 0; i < read; i++) {
             napi_value id;
             TRY(napi_create_uint32(env, ids[i], &id));
             TRY(napi_set_element(env, array, at++, id));
         }
-    }
+        from = ids[CHUNK - 1] + 1;
+    } while (read == CHUNK && from > 0);
     return array;
 }
 

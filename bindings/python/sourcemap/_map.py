@@ -322,7 +322,7 @@ class Map(HandleOwner):
         count = self._count_of('ignored')
         ids = (c_uint32 * max(count, 1))()
         with self._lock:
-            written = library.ignore_list(self._at, 0, ids, count)
+            written = library.ignore_list_from(self._at, 0, ids, count)
         return tuple(ids[:written])
 
     @property

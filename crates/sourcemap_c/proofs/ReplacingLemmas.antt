@@ -1,6 +1,6 @@
 -- If a Hermes map is rewritten without loading files, the result is `rewritten`, or out of memory. If all prefixes are
 -- UTF-8, a contract about the texts of the prefixes implies the contract about their bytes.
-use Rattle.std.proofs.Common.{◌≡◌, ℕ, List, false, Result, Ok, Err, MatchResult, inr, subst}
+use Rattle.std.proofs.Common.{◌≡◌, ℕ, Bor, List, map, false, Result, Ok, Err, MatchResult, inr, subst}
 use Rattle.std.specs.List.{All}
 use Rattle.std.specs.Str.{IsUtf8}
 use Rattle.sourcemap_errors.specs.Answer.{Gives, IsAnswer}
@@ -33,6 +33,9 @@ pub hermes_due : (options : RewriteOptions) (old copy : HermesValue) (result : R
     → MatchResult result (λ new. hermes_value new ≡ rewritten (removal_of options) old) (λ e. e ≡ OutOfMemory)
 hermes_due options old copy result none same is =
     rw (← same) (both options copy result (Gives-rewritten hermes_value options copy result none is))
+
+abbrev pub bytes_of : List (Bor (List ℕ)) → List (List ℕ)
+bytes_of texts = map (λ (text : Bor (List ℕ)). text.now) texts
 
 pub of_texts : {T : Type 0} (result : Result T Failure) (found texts : List (List ℕ)) (Done : List (List ℕ) → Type 0)
     (Due : List (List ℕ) → Failure → Type 0) (Kept : Type 0) → found ≡ texts → All IsUtf8 texts

@@ -15,6 +15,7 @@ use Rattle.sourcemap_c_handles.specs.declared.errors.Failure.{Failure}
 use Rattle.sourcemap_c_handles.specs.declared.errors.Failure.TheVariants.{Library, Absent, WrongKind}
 use Rattle.sourcemap_c_handles.specs.declared.held.Held.{Held}
 use Rattle.sourcemap_c_handles.specs.declared.layout.MapToken.{MapToken}
+use Rattle.sourcemap_c.specs.Changing.{FailsAs}
 use Rattle.sourcemap_c.specs.Codes.{OrNoText}
 use Rattle.sourcemap_c.specs.Kinds.{builder_in}
 use Rattle.sourcemap_c.specs.declared.building.Step.{Step}
@@ -66,21 +67,17 @@ StepsTo (Ignored id) = Ignores id
 abbrev pub HoldsStep : (BuilderValue → Result BuilderValue Failure → Type 0) → (old new : Option Held) → Type 0
 HoldsStep Becomes old new = IsSomeAnd (builder_in old) (λ b. IsSomeAnd (builder_in new) (λ n. Becomes b (Ok n)))
 
-abbrev pub FailsStep : (BuilderValue → Result BuilderValue Failure → Type 0) → Option BuilderValue → Failure → Type 0
-FailsStep Becomes (Some b) failure = Becomes b (Err failure)
-FailsStep Becomes None failure = failure ≡ WrongKind
-
 -- The contract of a call that changes the builder in a handle as `Becomes` says. `Says` is `Does` of a result, or
 -- `Answers` of a code and a report.
 abbrev pub Steps : (Says : Type 0 → (Failure → Type 0) → Type 0 → Type 0)
     → (BuilderValue → Result BuilderValue Failure → Type 0) → (old new : Option Held) → Type 0
-Steps Says Becomes old new = Says (HoldsStep Becomes old new) (FailsStep Becomes (builder_in old)) (new ≡ old)
+Steps Says Becomes old new = Says (HoldsStep Becomes old new) (FailsAs Becomes (builder_in old)) (new ≡ old)
 
 -- the same for a call that sets a text, which may not be UTF-8
 abbrev pub SetsText : (Says : Type 0 → (Failure → Type 0) → Type 0 → Type 0) → (present : Bool) → (text : List ℕ)
     → (BuilderValue → Result BuilderValue Failure → Type 0) → (old new : Option Held) → Type 0
 SetsText Says present text Becomes old new =
-    Says (HoldsStep Becomes old new) (OrNoText present text (FailsStep Becomes (builder_in old))) (new ≡ old)
+    Says (HoldsStep Becomes old new) (OrNoText present text (FailsAs Becomes (builder_in old))) (new ≡ old)
 
 abbrev pub texts_of : Texts → BuilderValue → List (List ℕ)
 texts_of Texts.Sources b = b.interned

@@ -125,9 +125,9 @@ IsFlat _ _ = ⊥
 abbrev pub HoldsNew : (MapTree → Result MapTree Failure → Type 0) → (old new : Option Held) → Type 0
 HoldsNew Becomes old new = IsSomeAnd (tree_in old) (λ t. IsSomeAnd (tree_in new) (λ n. Becomes t (Ok n)))
 
--- the error of the change; `WrongKind` if there is no map
-abbrev pub FailsAs : (MapTree → Result MapTree Failure → Type 0) → Option MapTree → Failure → Type 0
-FailsAs Becomes (Some t) failure = Becomes t (Err failure)
+-- the error of the change of a map or of a builder; `WrongKind` if there is none
+abbrev pub FailsAs : {V : Type 0} → (V → Result V Failure → Type 0) → Option V → Failure → Type 0
+FailsAs Becomes (Some v) failure = Becomes v (Err failure)
 FailsAs Becomes None failure = failure ≡ WrongKind
 
 -- The contract of a call that changes the map in a handle as `Becomes` says. `Says` is `Does` of a result, or `Answers`

@@ -6,12 +6,16 @@ use Rattle.sourcemap_vlq.specs.Vlq.{SegmentAnswers, Spells}
 use Rattle.sourcemap_c.specs.Codes.{IsNoText}
 
 -- how many numbers fit into an array
-abbrev pub fitting : (numbers array : List ℤ) → ℕ
+abbrev pub fitting : {X : Type 0} → (numbers array : List X) → ℕ
 fitting numbers array = min (length numbers) (length array)
 
 -- the array with its first items replaced by the numbers, as many as fit
-abbrev pub overwritten : (numbers array : List ℤ) → List ℤ
+abbrev pub overwritten : {X : Type 0} → (numbers array : List X) → List X
 overwritten numbers array = take (fitting numbers array) numbers ++ drop (fitting numbers array) array
+
+-- the numbers are written to an array, as many as fit; `count` is how many
+abbrev pub Overwrites : {X : Type 0} → (numbers : List X) → (count : ℕ) → (old new : List X) → Type 0
+Overwrites numbers count old new = (count ≡ fitting numbers old) × (new ≡ overwritten numbers old)
 
 -- the result of decoding bytes as a segment: the numbers, the first error of the segment, or `Utf8` if the bytes are
 -- not UTF-8

@@ -10,7 +10,8 @@ ghost use Rattle.sourcemap_interning.specs.Interner.{id_for};
 ghost use Rattle.sourcemap_c_handles.specs.Handles.{EndsAsBefore, held_in};
 ghost use Rattle.sourcemap_c_handles.specs.Layout.{raw_token};
 ghost use Rattle.sourcemap_index_model.specs.MapTree.{leaf, regular};
-ghost use Rattle.sourcemap_c.specs.Building.{Adds, AddsAll, AddsNot, AddsText, AreAdded, ChangesSource, FailsStep, HasContents, HasId, HasRoot, HasSource, HoldsStep, Ignores, IsStripped, SetsText, Steps, StepsTo, texts_of, with_text, with_tokens};
+ghost use Rattle.sourcemap_c.specs.Building.{Adds, AddsAll, AddsNot, AddsText, AreAdded, ChangesSource, HasContents, HasId, HasRoot, HasSource, HoldsStep, Ignores, IsStripped, SetsText, Steps, StepsTo, texts_of, with_text, with_tokens};
+ghost use Rattle.sourcemap_c.specs.Changing.{FailsAs};
 ghost use Rattle.sourcemap_c.specs.Codes.{Answers, Does, NoError, OfLibrary, OfLibraryOrKind, OrNoText, ReturnsValue, text_if};
 ghost use Rattle.sourcemap_c.specs.Kinds.{builder_in, tree_in};
 ghost use Rattle.sourcemap_c.specs.Replacing.{OrNoPrefix};
@@ -123,7 +124,7 @@ pub extern "C" fn sm_builder_add_source(
 {
     finish(
         alloc,
-        add_bytes(alloc, builder, Texts::Sources, text, id),
+        add_text(alloc, builder, Texts::Sources, text, id),
         error,
     )
 }
@@ -142,12 +143,12 @@ pub extern "C" fn sm_builder_add_name(
 {
     finish(
         alloc,
-        add_bytes(alloc, builder, Texts::Names, text, id),
+        add_text(alloc, builder, Texts::Names, text, id),
         error,
     )
 }
 
-fn add_bytes(
+fn add_text(
     alloc: Global,
     builder: &mut Handle,
     to: Texts,
@@ -157,14 +158,6 @@ fn add_bytes(
     ensures { AddsText (Does result) to text.now (held_in builder.old, id.old) (held_in builder.new, id.new) }
 {
     let text = text_in(text)?;
-    add_text(alloc, builder, to, text, id)
-}
-
-fn add_text(alloc: Global, builder: &mut Handle, to: Texts, text: &str, id: &mut u32) -> Outcome<()>
-    ensures { Does result (Adds to text.now id.new (held_in builder.old) (held_in builder.new))
-        (AddsNot to text.now (builder_in (held_in builder.old)))
-        ((held_in builder.new ≡ held_in builder.old) × (id.new ≡ id.old)) }
-{
     match builder.take(alloc) {
         Some(mut held) => {
             let outcome = add_text_to(&mut held, to, text, id);
@@ -257,7 +250,7 @@ pub extern "C" fn sm_builder_strip_prefixes(
     ensures { let texts = list_map (λ prefix. prefix.now) prefixes.now in
         Answers result error.old error.new
         (All IsUtf8 texts × HoldsStep (IsStripped texts) (held_in builder.old) (held_in builder.new))
-        (OrNoPrefix texts (FailsStep (IsStripped texts) (builder_in (held_in builder.old))))
+        (OrNoPrefix texts (FailsAs (IsStripped texts) (builder_in (held_in builder.old))))
         (held_in builder.new ≡ held_in builder.old) }
 {
     finish(alloc, strip_prefixes(alloc, builder, prefixes), error)
@@ -267,7 +260,7 @@ fn strip_prefixes(alloc: Global, builder: &mut Handle, prefixes: &[&[u8]]) -> Ou
     ensures { let texts = list_map (λ prefix. prefix.now) prefixes.now in
         Does result
         (All IsUtf8 texts × HoldsStep (IsStripped texts) (held_in builder.old) (held_in builder.new))
-        (OrNoPrefix texts (FailsStep (IsStripped texts) (builder_in (held_in builder.old))))
+        (OrNoPrefix texts (FailsAs (IsStripped texts) (builder_in (held_in builder.old))))
         (held_in builder.new ≡ held_in builder.old) }
 {
     match texts_in(alloc, prefixes) {
@@ -338,7 +331,7 @@ fn step_in(alloc: Global, handle: &mut Handle, step: &Step<'_>) -> Outcome<()>
 
 fn step_held(held: &mut Held, step: &Step<'_>) -> Outcome<()>
     ensures { Does result (HoldsStep (StepsTo step.now) (Some held.old) (Some held.new))
-        (FailsStep (StepsTo step.now) (builder_in (Some held.old))) (held.new ≡ held.old) }
+        (FailsAs (StepsTo step.now) (builder_in (Some held.old))) (held.new ≡ held.old) }
 {
     match held {
         Held::Builder(builder) => step_builder(builder, step),

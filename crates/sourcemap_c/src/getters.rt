@@ -8,11 +8,9 @@ ghost use Rattle.sourcemap_index.specs.DecodedMap.{debug_id_of};
 ghost use Rattle.sourcemap_index.specs.Family.{index_value, map_tree};
 ghost use Rattle.sourcemap_c.specs.Getters.{AreFrom, contents_in, counts_of, counts_of_map, counts_of_sections, file_of, leaf_in, name_in, root_of, source_in};
 ghost use Rattle.sourcemap_c.specs.Codes.{ReturnsValue};
-ghost use Rattle.sourcemap_c.specs.IgnoreLists.{AreIdsFrom};
 ghost use Rattle.sourcemap_c.specs.Kinds.{tree_in, tree_of};
 
 use crate::codes::{ABSENT, OK, WRONG_KIND, put_text};
-use crate::ignore_lists::put_ignored;
 use crate::kinds::map_in;
 use sourcemap::{DecodedMap, RawToken, SourceMap, SourceMapIndex};
 use sourcemap_c_handles::Handle;
@@ -227,35 +225,6 @@ fn contents_in(map: &DecodedMap, id: u32) -> Option<&str>
     ensures { option_copied result ≡ contents_in id (map_tree map.now) }
 {
     leaf_in(map)?.get_source_contents(id)
-}
-
-/// Writes the ids of the ignore list from index `first` on, as many as fit. Returns the number of
-/// ids written, or 0 if the handle holds an index map or no map.
-#[unsafe(no_mangle)]
-pub extern "C" fn sm_ignore_list(map: &mut Handle, first: u32, ids: &mut [u32]) -> usize
-    ensures count { result ≡ unwrap_or (option_map (λ t. unwrap_or (option_map
-        (λ m. min (length ids.old) (length m.ignored - first)) (leaf_in t)) 0) (tree_in (held_in map.old))) 0 }
-    ensures each { IfSome (tree_in (held_in map.old)) (λ t. IfSome (leaf_in t)
-        (λ m. AreIdsFrom first m.ignored ids.new result)) }
-    ensures rest { (i : ℕ) → result ≤ i → slice_get ids.new i ≡ slice_get ids.old i }
-    ensures kept { held_in map.new ≡ held_in map.old }
-{
-    match map_in(map) {
-        Some(map) => put_ids(map, first as usize, ids),
-        None => 0,
-    }
-}
-
-fn put_ids(map: &DecodedMap, first: usize, ids: &mut [u32]) -> usize
-    ensures count { result ≡ unwrap_or (option_map
-        (λ m. min (length ids.old) (length m.ignored - first)) (leaf_in (map_tree map.now))) 0 }
-    ensures each { IfSome (leaf_in (map_tree map.now)) (λ m. AreIdsFrom first m.ignored ids.new result) }
-    ensures rest { (i : ℕ) → result ≤ i → slice_get ids.new i ≡ slice_get ids.old i }
-{
-    match leaf_in(map) {
-        Some(map) => put_ignored(map, first, ids),
-        None => 0,
-    }
 }
 
 /// Writes the tokens from index `first` on, as many as fit. Returns the number of tokens written,

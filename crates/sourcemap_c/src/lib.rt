@@ -12,7 +12,7 @@ pub mod equality;
 pub mod functions;
 pub mod getters;
 pub mod hermes;
-mod ignore_lists;
+pub mod ignore_lists;
 mod kinds;
 pub mod lookup;
 pub mod module_paths;

@@ -173,7 +173,7 @@ extern "C" {
     pub fn sm_source(map: *mut Handle, id: u32, text: *mut Text) -> Code;
     pub fn sm_name(map: *mut Handle, id: u32, text: *mut Text) -> Code;
     pub fn sm_contents(map: *mut Handle, id: u32, text: *mut Text) -> Code;
-    pub fn sm_ignore_list(map: *mut Handle, first: u32, ids: *mut u32, length: usize) -> usize;
+    pub fn sm_ignore_list_from(map: *mut Handle, from: u32, ids: *mut u32, length: usize) -> usize;
     pub fn sm_tokens(map: *mut Handle, first: u32, tokens: *mut RawToken, length: usize) -> usize;
     pub fn sm_token_text(map: *mut Handle, index: u32, text: *mut Handle, error: *mut Error) -> Code;
     pub fn sm_module_offsets(map: *mut Handle, first: u32, offsets: *mut u32, length: usize, written: *mut usize) -> Code;

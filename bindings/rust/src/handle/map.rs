@@ -186,7 +186,7 @@ impl MapHandle {
         let mut ids = vec![0; self.counts().ignored as usize];
         // SAFETY: the call writes at most as many ids as there are.
         let written =
-            unsafe { ffi::sm_ignore_list(self.take().at(), 0, ids.as_mut_ptr(), ids.len()) };
+            unsafe { ffi::sm_ignore_list_from(self.take().at(), 0, ids.as_mut_ptr(), ids.len()) };
         ids.truncate(written);
         ids.into_boxed_slice()
     }

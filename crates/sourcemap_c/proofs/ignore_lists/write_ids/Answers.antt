@@ -1,28 +1,41 @@
-use Rattle.std.proofs.Common.{arith, ◌≤◌, ◌∙◌, length, sym}
-use Rattle.sourcemap_map_regular.specs.Iterators.{ids_left}
-use Rattle.sourcemap_c.proofs.IgnoreListsLemmas.{all_left, all_space, at_front, each_more, one_less, past, rest_kept, space_kept, within}
+use Rattle.std.proofs.Common.{◌≡◌, ◌∙◌, ◌++◌, ◌∷◌, [], append_assoc, ap, arith, length, set, subst, sym}
+use Rattle.std.proofs.lemmas.List.{length-append, length_push}
+use Rattle.sourcemap_c.specs.Segments.{Overwrites, fitting}
+use Rattle.sourcemap_c.proofs.IgnoreListsLemmas.{all_written, one_more}
 use Rattle.sourcemap_c.proofs.ignore_lists.write_ids.Goals as goal
-
-pub returns-in-None-clause-count : goal.returns-in-None-clause-count
-returns-in-None-clause-count c =
-    let most : length (ids_left c.args.left.now) ≤ c.loop-count.count = past c.loop-count.count (ids_left c.args.left.now) (sym c.loop-count.invariant.left ∙ c.in-None.ensures.steps.0) in
-    let same = c.loop-count.auto.ids in let space = c.loop-count.invariant.within in
-    all_left c.loop-count.count (length c.args.ids.now) (length (ids_left c.args.left.now)) (omega (arith, same, space)) c.loop-count.invariant.few most
 
 pub loop-count-preserved : goal.loop-count-preserved
 loop-count-preserved c =
-    let old = ids_left c.args.left.now in let ids = c.loop-count.ids in let count = c.loop-count.count in
-    let more = sym c.loop-count.invariant.left ∙ c.in-Some.ensures.steps in let later = ids_left c.next.new.self in
-    let few = within count old later _ more in
-    record {
-      within = space_kept ids count c.in-Some.id.now c.loop-count-test.true;
-      few = omega (arith, few);
-      left = one_less count old later _ more;
-      each = each_more old ids count c.in-Some.id.now c.loop-count-test.true (at_front count old later _ more) c.loop-count.invariant.each;
-      rest = rest_kept ids c.args.ids.now count c.in-Some.id.now c.loop-count.invariant.rest;
-    }
+    let l = c.loop-count in
+    let h = l.invariant in
+    let id = c.in-Some.id.now in
+    let old = c.args.ids.now in
+    let same = l.auto.ids in
+    let space = c.loop-count-test.true in (
+      h.0 ++ id ∷ [],
+      h.1 ∙ ap (λ left. h.0 ++ left) c.in-Some.ensures.steps ∙ sym (append_assoc h.0 (id ∷ []) c.next.new.self),
+      length_push h.0 id ∙ ap (λ n. n + 1) h.2,
+      ap (λ ids. set ids l.count id) h.3 ∙ one_more h.0 old l.count id h.2 (omega (arith, same, space)),
+      omega (arith, same, space),
+    )
 
-pub returns-clause-count : goal.returns-clause-count
-returns-clause-count c =
-    let same = c.loop-count.auto.ids in let space = c.loop-count.invariant.within in let full = c.loop-count-test.false in
-    all_space c.loop-count.count (length c.args.ids.now) (length (ids_left c.args.left.now)) c.loop-count.invariant.few (omega (arith, same, space)) (omega (arith, same, full))
+pub returns-in-None : goal.returns-in-None
+returns-in-None c =
+    let l = c.loop-count in
+    let h = l.invariant in
+    let all = ap length h.1 ∙ length-append h.0 l.left in
+    let none = ap length c.in-None.ensures.steps.0 in
+    let fits : fitting (h.0 ++ l.left) c.args.ids.now ≡ l.count = omega (arith, all, none, h.2, h.4) in
+    subst (λ xs. Overwrites xs l.count c.args.ids.now l.ids) (sym h.1)
+    (sym fits, h.3 ∙ all_written h.0 l.left c.args.ids.now l.count h.2 fits)
+
+pub returns : goal.returns
+returns c =
+    let l = c.loop-count in
+    let h = l.invariant in
+    let same = l.auto.ids in
+    let full = c.loop-count-test.false in
+    let all = length-append h.0 l.left in
+    let fits : fitting (h.0 ++ l.left) c.args.ids.now ≡ l.count = omega (arith, all, same, full, h.2, h.4) in
+    subst (λ xs. Overwrites xs l.count c.args.ids.now l.ids) (sym h.1)
+    (sym fits, h.3 ∙ all_written h.0 l.left c.args.ids.now l.count h.2 fits)

@@ -1,16 +1,12 @@
-use Rattle.std.proofs.Common.{◌≡◌, ◌∙◌, ap, subst, ℕ, List, Bor}
-use Rattle.std.proofs.Common.{map as list_map}
+use Rattle.std.proofs.Common.{◌≡◌, ◌∙◌, ap, subst}
 use Rattle.std.specs.List.{All}
 use Rattle.std.specs.Str.{IsUtf8}
 use Rattle.sourcemap_c_handles.specs.Handles.{held_in}
 use Rattle.sourcemap_c.specs.Changing.{FailsAs, HoldsNew, IsRewritten}
 use Rattle.sourcemap_c.specs.Kinds.{tree_in}
 use Rattle.sourcemap_c.specs.Replacing.{removal}
-use Rattle.sourcemap_c.proofs.ReplacingLemmas.{of_texts}
+use Rattle.sourcemap_c.proofs.ReplacingLemmas.{bytes_of, of_texts}
 use Rattle.sourcemap_c.proofs.replacing.rewrite.Goals as goal
-
-abbrev bytes_of : List (Bor (List ℕ)) → List (List ℕ)
-bytes_of texts = list_map (λ (text : Bor (List ℕ)). text.now) texts
 
 pub returns-in-Ok : goal.returns-in-Ok
 returns-in-Ok c =
