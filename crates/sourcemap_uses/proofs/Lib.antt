@@ -1,5 +1,4 @@
 pub mod BuildingLemmas
-pub mod CachingLemmas
 pub mod ComposingLemmas
 pub mod DataUrlsLemmas
 pub mod FindingLemmas

@@ -1,6 +1,5 @@
 pub mod Adjusting
 pub mod Building
-pub mod Caching
 pub mod Composing
 pub mod DataUrls
 pub mod ErrorAdvice
