@@ -1,4 +1,4 @@
-use Rattle.std.proofs.Common.{◌≡◌, ◌∙◌, ◌++◌, ◌∷◌, [], append_assoc, ap, arith, length, set, subst, sym}
+use Rattle.std.proofs.Common.{◌≡◌, ◌∙◌, ◌+◌, ◌++◌, ◌∷◌, [], append_assoc, ap, arith, length, set, subst, sym}
 use Rattle.std.proofs.lemmas.List.{length-append, length_push}
 use Rattle.sourcemap_c.specs.Segments.{Overwrites, fitting}
 use Rattle.sourcemap_c.proofs.IgnoreListsLemmas.{all_written, one_more}
@@ -23,7 +23,7 @@ pub returns-in-None : goal.returns-in-None
 returns-in-None c =
     let l = c.loop-count in
     let h = l.invariant in
-    let all = ap length h.1 ∙ length-append h.0 l.left in
+    let all = length-append h.0 l.left in
     let none = ap length c.in-None.ensures.steps.0 in
     let fits : fitting (h.0 ++ l.left) c.args.ids.now ≡ l.count = omega (arith, all, none, h.2, h.4) in
     subst (λ xs. Overwrites xs l.count c.args.ids.now l.ids) (sym h.1)
