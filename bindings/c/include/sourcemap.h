@@ -110,6 +110,14 @@ typedef uint32_t sm_code;
 #define SM_WRONG_KIND 33u           /* the handle is empty, or holds something that the call does not take */
 #define SM_PAST_LIMIT 34u           /* a line would pass 4294967295 */
 
+/* Why bytes are no compiled map, or are damaged. */
+#define SM_COMPILED_TRUNCATED 35u   /* fewer than 64 bytes, or fewer than the header says */
+#define SM_COMPILED_MAGIC 36u       /* the bytes do not begin as a compiled map does */
+#define SM_COMPILED_VERSION 37u     /* a version that this library does not read */
+#define SM_COMPILED_EXTENT 38u      /* more bytes than the header says, or tables that pass the end */
+#define SM_COMPILED_TEXT 39u        /* a text passes the end of the bytes */
+#define SM_COMPILED_ORDER 40u       /* the tokens are not sorted */
+
 /* What a handle holds, as sm_kind() returns it. */
 #define SM_KIND_EMPTY 0u
 #define SM_KIND_REGULAR 1u
@@ -865,6 +873,56 @@ sm_code sm_split_item(sm_split *split, size_t item, sm_text *name, sm_text *text
 ** Returns SM_OK; SM_ABSENT if there is no such item; SM_INVALID_BUNDLE_ENTRY if its
 ** module is invalid, whatever the reason; SM_WRONG_KIND if `split` holds no split. */
 sm_code sm_split_map(sm_split *split, size_t item, sm_map *map, sm_error *error);
+
+/*
+** COMPILED MAPS
+**
+** A compiled map is a file of bytes that sm_compile() makes of a map. The other calls
+** look into such bytes where they lie, for example in mapped memory. They take no
+** handle, allocate nothing, keep nothing, and write nothing but their results. So any
+** number of threads and processes may make them at once with the same bytes, as long as
+** nobody changes the bytes. A text that they write points into the bytes.
+**
+** Each of these calls first checks the header, which takes the same time for any file.
+** If the bytes are no compiled map, it returns one of SM_COMPILED_TRUNCATED,
+** SM_COMPILED_MAGIC, SM_COMPILED_VERSION and SM_COMPILED_EXTENT, and writes nothing.
+** Bytes of any origin are safe: no call reads outside of them. But if the tokens in them
+** are not sorted, a lookup may find another token than the closest one. What sm_compile()
+** made is sorted, and its texts are UTF-8. sm_compiled_verify() says whether other bytes
+** are.
+*/
+
+/* Fills `bytes` with the compiled map, which sm_bytes_text() reads. It has the tokens, the
+** resolved sources, the names, the file, the debug id, and the contents if
+** `with_contents` is true; of a Hermes map also the function of each token. Equal maps
+** give equal bytes. An index map is compiled as sm_flatten() flattens it. Returns SM_OK;
+** SM_CANNOT_FLATTEN if sm_flatten() would return it; SM_INCOMPATIBLE if the bytes would
+** be 2^32 or more, or the tokens; SM_WRONG_KIND if `map` holds no map. */
+sm_code sm_compile(sm_map *map, bool with_contents, sm_bytes *bytes, sm_error *error);
+
+/* Checks the header alone. Returns SM_OK, or why the bytes are no compiled map. */
+sm_code sm_compiled_check(const uint8_t *bytes, size_t length);
+
+/* Checks all bytes, in a time that grows with them. Returns SM_OK; SM_COMPILED_ORDER if
+** the tokens are not sorted; otherwise SM_COMPILED_TEXT or SM_UTF8, for the first text
+** that passes the end of the bytes or is not UTF-8. */
+sm_code sm_compiled_verify(const uint8_t *bytes, size_t length);
+
+/* Writes the closest token, as sm_lookup() does. Returns SM_OK, or SM_ABSENT if there is
+** none; then `found` is as it was. */
+sm_code sm_compiled_lookup(const uint8_t *bytes, size_t length, uint32_t line, uint32_t column, sm_found *found);
+
+/* Answers each position in turn, as sm_lookup_many() does. Returns how many it answered:
+** 0 if the bytes are no compiled map. */
+size_t sm_compiled_lookup_many(const uint8_t *bytes, size_t length, const sm_position *positions, size_t count,
+                               sm_found *found, size_t found_length);
+
+/* The source, name or contents of an id. SM_ABSENT if there is none. SM_COMPILED_TEXT or
+** SM_UTF8 if the text passes the end of the bytes or is not UTF-8. Then `text` is as it
+** was. */
+sm_code sm_compiled_source(const uint8_t *bytes, size_t length, uint32_t source, sm_text *text);
+sm_code sm_compiled_name(const uint8_t *bytes, size_t length, uint32_t name, sm_text *text);
+sm_code sm_compiled_contents(const uint8_t *bytes, size_t length, uint32_t source, sm_text *text);
 
 #ifdef __cplusplus
 }

@@ -34,6 +34,7 @@ int main(int count, char **words)
     test_debug_id_texts();
     test_bundles();
     test_wrong_kinds();
+    test_compiled();
     test_threads(false);
     test_threads(true);
     return report();

@@ -17,6 +17,7 @@ void test_segments(void);
 void test_debug_id_texts(void);
 void test_bundles(void);
 void test_wrong_kinds(void);
+void test_compiled(void);
 /* With `keeps_map` the first handle is closed after all threads have ended, so no thread ever has the only handle on
 ** the map. A race detector that does not see the order that reference counts make then has nothing to report. */
 void test_threads(bool keeps_map);

@@ -62,10 +62,14 @@ abbrev pub ReturnsCompiled : List ℕ → ℕ × ℕ → (code : ℕ) → (old n
 ReturnsCompiled bytes p code old new =
     IsAbsentUnlessOk code old new × (IsInOrder bytes → ReturnsValue (Some (compiled_found_at bytes p)) code old new)
 
+-- the answer to a position; the field `found` is false if there is no closest token
+abbrev pub compiled_answer : List ℕ → Position → Found
+compiled_answer bytes p = compiled_found (lookup bytes (p.line, p.column))
+
 -- the first `n` items of `found` are the answers to the first `n` positions
 abbrev pub AreAnsweredBy : List ℕ → List Position → List Found → ℕ → Type 0
-AreAnsweredBy bytes positions found n = (i : ℕ) → i < n
-    → slice_get found i ≡ option_map (λ p. compiled_found (lookup bytes (p.line, p.column))) (slice_get positions i)
+AreAnsweredBy bytes positions found n =
+    (i : ℕ) → i < n → slice_get found i ≡ option_map (compiled_answer bytes) (slice_get positions i)
 
 -- The code and the text of a call that borrows a text. The code is `SM_ABSENT` if there is none. The call writes the
 -- text only if it returns `SM_OK`

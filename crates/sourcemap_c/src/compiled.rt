@@ -3,11 +3,11 @@
 //! with the same bytes.
 ghost use Rattle.std.specs.Prelude.{◌≡◌, ◌≤◌, ℕ, IfNone, IfSome, None, Some, cond, is_some, length, min, option_map, slice_get};
 ghost use Rattle.sourcemap_compiled.specs.Layout.{refusal};
-ghost use Rattle.sourcemap_compiled.specs.Lookup.{IsInOrder, lookup};
+ghost use Rattle.sourcemap_compiled.specs.Lookup.{IsInOrder};
 ghost use Rattle.sourcemap_compiled.specs.Stored.{bytes_of, token_value};
 ghost use Rattle.sourcemap_compiled.specs.Texts.{ReadsText, compiled_contents, compiled_name, compiled_source};
 ghost use Rattle.sourcemap_c.specs.Codes.{IsAbsentUnlessOk, ReturnsValue};
-ghost use Rattle.sourcemap_c.specs.Compiled.{AreAnsweredBy, OnCompiled, ReturnsCompiled, ReturnsText, ReturnsVerdict, check_code, compiled_code, compiled_found};
+ghost use Rattle.sourcemap_c.specs.Compiled.{AreAnsweredBy, OnCompiled, ReturnsCompiled, ReturnsText, ReturnsVerdict, check_code, compiled_answer, compiled_code, compiled_found};
 
 use crate::codes::{ABSENT, OK};
 use sourcemap_c_handles::layout::{Found, MapToken, Position};
@@ -58,13 +58,13 @@ pub extern "C" fn sm_compiled_verify(bytes: &[u8]) -> u32
     ensures refused { IfSome (refusal bytes.now) (λ e. result ≡ compiled_code e) }
 {
     match CompiledMap::parse(bytes) {
-        Ok(map) => verdict(map),
+        Ok(map) => verdict(&map),
         Err(error) => code_of(error),
     }
 }
 
-fn verdict(map: CompiledMap<'_>) -> u32
-    ensures { ReturnsVerdict (bytes_of map) result }
+fn verdict(map: &CompiledMap<'_>) -> u32
+    ensures { ReturnsVerdict (bytes_of map.now) result }
 {
     match map.verify() {
         Ok(()) => OK,
@@ -74,12 +74,7 @@ fn verdict(map: CompiledMap<'_>) -> u32
 
 /// Looks up a generated position, and writes its closest token to `found`.
 #[unsafe(no_mangle)]
-pub extern "C" fn sm_compiled_lookup(
-    bytes: &[u8],
-    line: u32,
-    column: u32,
-    found: &mut Found,
-) -> u32
+pub extern "C" fn sm_compiled_lookup(bytes: &[u8], line: u32, column: u32, found: &mut Found) -> u32
     ensures { OnCompiled (refusal bytes.now)
         (ReturnsCompiled bytes.now (line, column) result found.old found.new) result found.old found.new }
 {
@@ -129,15 +124,15 @@ pub extern "C" fn sm_compiled_lookup_many(
     ensures rest { (i : ℕ) → result ≤ i → slice_get found.new i ≡ slice_get found.old i }
 {
     match CompiledMap::parse(bytes) {
-        Ok(map) => look_up_each(map, positions, found),
+        Ok(map) => look_up_each(&map, positions, found),
         Err(_) => 0,
     }
 }
 
-fn look_up_each(map: CompiledMap<'_>, positions: &[Position], found: &mut [Found]) -> usize
+fn look_up_each(map: &CompiledMap<'_>, positions: &[Position], found: &mut [Found]) -> usize
     ensures count { result ≡ min (length positions.now) (length found.old) }
-    ensures each { IsInOrder (bytes_of map)
-        → AreAnsweredBy (bytes_of map) positions.now found.new result }
+    ensures each { IsInOrder (bytes_of map.now)
+        → AreAnsweredBy (bytes_of map.now) positions.now found.new result }
     ensures rest { (i : ℕ) → result ≤ i → slice_get found.new i ≡ slice_get found.old i }
 {
     let count = positions.len().min(found.len());
@@ -147,9 +142,8 @@ fn look_up_each(map: CompiledMap<'_>, positions: &[Position], found: &mut [Found
     count
 }
 
-fn answer(map: CompiledMap<'_>, position: Position) -> Found
-    ensures { IsInOrder (bytes_of map)
-        → result ≡ compiled_found (lookup (bytes_of map) (position.line, position.column)) }
+fn answer(map: &CompiledMap<'_>, position: Position) -> Found
+    ensures { IsInOrder (bytes_of map.now) → result ≡ compiled_answer (bytes_of map.now) position }
 {
     match map.lookup_token(position.line, position.column) {
         Some(token) => found_of(token),

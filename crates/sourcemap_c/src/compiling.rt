@@ -29,13 +29,21 @@ pub extern "C" fn sm_compile(
         (tree_in (held_in map.old) ≡ None)) (held_in bytes.new ≡ held_in bytes.old) }
     ensures kept { held_in map.new ≡ held_in map.old }
 {
-    finish(alloc, compile_to(alloc, map, choice_of(with_contents), bytes), error)
+    finish(
+        alloc,
+        compile_to(alloc, map, choice_of(with_contents), bytes),
+        error,
+    )
 }
 
 fn choice_of(with_contents: bool) -> WithContents
     ensures { result ≡ choice_of with_contents }
 {
-    if with_contents { WithContents::Yes } else { WithContents::No }
+    if with_contents {
+        WithContents::Yes
+    } else {
+        WithContents::No
+    }
 }
 
 fn compile_to(

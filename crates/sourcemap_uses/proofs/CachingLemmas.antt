@@ -1,17 +1,20 @@
 -- What is read of a compiled map is what the map means.
-use Rattle.std.proofs.Common.{◌≡◌, refl, sym, ap, subst, ◌∙◌, ℕ, List, Option, Some, None, option_map, Result, Ok, Err, IsOkAnd}
+use Rattle.std.proofs.Common.{◌≡◌, refl, sym, ap, subst, ◌∙◌, ℕ, List, Option, Some, None, option_map, Result, Ok, Err, IsOk}
 use Rattle.std.specs.Option.{option_copied}
 use denote.Ref.{Bor}
 use Rattle.sourcemap.specs.Flat.{flat}
 use Rattle.sourcemap.specs.Trees.{MapTree}
 use Rattle.sourcemap.specs.Types.{MapValue, Meaning, meaning}
 use Rattle.sourcemap_cache.specs.CompiledTexts.{ReadsText}
-use Rattle.sourcemap_cache.specs.Lookup.{CompiledMeaning, IsInOrder, compiled_meaning}
-use Rattle.sourcemap_cache.specs.Meaning.{MeansTheSame, SaysTexts, compiled, without_scope}
-use Rattle.sourcemap_cache.specs.Soundness.{IsReadable, IsSound}
+use Rattle.sourcemap_cache.specs.Blocks.{compiled_tokens}
+use Rattle.sourcemap_cache.specs.Lookup.{CompiledMeaning, CompiledTokenValue, IsInOrder, compiled_meaning, lookup}
+use Rattle.sourcemap_cache.specs.Meaning.{MeansTheSame, compiled, without_scope}
+use Rattle.sourcemap_cache.specs.Soundness.{IsSound}
+use Rattle.sourcemap_cache.specs.Tokens.{closest_token}
 use Rattle.sourcemap_cache.specs.declared.CompiledMapError.{CompiledMapError}
-use Rattle.sourcemap_cache.specs.declared.CompiledMapError.TheVariants.{InvalidUtf8}
-use Rattle.sourcemap_uses.specs.Caching.{IsOriginOf, origin_value}
+use Rattle.sourcemap.specs.Types.{distance}
+use Rattle.sourcemap.specs.declared.types.RawToken.{RawToken}
+use Rattle.sourcemap_uses.specs.Caching.{IsLineOf, IsOriginOf, origin_value}
 use Rattle.sourcemap_uses.specs.declared.caching.Origin.{Origin}
 
 -- the text that is read is the text that the file has
@@ -20,11 +23,20 @@ pub read_is : (in_file : Result (Option (List ℕ)) CompiledMapError) (text : Op
 read_is in_file text None same reads = let is : Ok text ≡ Ok None = sym same ∙ reads in cc
 read_is in_file text (Some found) same reads = let is : Ok text ≡ Ok (Some found.now) = sym same ∙ reads.0 in cc
 
--- a text that is UTF-8 is read without error
-pub reads_well : (in_file : Result (Option (List ℕ)) CompiledMapError) (text : Option (List ℕ)) (e : CompiledMapError)
-    → in_file ≡ Ok text → IsReadable in_file → ReadsText in_file (Err e) → ⊥
-reads_well in_file text InvalidUtf8 same readable (found, is, invalid) = invalid (subst IsReadable is readable)
-reads_well in_file text e same readable reads = let never : Ok text ≡ Err e = sym same ∙ reads in absurd cc
+-- a call that is promised to succeed has no error
+pub never_fails : {X E : Type 0} (e : E) → IsOk {X} {E} (Err e) → ⊥
+never_fails e ok = let never = ok in cc
+
+-- meanings with equal fields are equal
+pub same_says : (a b : Meaning) → a.source ≡ b.source → a.line ≡ b.line → a.column ≡ b.column → a.name ≡ b.name
+    → a.is_range ≡ b.is_range → a ≡ b
+same_says a b source line column name is_range = λ i. record {
+  source = source i;
+  line = line i;
+  column = column i;
+  name = name i;
+  is_range = is_range i;
+}
 
 no_meaning : (o : Option Meaning) → None ≡ option_map (compiled None) o → o ≡ None
 no_meaning None e = refl
@@ -34,6 +46,20 @@ one_meaning : (o : Option Meaning) (said : CompiledMeaning) → Some (without_sc
     → (says : Meaning) × (o ≡ Some says) × (without_scope said ≡ compiled None says)
 one_meaning None said e = cc
 one_meaning (Some says) said e = (says, refl, cc)
+
+found_bytes : (bytes : List ℕ) (p : ℕ × ℕ) (token : CompiledTokenValue) → Some token ≡ lookup bytes p
+    → token.bytes ≡ bytes
+found_bytes bytes p token e = by_case (closest_token (compiled_tokens bytes) p) e
+  where
+    by_case : (o : Option (ℕ × RawToken))
+        → Some token ≡ option_map
+        (λ found. record { bytes = bytes; raw = found.1; index = found.0; extra_columns = distance found.1 p }) o
+        → token.bytes ≡ bytes
+    by_case None e = cc
+    by_case (Some found) e =
+        let same : token ≡ record { bytes = bytes; raw = found.1; index = found.0; extra_columns = distance found.1 p } =
+        cc in
+        ap (λ (v : CompiledTokenValue). v.bytes) same
 
 module _ (t : MapTree) (bytes read : List ℕ) (p : ℕ × ℕ) (same : read ≡ bytes) (means : MeansTheSame t bytes)
     (sound : IsSound bytes) (said : Option CompiledMeaning) (looked : IsInOrder read → said ≡ compiled_meaning read p) where
@@ -52,6 +78,26 @@ module _ (t : MapTree) (bytes read : List ℕ) (p : ℕ × ℕ) (same : read ≡
   one_origin one some =
       one_meaning (meaning means.0 p) one (ap (option_map without_scope) (sym some) ∙ said_of_map)
 
-  pub texts_said : (one : CompiledMeaning) → said ≡ Some one
-      → ((x : CompiledMeaning) → compiled_meaning bytes p ≡ Some x → SaysTexts x) → SaysTexts one
-  texts_said one some texts = texts one (sym said_in_file ∙ some)
+  -- the token that was found is one of the file
+  pub of_file : (token : CompiledTokenValue) → (IsInOrder read → Some token ≡ lookup read p) → IsSound token.bytes
+  of_file token found =
+      let order = subst IsInOrder (sym same) sound.order in
+      subst IsSound (sym (found_bytes read p token (found order) ∙ same)) sound
+
+-- bytes that are accepted are not refused
+pub no_error : {E : Type 0} {refusal : Option E} (e : E) → refusal ≡ None → refusal ≡ Some e → ⊥
+no_error e accepted refused = let never : None ≡ Some e = sym accepted ∙ refused in absurd cc
+
+pub origin_found : (t : MapTree) (p : ℕ × ℕ) {bytes : List ℕ} (means : MeansTheSame t bytes) (says : Meaning)
+    → meaning means.0 p ≡ Some says → (origin : Origin) → origin_value origin ≡ says → IsOriginOf t p (Some origin)
+origin_found t p means says at origin is = (means.0, means.1, ap Some is ∙ sym at)
+
+pub line_found : (t : MapTree) (p : ℕ × ℕ) (origin : Option Origin) (line : Option ℕ) → IsOriginOf t p origin
+    → line ≡ option_map (λ o. o.line) origin → IsLineOf t p line
+line_found t p origin line (m, flattened, is) e =
+    (m, flattened, e ∙ lines origin ∙ ap (option_map (λ says. says.line)) is)
+  where
+    lines : (o : Option Origin)
+        → option_map (λ (x : Origin). x.line) o ≡ option_map (λ (s : Meaning). s.line) (option_map origin_value o)
+    lines None = refl
+    lines (Some x) = refl

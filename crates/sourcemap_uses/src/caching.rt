@@ -1,17 +1,16 @@
 //! Compiles a map, and answers from the bytes of the compiled map.
-ghost use Rattle.std.specs.Prelude.{◌≡◌, None, IfOk, IsOkAnd};
+ghost use Rattle.std.specs.Prelude.{◌≡◌, None, IfOk, IsOkAnd, option_map};
 ghost use Rattle.sourcemap.specs.AnyMap.{map_tree};
 ghost use Rattle.sourcemap.specs.Trees.{MapTree};
 ghost use Rattle.sourcemap.specs.Types.{Meaning};
 ghost use Rattle.sourcemap_cache.specs.Compile.{IsCompiled};
-ghost use Rattle.sourcemap_cache.specs.Stored.{meaning_of_token};
-ghost use Rattle.sourcemap_cache.specs.Meaning.{SaysTexts, compiled, without_scope};
+ghost use Rattle.sourcemap_cache.specs.Meaning.{compiled, without_scope};
+ghost use Rattle.sourcemap_cache.specs.Soundness.{IsSound};
+ghost use Rattle.sourcemap_cache.specs.Stored.{meaning_of_token, token_value};
 ghost use Rattle.sourcemap_uses.specs.Caching.{IsLineOf, IsOriginOf, origin_value};
 
 use sourcemap::DecodedMap;
-use sourcemap_cache::laws::{
-    compiled_maps_are_read, compiled_maps_mean_the_same, compiled_texts_are_utf8,
-};
+use sourcemap_cache::laws::{compiled_maps_are_read, compiled_maps_mean_the_same};
 use sourcemap_cache::{
     CompileError, CompiledMap, CompiledMapError, CompiledToken, WithContents, compile,
 };
@@ -36,7 +35,6 @@ pub fn origin_in(bytes: &[u8], line: u32, col: u32) -> Result<Option<Origin<'_>>
 {
     compiled_maps_are_read();
     compiled_maps_mean_the_same();
-    compiled_texts_are_utf8();
     let map = CompiledMap::parse(bytes)?;
     let Some(token) = map.lookup_token(line, col) else {
         return Ok(None);
@@ -47,7 +45,7 @@ pub fn origin_in(bytes: &[u8], line: u32, col: u32) -> Result<Option<Origin<'_>>
 
 fn origin_of<'a>(token: CompiledToken<'a>) -> Result<Origin<'a>, CompiledMapError>
     ensures { (says : Meaning) → without_scope (meaning_of_token token.entry) ≡ compiled None says
-        → SaysTexts (meaning_of_token token.entry)
+        → IsSound (token_value token.entry).bytes
         → IsOkAnd result (λ origin. origin_value origin ≡ says) }
 {
     let source = token.get_source()?;
@@ -59,6 +57,15 @@ fn origin_of<'a>(token: CompiledToken<'a>) -> Result<Origin<'a>, CompiledMapErro
         name,
         is_range: token.is_range(),
     })
+}
+
+fn line_of(origin: Option<Origin<'_>>) -> Option<u32>
+    ensures { result ≡ option_map (λ o. o.line) origin.entry }
+{
+    match origin {
+        Some(origin) => Some(origin.line),
+        None => None,
+    }
 }
 
 /// Compiles a map, and returns the original line that the compiled map has for a generated
@@ -74,7 +81,8 @@ pub fn line_by_compiling(
 {
     let bytes = compile(alloc, map, WithContents::No)?;
     match origin_in(bytes.as_slice(), line, col) {
-        Ok(Some(origin)) => Ok(Some(origin.line)),
-        _ => Ok(None),
+        Ok(origin) => Ok(line_of(origin)),
+        // `bytes` are a compiled map, so this is never reached
+        Err(_) => Ok(None),
     }
 }
