@@ -1,11 +1,6 @@
 -- What follows from the answer of `compile`.
 use Rattle.std.proofs.Common.{◌≡◌, refl, sym, ap, subst, ◌∙◌, ℕ, zero, suc, List, [], Some, None, Option, option_map, IfOk, IfSome}
-use Rattle.std.proofs.Common.{Result, Ok, Err, Vec, Global, Bool, true, false, ◌-◌, ◌==◌}
-use Rattle.std.specs.Prelude.{slice_index}
-use Rattle.std.specs.Str.{IsUtf8}
-use Rattle.sourcemap_tokens.specs.Items.{item_at}
-use Rattle.sourcemap_cache.specs.Texts.{AreTexts}
-use Rattle.sourcemap_errors.specs.declared.errors.Error.{Error}
+use Rattle.std.proofs.Common.{Result, Ok, Err, Vec, Global}
 use Rattle.sourcemap_errors.specs.declared.errors.Error.TheVariants.{OutOfMemory}
 use Rattle.sourcemap_compiled.specs.Layout.{IsAccepted}
 use Rattle.sourcemap_compiled.specs.Lookup.{compiled_meaning}
@@ -22,13 +17,13 @@ use Rattle.sourcemap_map_regular.specs.Map.{MapValue, Meaning, meaning}
 use Rattle.sourcemap_tokens.specs.Tokens.{closest_token}
 use Rattle.sourcemap_tokens.specs.declared.tokens.RawToken.{RawToken}
 use Rattle.sourcemap_cache.specs.Compile.{ArePartsOf, CompileAnswer, FileAnswer, IsCompiled, IsFileOf, bytes_in, parts_with, regular_parts}
-use Rattle.sourcemap_cache.specs.Meaning.{AnswersLike, HasScopesInOrder, MeansLike, MeansTheSame, SaysTexts, closest_scope, compiled, without_scope}
+use Rattle.sourcemap_cache.specs.Meaning.{AnswersLike, HasScopesInOrder, MeansLike, MeansTheSame, closest_scope, compiled, without_scope}
 use Rattle.sourcemap_hermes.specs.Map.{HermesValue}
 use Rattle.sourcemap_cache.specs.Scopes.{AreScopesInOrder, scope_names, scope_numbers}
 use Rattle.sourcemap_cache.specs.declared.errors.CompileError.{CompileError}
 use Rattle.sourcemap_cache.specs.declared.errors.CompileError.TheVariants.{Map, TooLarge}
 use Rattle.sourcemap_cache.specs.declared.parts.WithContents.{WithContents}
-use Rattle.sourcemap_cache.proofs.SoundLemmas.{readable, sound_file, text_item}
+use Rattle.sourcemap_cache.proofs.SoundLemmas.{sound_file}
 use Rattle.sourcemap_cache.proofs.MeaningLemmas.{hermes_mean, parts_mean, parts_say, said}
 
 -- the file means what equal parts mean
@@ -64,10 +59,14 @@ pub same_meaning : (choice : WithContents) (t : MapTree) (bytes : List ℕ) → 
     → MeansTheSame t bytes
 same_meaning choice (leaf (regular m)) bytes (p, is, file) =
     (m, refl, plain_file choice (leaf (regular m)) m p bytes (λ at. refl) is file)
-same_meaning choice (leaf (hermes h)) bytes (p, (scopes, names, is, sorted), file) = (h.map, refl, record {
-  meaning = λ at. ap (option_map without_scope) (read_parts p _ bytes at is file) ∙ parts_mean choice h.map scopes names at;
-  scope = λ order at. read_parts p _ bytes at (sorted order) file ∙ hermes_mean choice h at;
-})
+same_meaning choice (leaf (hermes h)) bytes (p, (scopes, names, is, sorted), file) = (
+  h.map,
+  refl,
+  record {
+    meaning = λ at. ap (option_map without_scope) (read_parts p _ bytes at is file) ∙ parts_mean choice h.map scopes names at;
+    scope = λ order at. read_parts p _ bytes at (sorted order) file ∙ hermes_mean choice h at;
+  },
+)
 same_meaning choice (index parts ss) bytes (p, (m, flattened, is), file) =
     (m, flattened, plain_file choice (index parts ss) m p bytes (λ at. refl) is file)
 
@@ -106,29 +105,6 @@ one_file choice t a b order of_a of_b =
 pub accepted : (choice : WithContents) (t : MapTree) (bytes : List ℕ) → IsCompiled choice t bytes → IsAccepted bytes
 accepted choice t bytes (p, is, file) = subst IsAccepted (sym file.file) (file_accepted p file.writable)
 
--- Texts.
-
-text_scope : (p : Parts) (i : ℕ) → AreTexts p.scope_names → IfSome (scope_in p i) IsUtf8
-text_scope p i all = by_case (slice_index p.scopes i == 0) refl
-  where
-    by_case : (b : Bool) → (slice_index p.scopes i == 0) ≡ b → IfSome (scope_in p i) IsUtf8
-    by_case true e = rw e tt
-    by_case false e = rw e (text_item p.scope_names (slice_index p.scopes i - 1) all)
-
-pub said_texts : (choice : WithContents) (t : MapTree) (bytes : List ℕ) (at : ℕ × ℕ) → IsCompiled choice t bytes
-    → IfSome (compiled_meaning bytes at) SaysTexts
-said_texts choice t bytes at (p, is, file) =
-    subst (λ says. IfSome says SaysTexts) (sym (read_parts p p bytes at refl file))
-    (by_case (closest_token p.tokens at) refl)
-  where
-    by_case : (o : Option (ℕ × RawToken)) → closest_token p.tokens at ≡ o → IfSome (parts_meaning p at) SaysTexts
-    by_case None e = rw e tt
-    by_case (Some found) e = rw e (record {
-      source = readable (item_at p.sources found.1.src_id) (text_item p.sources found.1.src_id file.sound.sources);
-      name = readable (item_at p.names found.1.name_id) (text_item p.names found.1.name_id file.sound.names);
-      scope = readable (scope_in p found.0) (text_scope p found.0 file.sound.scope_names);
-    })
-
 -- Sound files.
 
 pub sound : (choice : WithContents) (t : MapTree) (bytes : List ℕ) → IsCompiled choice t bytes → IsSound bytes
@@ -149,9 +125,13 @@ pub hermes_answer : (choice : WithContents) (h : HermesValue) (m : MapValue) (nu
     → FileAnswer (parts_with choice m numbers names) answer → CompileAnswer choice (leaf (hermes h)) answer
 hermes_answer choice h m numbers names answer same scopes file =
     let plain = ap (λ n. parts_with choice n numbers names) same in
-    answer_of choice (leaf (hermes h)) (parts_with choice m numbers names) answer
-    (numbers, names, plain, λ order. plain ∙ ap (λ ns. parts_with choice h.map ns names) (scopes order).0
-    ∙ ap (parts_with choice h.map (scope_numbers h)) (scopes order).1) file
+    answer_of choice (leaf (hermes h)) (parts_with choice m numbers names) answer (
+      numbers,
+      names,
+      plain,
+      λ order. plain ∙ ap (λ ns. parts_with choice h.map ns names) (scopes order).0
+          ∙ ap (parts_with choice h.map (scope_numbers h)) (scopes order).1,
+    ) file
 
 -- `u` is the tree of the map, in other words than `t`
 module _ (choice : WithContents) (t u : MapTree) (result : Result (Vec ℕ Global) CompileError) (same : u ≡ t)

@@ -1,25 +1,23 @@
 -- The parts that a map is compiled to mean what the map means.
 use Rattle.std.proofs.Common.{◌≡◌, refl, sym, ap, subst, ◌∙◌, ℕ, zero, suc, ◌+◌, ◌-◌, List, [], ◌∷◌, drop, fold, map}
 use Rattle.std.proofs.Common.{◌==◌, if◌then◌else◌, false, unwrap_or, zero-add}
-use Rattle.std.proofs.Common.{get_or, slice_get, Some, None, Option, option_map, option_and_then, IfSome, Ok, arith}
+use Rattle.std.proofs.Common.{get_or, slice_get, Some, None, Option, option_map, option_and_then, IfSome, arith}
 use Rattle.std.specs.List.{enumerate_from}
 use Rattle.std.proofs.lemmas.Bool.Decides.{nat_tests}
 use Rattle.std.proofs.lemmas.Option.{get_or_from_slice_get, slice_get-map}
-use Rattle.sourcemap_compiled.specs.Lookup.{CompiledMeaning, compiled_meaning}
-use Rattle.sourcemap_compiled_write.specs.File.{AreWritable, file_bytes}
+use Rattle.sourcemap_compiled.specs.Lookup.{CompiledMeaning}
 use Rattle.sourcemap_compiled_write.specs.Meaning.{parts_meaning, scope_in}
-use Rattle.sourcemap_compiled_write.specs.Parts.{Parts}
 use Rattle.sourcemap_compose.specs.Moved.{distance}
 use Rattle.sourcemap_hermes.specs.Map.{HermesValue, token_scope}
 use Rattle.sourcemap_interning.specs.Interner.{id_of, with_text}
 use Rattle.sourcemap_interning.proofs.InternerLemmas.{slice_get-id_of}
 use Rattle.sourcemap_map_regular.specs.Map.{MapValue, TokenValue, meaning, meaning_of, resolved_sources}
 use Rattle.sourcemap_map_regular.specs.Token.{tokens_from}
-use Rattle.sourcemap_map_rewrite.specs.Kept.{kept_once, present}
+use Rattle.sourcemap_map_rewrite.specs.Kept.{present}
 use Rattle.sourcemap_tokens.specs.Items.{item_at}
 use Rattle.sourcemap_tokens.specs.Tokens.{closest_token, destination, position_cmp}
 use Rattle.sourcemap_tokens.specs.declared.tokens.RawToken.{RawToken}
-use Rattle.sourcemap_tokens.proofs.SearchLemmas.{cases_Option, index-closest}
+use Rattle.sourcemap_tokens.proofs.SearchLemmas.{index-closest}
 use Rattle.sourcemap_index_model.specs.MapTree.{hermes, leaf}
 use Rattle.sourcemap_cache.specs.Compile.{hermes_parts, parts_with}
 use Rattle.sourcemap_cache.specs.Meaning.{closest_scope, compiled, without_scope}

@@ -1,8 +1,7 @@
 -- The file that is written is that of the parts of the map.
-use Rattle.std.proofs.Common.{◌≡◌, refl, ap, subst, ◌∙◌, ℕ, List, Option}
+use Rattle.std.proofs.Common.{◌≡◌, ap, subst, ◌∙◌, ℕ, List}
 use Rattle.sourcemap_compiled_write.specs.File.{AreWritable, file_bytes}
 use Rattle.sourcemap_compiled_write.specs.Parts.{Parts}
-use Rattle.sourcemap_tokens.specs.declared.tokens.RawToken.{RawToken}
 use Rattle.sourcemap_cache.specs.Compile.{AreSound, IsFileOf}
 
 -- parts with equal fields are equal

@@ -1,7 +1,6 @@
 -- What a position means in a compiled map, compared with the map that was compiled.
 use Rattle.std.specs.Prelude.{◌≡◌, ℕ, List, Option, Some, None, option_map, option_and_then, IfSome, Ok}
 use Rattle.sourcemap_compiled.specs.Lookup.{CompiledMeaning, compiled_meaning}
-use Rattle.sourcemap_compiled.specs.Soundness.{IsReadable}
 use Rattle.sourcemap_hermes.specs.Map.{token_scope}
 use Rattle.sourcemap_index_model.specs.Flat.{flat}
 use Rattle.sourcemap_index_model.specs.MapTree.{hermes, leaf, MapTree}
@@ -51,9 +50,3 @@ MeansTheSame t bytes = (m : MapValue) × (flat t ≡ Ok m) × MeansLike t m byte
 abbrev pub AnswersLike : MapTree → List ℕ → Type 0
 AnswersLike t bytes = (p : ℕ × ℕ)
     → IfSome (meaning t p) (λ says. option_map without_scope (compiled_meaning bytes p) ≡ Some (compiled None says))
-
--- the texts of a meaning are UTF-8, so the getters of its token return no error
-pub record SaysTexts (says : CompiledMeaning) : Type 0 where
-  pub source : IsReadable says.source
-  pub name : IsReadable says.name
-  pub scope : IsReadable says.scope

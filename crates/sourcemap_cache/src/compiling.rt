@@ -67,5 +67,11 @@ fn compile_hermes(
         return Err(CompileError::TooLarge);
     }
     let scopes = scopes_of(alloc, map)?;
-    file_with(alloc, map, contents, &scopes.numbers, scopes.names.as_slice())
+    file_with(
+        alloc,
+        map,
+        contents,
+        &scopes.numbers,
+        scopes.names.as_slice(),
+    )
 }

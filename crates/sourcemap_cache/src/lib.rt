@@ -1,4 +1,5 @@
-//! Compiled maps: compiles maps of any kind, and looks positions up in the compiled bytes.
+//! Compiled maps: compiles maps of any kind, and re-exports the reader of what is compiled; knows
+//! nothing of C and of command lines.
 #![tactic(auto)]
 
 pub mod compiling;

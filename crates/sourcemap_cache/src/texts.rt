@@ -34,10 +34,7 @@ pub(crate) fn texts_of<T: Text>(alloc: Global, list: &[T]) -> Result<Vec<Option<
 }
 
 /// Borrows the contents of sources. The only error is `OutOfMemory`.
-pub(crate) fn contents_of(
-    alloc: Global,
-    views: &[Option<SourceView>],
-) -> Result<Vec<Option<&str>>>
+pub(crate) fn contents_of(alloc: Global, views: &[Option<SourceView>]) -> Result<Vec<Option<&str>>>
     ensures same { IfOk result (λ texts. map option_copied texts.items ≡ views.now) }
     ensures utf8 { IfOk result (λ _. AreTexts views.now) }
     ensures memory { IsOkUnless result OutOfMemory }

@@ -13,8 +13,7 @@ const REGULAR: &str = concat!(
 );
 
 // A range token at column 0, and no other.
-const RANGE: &str =
-    r#"{"version":3,"sources":["a.js"],"mappings":"AAAO","rangeMappings":"B"}"#;
+const RANGE: &str = r#"{"version":3,"sources":["a.js"],"mappings":"AAAO","rangeMappings":"B"}"#;
 
 // Tokens at columns 0 and 5, in the functions `<global>` and `foo`.
 const HERMES: &str = concat!(
@@ -32,8 +31,7 @@ const INDEX: &str = concat!(
 const EMPTY: &str = r#"{"version":3,"sources":[],"mappings":""}"#;
 
 // The second section has no map.
-const UNRESOLVED: &str =
-    r#"{"sections":[{"offset":{"line":1,"column":4},"url":"u"}]}"#;
+const UNRESOLVED: &str = r#"{"sections":[{"offset":{"line":1,"column":4},"url":"u"}]}"#;
 
 // A map, a generated position, and what the file answers: source, line and column, name, scope.
 static ANSWERS: [(&str, u32, u32, &str); 16] = [
@@ -128,8 +126,16 @@ fn contents(alloc: Global, text: &str, id: u32, choice: WithContents) -> Result<
 #[test]
 fn contents_of_sources(rt: HostRuntime) -> Checked {
     for (text, id, with, without) in CONTENTS.iter() {
-        check(text, contents(rt.alloc(), text, *id, WithContents::Yes), with)?;
-        check(text, contents(rt.alloc(), text, *id, WithContents::No), without)?;
+        check(
+            text,
+            contents(rt.alloc(), text, *id, WithContents::Yes),
+            with,
+        )?;
+        check(
+            text,
+            contents(rt.alloc(), text, *id, WithContents::No),
+            without,
+        )?;
     }
     Ok(())
 }

@@ -1,5 +1,5 @@
 -- Too many tokens for any scopes, or the file with the scopes that were found.
-use Rattle.std.proofs.Common.{◌≡◌, ◌^◌, ◌≤◌, ◌∙◌, ap, arith, inl, length, refl}
+use Rattle.std.proofs.Common.{◌^◌, ◌≤◌, ◌∙◌, ap, arith, inl, length, refl}
 use Rattle.sourcemap_hermes.specs.Map.{hermes_value}
 use Rattle.sourcemap_cache.specs.Compile.{bytes_in, hermes_parts}
 use Rattle.sourcemap_cache.specs.Scopes.{scope_names, scope_numbers}

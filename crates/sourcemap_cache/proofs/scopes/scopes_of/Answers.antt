@@ -1,7 +1,7 @@
 -- A step adds the scope of one token: its name, if it is new, and its number.
 use Rattle.std.proofs.Common.{◌≡◌, ◌∙◌, ◌∷◌, ap, arith, length, refl, suc}
 use Rattle.std.specs.Option.{option_copied}
-use Rattle.sourcemap_hermes.specs.Map.{hermes_value, token_scope}
+use Rattle.sourcemap_hermes.specs.Map.{hermes_value}
 use Rattle.sourcemap_map_regular.specs.Iterators.{tokens_left}
 use Rattle.sourcemap_map_regular.specs.Token.{token_value, tokens_from}
 use Rattle.sourcemap_cache.specs.Scopes.{with_scope}
