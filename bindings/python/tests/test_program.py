@@ -64,9 +64,11 @@ class Program(unittest.TestCase):
         for data in '', 'Error: boom\n', '    at native\n[native code]':
             with self.subTest(data):
                 self.assertEqual(run('stack', data=data), (data, 0, message))
-        for data in '    at f (/none.js:1:1)\n', 'Error: boom\nf@https://h/none.js:1:1\n':
+        for data, file in (('    at f (/none.js:1:1)\n', '/none.js'),
+                           ('Error: boom\nf@https://h/none.js:1:1\n', 'https://h/none.js')):
             with self.subTest(data):
-                self.assertEqual(run('stack', data=data), (data, 0, ''))
+                reason = 'neither the file nor a map beside it is there, or below the current folder'
+                self.assertEqual(run('stack', data=data), (data, 0, f'sourcemap: the map of {file}: {reason}\n'))
 
     def test_output_that_nobody_reads(self):
         with tempfile.TemporaryDirectory() as folder:
