@@ -1,5 +1,6 @@
 //! Maps: open, share, read, look up, write.
 
+use std::mem::MaybeUninit;
 use std::ptr;
 
 use super::shared::{take_both, Shared, Taken};
@@ -337,12 +338,15 @@ impl MapHandle {
 
     /// A section of an index map, with a copy of its map.
     pub fn section(&self, id: u32) -> Result<Option<Section<'_>>> {
-        let mut start = ffi::SectionStart::default();
+        // The bytes between fields are to be zeros too.
+        let mut start = MaybeUninit::<ffi::SectionStart>::zeroed();
         // SAFETY: it is a handle.
-        let code = unsafe { ffi::sm_section_start_of(self.take().at(), id, &mut start) };
+        let code = unsafe { ffi::sm_section_start_of(self.take().at(), id, start.as_mut_ptr()) };
         if code != ffi::SM_OK {
             return Ok(None);
         }
+        // SAFETY: zeros are a value of the struct, and so is what the call wrote.
+        let start = unsafe { start.assume_init() };
         // SAFETY: both are handles, and not the same.
         let map = Handle::fill_if_any(|map, error| unsafe {
             ffi::sm_section(self.take().at(), id, map, error)
