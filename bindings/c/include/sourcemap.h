@@ -914,15 +914,17 @@ sm_code sm_compiled_lookup(const uint8_t *bytes, size_t length, uint32_t line, u
 
 /* Answers each position in turn, as sm_lookup_many() does. Returns how many it answered:
 ** 0 if the bytes are no compiled map. */
-size_t sm_compiled_lookup_many(const uint8_t *bytes, size_t length, const sm_position *positions, size_t count,
-                               sm_found *found, size_t found_length);
+size_t sm_compiled_lookup_many(const uint8_t *bytes, size_t length, const sm_position *positions, size_t count, sm_found *found, size_t found_length);
 
-/* The source, name or contents of an id. SM_ABSENT if there is none. SM_COMPILED_TEXT or
-** SM_UTF8 if the text passes the end of the bytes or is not UTF-8. Then `text` is as it
-** was. */
-sm_code sm_compiled_source(const uint8_t *bytes, size_t length, uint32_t source, sm_text *text);
-sm_code sm_compiled_name(const uint8_t *bytes, size_t length, uint32_t name, sm_text *text);
-sm_code sm_compiled_contents(const uint8_t *bytes, size_t length, uint32_t source, sm_text *text);
+/* The source of an id. SM_ABSENT if no source has the id; SM_COMPILED_TEXT or SM_UTF8 if
+** its text passes the end of the bytes or is not UTF-8. Then `text` is as it was. */
+sm_code sm_compiled_source(const uint8_t *bytes, size_t length, uint32_t id, sm_text *text);
+
+/* The name of an id, with the codes of sm_compiled_source(). */
+sm_code sm_compiled_name(const uint8_t *bytes, size_t length, uint32_t id, sm_text *text);
+
+/* The contents for a source id, with the codes of sm_compiled_source(). */
+sm_code sm_compiled_contents(const uint8_t *bytes, size_t length, uint32_t id, sm_text *text);
 
 #ifdef __cplusplus
 }
