@@ -4,14 +4,13 @@ use sourcemap_hermes::decode::decode_hermes;
 use sourcemap_hermes::map::SourceMapHermes;
 use sourcemap_map_regular::encode::Encodable;
 use sourcemap_map_regular::token::Token;
-use sourcemap_records::jsontypes::RawSourceMap;
 use sourcemap_test_support::checks::{Checked, check, check_that};
-use sourcemap_test_support::records::record;
-use sourcemap_test_support::results::box_result;
+use sourcemap_test_support::records::{record, record_text};
+use sourcemap_test_support::results::{box_result, owned_text};
 use std::alloc::Global;
 
 pub fn name_or_none(alloc: Global, name: Option<&str>) -> Result<String> {
-    Ok(String::from_str(alloc, name.unwrap_or("none"))?)
+    owned_text(String::from_str(alloc, name.unwrap_or("none")))
 }
 
 fn map_of(alloc: Global, text: &str) -> Result<Box<SourceMapHermes>> {
@@ -116,7 +115,7 @@ fn scope_text(alloc: Global, map: &SourceMapHermes, token: Option<Token<'_>>) ->
 
 // The function name for the token that `lookup_token` returns at a bytecode offset.
 fn scope_at(alloc: Global, text: &str, offset: u32) -> Result<String> {
-    let map = box_result(alloc, SourceMapHermes::from_reader(alloc, text.as_bytes()))?;
+    let map = streamed_map(alloc, text)?;
     scope_text(alloc, &*map, map.lookup_token(0, offset))
 }
 
@@ -128,13 +127,8 @@ fn scopes_of_tokens(rt: HostRuntime) -> Checked {
     Ok(())
 }
 
-fn record_of(alloc: Global, text: &str) -> Result<RawSourceMap> {
-    map_of(alloc, text)?.as_raw_sourcemap()
-}
-
 fn write_map(alloc: Global, text: &str) -> Result<String> {
-    let value = record_of(alloc, text)?.into_value(alloc)?;
-    Ok(value.to_string(alloc)?)
+    record_text(alloc, map_of(alloc, text)?.as_raw_sourcemap())
 }
 
 #[test]
@@ -178,19 +172,23 @@ fn bytes_read_back(rt: HostRuntime) -> Checked {
     Ok(())
 }
 
-fn equals_copy(map: &SourceMapHermes) -> Result<bool> {
-    Ok(map.clone()? == *map)
+fn equals_copy(alloc: Global, map: &SourceMapHermes) -> Result<bool> {
+    Ok(*box_result(alloc, map.clone())? == *map)
+}
+
+fn streamed_map(alloc: Global, text: &str) -> Result<Box<SourceMapHermes>> {
+    box_result(alloc, SourceMapHermes::from_reader(alloc, text.as_bytes()))
 }
 
 // Whether decoding from a reader gives an equal map.
 fn is_streamed(alloc: Global, text: &str, map: &SourceMapHermes) -> Result<bool> {
-    Ok(SourceMapHermes::from_reader(alloc, text.as_bytes())? == *map)
+    Ok(*streamed_map(alloc, text)? == *map)
 }
 
 fn copies_text(alloc: Global, text: &str, map: &SourceMapHermes) -> Result<String> {
-    let is_copied = equals_copy(map)?;
+    let is_copied = equals_copy(alloc, map)?;
     let is_streamed = is_streamed(alloc, text, map)?;
-    Ok(format!(in alloc; "{is_copied} {is_streamed}")?)
+    owned_text(format!(in alloc; "{is_copied} {is_streamed}"))
 }
 
 fn copy_map(alloc: Global, text: &str) -> Result<String> {
@@ -206,7 +204,7 @@ fn copies_and_maps_of_readers_are_equal(rt: HostRuntime) -> Checked {
 }
 
 fn is_decoded(alloc: Global, text: &str) -> Result<bool> {
-    match decode_hermes(alloc, record(alloc, text)?) {
+    match box_result(alloc, decode_hermes(alloc, record(alloc, text)?)) {
         Ok(_) => Ok(true),
         Err(Error::IncompatibleSourceMap) => Ok(false),
         Err(error) => Err(error),
@@ -214,7 +212,7 @@ fn is_decoded(alloc: Global, text: &str) -> Result<bool> {
 }
 
 fn is_read(alloc: Global, text: &str) -> Result<bool> {
-    match SourceMapHermes::from_slice(alloc, text.as_bytes()) {
+    match map_of(alloc, text) {
         Ok(_) => Ok(true),
         Err(Error::IncompatibleSourceMap) => Ok(false),
         Err(error) => Err(error),
@@ -224,7 +222,7 @@ fn is_read(alloc: Global, text: &str) -> Result<bool> {
 fn kinds_text(alloc: Global, text: &str) -> Result<String> {
     let decoded = is_decoded(alloc, text)?;
     let read = is_read(alloc, text)?;
-    Ok(format!(in alloc; "{decoded} {read}")?)
+    owned_text(format!(in alloc; "{decoded} {read}"))
 }
 
 // A record, and whether `decode_hermes` and `from_slice` decode it.

@@ -4,7 +4,8 @@ use sourcemap_errors::errors::Result;
 use sourcemap_hermes::map::SourceMapHermes;
 use sourcemap_map_regular::rewrite::RewriteOptions;
 use sourcemap_test_support::checks::{Checked, check};
-use sourcemap_test_support::results::error_text;
+use sourcemap_test_support::records::record_text;
+use sourcemap_test_support::results::{box_result, error_text};
 use std::alloc::Global;
 use std::rt::Files;
 
@@ -20,10 +21,7 @@ fn rewrite_with<F: Files>(
 
 fn write_rewritten(alloc: Global, map: Result<SourceMapHermes>) -> Result<String> {
     match map {
-        Ok(map) => {
-            let value = map.into_raw_sourcemap()?.into_value(alloc)?;
-            Ok(value.to_string(alloc)?)
-        }
+        Ok(map) => record_text(alloc, map.into_raw_sourcemap()),
         Err(error) => error_text(alloc, &error),
     }
 }
@@ -191,8 +189,7 @@ fn a_folder_is_needed_to_load_contents(rt: HostRuntime) -> Checked {
 // The function name at a bytecode offset after rewriting with default options.
 fn name_then<F: Files>(rt: &F, alloc: Global, text: &str, offset: u32) -> Result<String> {
     let map = SourceMapHermes::from_slice(alloc, text.as_bytes())?;
-    let map = map.rewrite(rt, &RewriteOptions::default())?;
-    let map = Box::new(alloc, map)?;
+    let map = box_result(alloc, map.rewrite(rt, &RewriteOptions::default()))?;
     name_or_none(alloc, map.get_original_function_name(offset))
 }
 

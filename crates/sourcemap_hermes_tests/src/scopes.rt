@@ -6,13 +6,14 @@ use sourcemap_hermes_scopes::function_map::HermesFunctionMap;
 use sourcemap_hermes_scopes::scope_lists::ScopeLists;
 use sourcemap_hermes_scopes::source_scopes::SourceScopes;
 use sourcemap_test_support::checks::{Checked, check, check_that};
-use sourcemap_test_support::records::record;
+use sourcemap_test_support::records::{boxed_record, record_text};
+use sourcemap_test_support::results::{box_result, owned_text};
 use std::alloc::Global;
 
 // Returns the lists of scopes that a record has under `x_facebook_sources`. If this key is missing
 // or null, the error is `IncompatibleSourceMap`.
 fn lists(alloc: Global, text: &str) -> Result<ScopeLists> {
-    let mut record = record(alloc, text)?;
+    let mut record = boxed_record(alloc, text)?;
     record
         .x_facebook_sources
         .take()
@@ -29,6 +30,10 @@ fn scopes(alloc: Global, text: &str) -> Result<SourceScopes> {
     SourceScopes::new(alloc, lists)
 }
 
+fn boxed_scopes(alloc: Global, text: &str) -> Result<Box<SourceScopes>> {
+    box_result(alloc, scopes(alloc, text))
+}
+
 fn select_scopes(alloc: Global, text: &str, ids: &[u32]) -> Result<SourceScopes> {
     if ids.len() > 4294967295 {
         return Err(Error::IncompatibleSourceMap);
@@ -37,7 +42,7 @@ fn select_scopes(alloc: Global, text: &str, ids: &[u32]) -> Result<SourceScopes>
 }
 
 fn name_at_position(alloc: Global, text: &str, source: u32, line: u32, col: u32) -> Result<String> {
-    let scopes = scopes(alloc, text)?;
+    let scopes = boxed_scopes(alloc, text)?;
     name_or_none(alloc, scopes.scope(source, line, col))
 }
 
@@ -45,7 +50,7 @@ fn name_at_position(alloc: Global, text: &str, source: u32, line: u32, col: u32)
 // names a, b and c and the scope mappings `mappings`. The second entry is null.
 fn with_mappings(alloc: Global, mappings: &str) -> Result<String> {
     let head = r#"{"x_facebook_sources":[[{"names":["a","b","c"],"mappings":""#;
-    Ok(format!(in alloc; r#"{head}{mappings}"}}],null]}}"#)?)
+    owned_text(format!(in alloc; r#"{head}{mappings}"}}],null]}}"#))
 }
 
 fn name_in_mappings(alloc: Global, mappings: &str, line: u32, col: u32) -> Result<String> {
@@ -164,9 +169,9 @@ fn names_by_source(rt: HostRuntime) -> Checked {
 }
 
 fn write_scopes(alloc: Global, lists: ScopeLists) -> Result<String> {
-    let mut record = record(alloc, "{}")?;
+    let mut record = boxed_record(alloc, "{}")?;
     record.x_facebook_sources = Some(lists);
-    Ok(record.into_value(alloc)?.to_string(alloc)?)
+    record_text(alloc, Ok(Box::into_inner(record)))
 }
 
 fn write_selected(alloc: Global, text: &str, ids: &[u32]) -> Result<String> {
@@ -222,7 +227,7 @@ fn selected_scopes_are_written(rt: HostRuntime) -> Checked {
 }
 
 fn name_when_selected(alloc: Global, text: &str, ids: &[u32], source: u32) -> Result<String> {
-    let selected = select_scopes(alloc, text, ids)?;
+    let selected = box_result(alloc, select_scopes(alloc, text, ids))?;
     name_or_none(alloc, selected.scope(source, 0, 0))
 }
 
@@ -252,13 +257,13 @@ fn names_of_selected_scopes(rt: HostRuntime) -> Checked {
 }
 
 fn is_equal(alloc: Global, scopes: &SourceScopes, text: &str) -> Result<bool> {
-    let others = self::scopes(alloc, text)?;
-    Ok(others == *scopes)
+    let others = boxed_scopes(alloc, text)?;
+    Ok(*others == *scopes)
 }
 
-fn is_as_its_copy(scopes: &SourceScopes) -> Result<bool> {
-    let copy = scopes.clone()?;
-    Ok(copy == *scopes)
+fn is_as_its_copy(alloc: Global, scopes: &SourceScopes) -> Result<bool> {
+    let copy = box_result(alloc, scopes.clone())?;
+    Ok(*copy == *scopes)
 }
 
 fn write_copy(alloc: Global, scopes: &SourceScopes) -> Result<String> {
@@ -268,15 +273,15 @@ fn write_copy(alloc: Global, scopes: &SourceScopes) -> Result<String> {
 // Compares the scopes of `text` with their copy, with the scopes of `text` decoded again, and with
 // the scopes of `other`. Each of the three results is true if the compared scopes are equal.
 fn compare_scopes(alloc: Global, text: &str, other: &str) -> Result<(bool, bool, bool)> {
-    let scopes = scopes(alloc, text)?;
-    let as_copy = is_as_its_copy(&scopes)?;
-    let as_same = is_equal(alloc, &scopes, text)?;
-    Ok((as_copy, as_same, is_equal(alloc, &scopes, other)?))
+    let scopes = boxed_scopes(alloc, text)?;
+    let as_copy = is_as_its_copy(alloc, &*scopes)?;
+    let as_same = is_equal(alloc, &*scopes, text)?;
+    Ok((as_copy, as_same, is_equal(alloc, &*scopes, other)?))
 }
 
 fn copy_scopes(alloc: Global, text: &str) -> Result<String> {
-    let scopes = scopes(alloc, text)?;
-    write_copy(alloc, &scopes)
+    let scopes = boxed_scopes(alloc, text)?;
+    write_copy(alloc, &*scopes)
 }
 
 #[test]
@@ -305,12 +310,12 @@ static FUNCTIONS: [(&str, u32, u32, &str); 5] = [
 // whether the copy equals the function map.
 fn index_text(alloc: Global, map: &HermesFunctionMap, line: u32, col: u32) -> Result<String> {
     let copy = map.clone()?;
-    Ok(format!(in alloc; "{:?} {}", copy.name_index(line, col), copy == *map)?)
+    owned_text(format!(in alloc; "{:?} {}", copy.name_index(line, col), copy == *map))
 }
 
 fn index_at(alloc: Global, mappings: &str, line: u32, col: u32) -> Result<String> {
     match HermesFunctionMap::read(alloc, mappings)? {
-        None => Ok(String::from_str(alloc, "no functions")?),
+        None => owned_text(String::from_str(alloc, "no functions")),
         Some(map) => index_text(alloc, &map, line, col),
     }
 }

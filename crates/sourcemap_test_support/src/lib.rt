@@ -1,7 +1,8 @@
 //! Helpers for the `*_tests` crates. `checks::check` compares a result with the expected text. The
 //! functions in `results` repeat a call, box a value, or make a text from an error or an
-//! option. Those in `tokens` make tokens from rows, and `record` makes a record from a text. The
-//! other modules contain fake readers, fake writers and a fake file. Each fake can return errors.
+//! option. Those in `tokens` make tokens from rows. Those in `records` make records from texts, and
+//! texts from records and values. The other modules contain fake readers, fake writers and a fake
+//! file. Each fake can return errors.
 #![tactic(auto)]
 
 pub mod checks;

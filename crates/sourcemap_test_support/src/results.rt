@@ -2,8 +2,14 @@
 //! `OutOfMemory` stays an error, so that no text hides a failed allocation. `again` and
 //! `box_result` can return any error.
 use sourcemap_errors::errors::{Error, Result};
-use std::alloc::Global;
+use std::alloc::{AllocError, Global};
 use std::fmt::Display;
+use std::result::Result as StdResult;
+
+/// The text that was made. The only error is `OutOfMemory`. prover: one conversion for all texts
+pub fn owned_text(made: StdResult<String, AllocError>) -> Result<String> {
+    Ok(made?)
+}
 
 /// Calls `call`, and calls `call` once more if the first call returns `OutOfMemory`.
 pub fn again<F: Fn() -> Result<String>>(call: F) -> Result<String>
@@ -19,14 +25,14 @@ pub fn again<F: Fn() -> Result<String>>(call: F) -> Result<String>
 pub fn error_text(alloc: Global, error: &Error) -> Result<String> {
     match error {
         Error::OutOfMemory => Err(Error::OutOfMemory),
-        error => Ok(format!(in alloc; "{error}")?),
+        error => owned_text(format!(in alloc; "{error}")),
     }
 }
 
 /// For `Ok`, the text `no error`. For `Err`, what `error_text` returns for the error.
 pub fn error_of<T: Drop>(alloc: Global, got: Result<T>) -> Result<String> {
     match got {
-        Ok(_) => Ok(String::from_str(alloc, "no error")?),
+        Ok(_) => owned_text(String::from_str(alloc, "no error")),
         Err(error) => error_text(alloc, &error),
     }
 }
@@ -39,16 +45,16 @@ pub fn box_result<T: Drop>(alloc: Global, made: Result<T>) -> Result<Box<T>> {
 /// What a value prints, or `none`.
 pub fn text_or_none<T: Display + Drop>(alloc: Global, value: Option<T>) -> Result<String> {
     match value {
-        None => Ok(String::from_str(alloc, "none")?),
-        Some(value) => Ok(format!(in alloc; "{value}")?),
+        None => owned_text(String::from_str(alloc, "none")),
+        Some(value) => owned_text(format!(in alloc; "{value}")),
     }
 }
 
 /// An optional text: in brackets, or `none`.
 pub fn optional_text(alloc: Global, text: Option<&str>) -> Result<String> {
     match text {
-        None => Ok(String::from_str(alloc, "none")?),
-        Some(text) => Ok(format!(in alloc; "[{text}]")?),
+        None => owned_text(String::from_str(alloc, "none")),
+        Some(text) => owned_text(format!(in alloc; "[{text}]")),
     }
 }
 

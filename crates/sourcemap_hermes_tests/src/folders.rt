@@ -3,6 +3,7 @@ use crate::texts::{bundle_text, error_or_io, module_text, parsed_text};
 use sourcemap_bundles::ram_bundle::{RamBundle, is_unbundle_path};
 use sourcemap_errors::errors::Result;
 use sourcemap_test_support::checks::{Checked, check};
+use sourcemap_test_support::results::owned_text;
 use std::alloc::Global;
 use std::fs;
 use std::os::unix::fs::symlink;
@@ -129,7 +130,7 @@ fn make<F: Files>(rt: &F, alloc: Global, bundle: &str, names: &[&str]) -> Result
 fn answers_at<F: Files>(rt: &F, alloc: Global, path: &str) -> Result<String> {
     let is_bundle = is_unbundle_path(rt, alloc, path)?;
     let answer = parsed_text(alloc, RamBundle::parse_unbundle_from_path(rt, alloc, path))?;
-    Ok(format!(in alloc; "{is_bundle} {answer}")?)
+    owned_text(format!(in alloc; "{is_bundle} {answer}"))
 }
 
 fn folder_text<F: Files>(rt: &F, alloc: Global, names: &[&str]) -> Result<String> {
@@ -150,12 +151,12 @@ fn folderless_texts<F: Files>(rt: &F, alloc: Global) -> Result<String> {
     let file = answers_at(rt, alloc, "bundle_alone/main.js")?;
     let folder = answers_at(rt, alloc, "bundle_alone")?;
     fs::remove_dir_all(&(rt, alloc), "bundle_alone")?;
-    Ok(format!(in alloc; "{missing}, {file}, {folder}")?)
+    owned_text(format!(in alloc; "{missing}, {file}, {folder}"))
 }
 
 fn parse_indexed_file<F: Files>(rt: &F, alloc: Global, path: &str) -> Result<String> {
     match RamBundle::parse_indexed_from_path(rt, alloc, path) {
-        Ok(_) => Ok(String::from_str(alloc, "a bundle")?),
+        Ok(_) => owned_text(String::from_str(alloc, "a bundle")),
         Err(error) => error_or_io(alloc, error),
     }
 }
@@ -175,7 +176,7 @@ fn file_text<F: Files>(rt: &F, alloc: Global) -> Result<String> {
 fn module_at(alloc: Global, bundle: &RamBundle<'_>, id: usize) -> Result<String> {
     match bundle.get_module(id).transpose() {
         Some(answer) => module_text(alloc, answer),
-        None => Ok(String::from_str(alloc, "none")?),
+        None => owned_text(String::from_str(alloc, "none")),
     }
 }
 

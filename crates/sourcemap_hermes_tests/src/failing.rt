@@ -5,6 +5,7 @@ use sourcemap_errors::errors::{Error, Result};
 use sourcemap_test_support::checks::{Checked, check};
 use sourcemap_test_support::files::{FakeFile, unsupported_error};
 use sourcemap_test_support::readers::NarrowReader;
+use sourcemap_test_support::results::owned_text;
 use std::alloc::{Allocator, Global};
 use std::fs::{Metadata, OpenOptions};
 use std::io;
@@ -150,8 +151,8 @@ impl<'a> Files for Disk<'a> {
 // becomes a text, because some rows expect it.
 fn error_or_kind(alloc: Global, error: Error) -> Result<String> {
     match error {
-        Error::Io(cause) => Ok(format!(in alloc; "{:?}", cause.kind())?),
-        other => Ok(format!(in alloc; "{other}")?),
+        Error::Io(cause) => owned_text(format!(in alloc; "{:?}", cause.kind())),
+        other => owned_text(format!(in alloc; "{other}")),
     }
 }
 
@@ -164,7 +165,7 @@ fn read_text(alloc: Global, disk: &Disk<'_>) -> Result<String> {
 
 fn is_bundle_text(alloc: Global, disk: &Disk<'_>) -> Result<String> {
     match is_unbundle_path(disk, alloc, "m.js") {
-        Ok(is_bundle) => Ok(format!(in alloc; "{is_bundle}")?),
+        Ok(is_bundle) => owned_text(format!(in alloc; "{is_bundle}")),
         Err(error) => error_or_kind(alloc, error),
     }
 }
@@ -192,7 +193,7 @@ fn open_failing(alloc: Global, row: &Row, kind: ErrorKind) -> Result<String> {
     };
     let is_bundle = is_bundle_text(alloc, &disk)?;
     let answer = read_text(alloc, &disk)?;
-    Ok(format!(in alloc; "{is_bundle}, {answer}")?)
+    owned_text(format!(in alloc; "{is_bundle}, {answer}"))
 }
 
 static ROWS: [Row; 17] = [

@@ -4,6 +4,7 @@ use sourcemap_bundles::bundle::{ModuleEntry, RAM_BUNDLE_MAGIC, RamBundleHeader, 
 use sourcemap_bundles::ram_bundle::{RamBundle, RamBundleType, is_ram_bundle_slice};
 use sourcemap_errors::errors::Result;
 use sourcemap_test_support::checks::{Checked, check, check_that};
+use sourcemap_test_support::results::owned_text;
 use std::alloc::Global;
 
 // One module, `xyz`, after the startup code `ab`.
@@ -92,7 +93,7 @@ fn module_at(alloc: Global, bytes: &[u8], id: usize) -> Result<String> {
     match RamBundle::parse_indexed_from_slice(bytes) {
         Ok(bundle) => match bundle.get_module(id).transpose() {
             Some(answer) => module_text(alloc, answer),
-            None => Ok(String::from_str(alloc, "none")?),
+            None => owned_text(String::from_str(alloc, "none")),
         },
         Err(error) => bytes_text(alloc, Err(error)),
     }
@@ -100,7 +101,7 @@ fn module_at(alloc: Global, bytes: &[u8], id: usize) -> Result<String> {
 
 fn count_text(alloc: Global, bytes: &[u8]) -> Result<String> {
     let count = RamBundle::parse_indexed_from_slice(bytes)?.module_count();
-    Ok(format!(in alloc; "{count}")?)
+    owned_text(format!(in alloc; "{count}"))
 }
 
 // Parses an indexed bundle that owns its bytes. Returns the `bundle_text` of a copy of the bundle.
@@ -114,7 +115,7 @@ fn copy_text(alloc: Global, bytes: &[u8]) -> Result<String> {
 fn view_text(alloc: Global, bytes: &[u8]) -> Result<String> {
     let bundle = RamBundle::parse_indexed_from_slice(bytes)?;
     match bundle.get_module(0)? {
-        Some(found) => Ok(String::from_str(alloc, found.source_view(alloc)?.source())?),
+        Some(found) => owned_text(String::from_str(alloc, found.source_view(alloc)?.source())),
         None => Ok(String::new(alloc)),
     }
 }
@@ -129,7 +130,7 @@ fn numbers(alloc: Global, bytes: &[u8]) -> Result<String> {
     let is_valid = header.is_valid_magic() && header.magic == RAM_BUNDLE_MAGIC;
     let (count, size) = (header.module_count, header.startup_code_size);
     let (offset, length, is_empty) = (entry.offset, entry.length, entry.is_empty());
-    Ok(format!(in alloc; "{is_valid} {count} {size} {offset} {length} {is_empty} {last:?}")?)
+    owned_text(format!(in alloc; "{is_valid} {count} {size} {offset} {length} {is_empty} {last:?}"))
 }
 
 #[test]

@@ -1,14 +1,14 @@
 // Bundles as texts.
 use sourcemap_bundles::ram_bundle::{RamBundle, RamBundleModule};
 use sourcemap_errors::errors::{Error, Result};
-use sourcemap_test_support::results::error_text;
+use sourcemap_test_support::results::{error_text, owned_text};
 use std::alloc::Global;
 
 /// Returns `io` for an error of the file system, or the text of any other error. `OutOfMemory`
 /// stays an error.
 pub fn error_or_io(alloc: Global, error: Error) -> Result<String> {
     match error {
-        Error::Io(_) => Ok(String::from_str(alloc, "io")?),
+        Error::Io(_) => owned_text(String::from_str(alloc, "io")),
         other => error_text(alloc, &other),
     }
 }
@@ -27,7 +27,7 @@ pub fn module_text(alloc: Global, answer: Result<RamBundleModule<'_>>) -> Result
         Ok(found) => {
             let id = found.id();
             let text = String::from_utf8_lossy(alloc, found.data())?;
-            Ok(format!(in alloc; "{id}={text}")?)
+            owned_text(format!(in alloc; "{id}={text}"))
         },
         Err(error) => error_or_io(alloc, error),
     }
