@@ -13,8 +13,8 @@ ghost use Rattle.sourcemap_hermes.specs.Map.{HermesValue, IsWellFormed, function
 use crate::map::SourceMapHermes;
 use sourcemap_errors::errors::Result;
 use sourcemap_hermes_scopes::scope_lists::ScopeLists;
-use sourcemap_map_regular::encode::Encodable;
-use sourcemap_map_regular::write::encode;
+use sourcemap_map_encode::encodable::Encodable;
+use sourcemap_map_encode::write::encode;
 use sourcemap_records::jsontypes::RawSourceMap;
 use std::io::Write;
 

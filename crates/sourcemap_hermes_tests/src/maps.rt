@@ -2,7 +2,7 @@
 use sourcemap_errors::errors::{Error, Result};
 use sourcemap_hermes::decode::decode_hermes;
 use sourcemap_hermes::map::SourceMapHermes;
-use sourcemap_map_regular::encode::Encodable;
+use sourcemap_map_encode::encodable::Encodable;
 use sourcemap_map_regular::token::Token;
 use sourcemap_records::jsontypes::RawSourceMap;
 use sourcemap_test_support::checks::{Checked, check, check_that};

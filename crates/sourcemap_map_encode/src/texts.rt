@@ -14,7 +14,7 @@ ghost use Rattle.sourcemap_map_encode.specs.Buffered.{Grows};
 use crate::buffered::put;
 use serde_json::Value;
 use sourcemap_errors::errors::Result;
-use sourcemap_json_write::writing::value_to_string;
+use sourcemap_json_write::writing::{text_to_string, value_to_string};
 use std::alloc::Global;
 use std::io::Write;
 
@@ -47,8 +47,8 @@ pub(crate) fn put_text<W: Write>(
     ensures utf8 { OnOk result (IsUtf8 text.now) }
     ensures error { IfErr result (λ e. UnlessMemory e (IsIo e)) }
 {
-    let value = Value::String(String::from_str(alloc, text)?);
-    put_value(alloc, writer, buffer, &value)
+    let quoted = text_to_string(alloc, text)?;
+    put(writer, buffer, quoted.as_str())
 }
 
 /// Writes a comma if an item or a member precedes (`later`).

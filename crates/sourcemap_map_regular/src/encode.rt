@@ -12,35 +12,18 @@ use sourcemap_map_conversions::parts::Parts;
 use sourcemap_map_conversions::to_record::{into_record, record_of};
 use sourcemap_records::jsontypes::RawSourceMap;
 
-/// A map of any kind, which can be encoded as a record.
-pub trait Encodable {
-    ghost use Rattle.std.specs.Prelude.{Result};
-    ghost use Rattle.sourcemap_errors.specs.declared.errors.Error.{Error};
-    ghost use Rattle.sourcemap_records.specs.Jsontypes.{Tree};
-
-    // `encodes v` says which results `as_raw_sourcemap` of `v` may return. `encodes v (Ok t)`
-    // allows a record whose `Tree` is `t`, and `encodes v (Err e)` allows the error `e`. The error
-    // `OutOfMemory` is always allowed.
-    ghost encodes: { Self → Result Tree Error → Type 0 };
-
-    /// The record of the map.
-    fn as_raw_sourcemap(&self) -> Result<RawSourceMap>
-        ensures { IsAnswer tree (encodes self.now) result };
-}
-
-impl Encodable for SourceMap {
+impl SourceMap {
     ghost use Rattle.sourcemap_map_regular.specs.Map.{IsWellFormed};
+    ghost use Rattle.sourcemap_map_regular.specs.MapStored.{parts_in};
     ghost use Rattle.sourcemap_map_regular.specs.Decode.{RecordDecodes};
     ghost use Rattle.sourcemap_map_regular.specs.Encode.{RecordAnswer, ReadsBack, Restores};
-
-    ghost encodes = { RecordAnswer };
 
     /// The record of the map. The record always has version 3, names, mappings, and the sources as
     /// they are written, not resolved against `sourceRoot`. It has file, `sourceRoot` and debug id
     /// if the map has them, the ignore list if it is not empty, and `rangeMappings` if the map has
     /// a range token. If a source has contents, the record has `sourcesContent`, with one item for
     /// each source. The only error is `OutOfMemory`.
-    fn as_raw_sourcemap(&self) -> Result<RawSourceMap>
+    pub fn as_raw_sourcemap(&self) -> Result<RawSourceMap>
         ensures answer { IsAnswer tree (RecordAnswer self.now) result }
         ensures fine { IfOk result (λ r. IsFine (tree r)) }
         // The record of a well-formed map decodes to a map with the same meaning. The decoded map
@@ -61,11 +44,6 @@ impl Encodable for SourceMap {
             &self.contents,
         )
     }
-}
-
-impl SourceMap {
-    ghost use Rattle.sourcemap_map_regular.specs.Encode.{RecordAnswer};
-    ghost use Rattle.sourcemap_map_regular.specs.MapStored.{parts_in};
 
     /// The record that `as_raw_sourcemap` returns; consumes the map. Texts are moved, and tokens
     /// are dropped as soon as they are encoded. The only error is `OutOfMemory`.

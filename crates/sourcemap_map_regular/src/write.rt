@@ -1,6 +1,5 @@
 //! Writes the compact JSON text of a map to writers and data URLs.
-ghost use Rattle.std.specs.Prelude.{◌≡◌, ◌⊎◌, ℕ, List, Err, OnErr, OnOk, IfOk, IfErr, IsOkUnless, string_bytes};
-ghost use Rattle.std.specs.Io.KnownBytes.{Appends};
+ghost use Rattle.std.specs.Prelude.{◌≡◌, ℕ, List, OnOk, IfOk, IfErr, IsOkUnless, string_bytes};
 ghost use Rattle.sourcemap_errors.specs.Answer.{UnlessMemory};
 ghost use Rattle.sourcemap_errors.specs.declared.errors.Error.TheVariants.{OutOfMemory};
 ghost use Rattle.sourcemap_headers.specs.DataUrl.{data_url_of, Holds};
@@ -10,7 +9,6 @@ ghost use Rattle.sourcemap_map_regular.specs.Decode.{RegularDecodes};
 ghost use Rattle.sourcemap_map_regular.specs.Encode.{RecordAnswer, ReadsBack, Restores};
 ghost use Rattle.sourcemap_map_regular.specs.Write.{IsEncoded, IsCompactTextOf, IsIo};
 
-use crate::encode::Encodable;
 use crate::map::SourceMap;
 use sourcemap_errors::errors::Result;
 use sourcemap_headers::data_url::data_url;
@@ -18,51 +16,26 @@ use sourcemap_json_write::writing::value_to_vec;
 use std::alloc::Global;
 use std::io::Write;
 
-/// The compact JSON text of the map, as bytes. The errors are `OutOfMemory` and those of
-/// `as_raw_sourcemap`. For regular maps, Hermes maps and index maps there is only `OutOfMemory`.
-pub fn encode_to_vec<M: Encodable>(alloc: Global, map: &M) -> Result<Vec<u8>>
-    ensures text { IfOk result (λ text. IsEncoded (M.encodes map.now) text.items) }
-    ensures error { IfErr result (λ e. UnlessMemory e (M.encodes map.now (Err e))) }
+// The compact JSON text of the map's record, as bytes. The only error is `OutOfMemory`.
+fn record_text(alloc: Global, map: &SourceMap) -> Result<Vec<u8>>
+    ensures text { IfOk result (λ text. IsEncoded (RecordAnswer map.now) text.items) }
+    ensures memory { IsOkUnless result OutOfMemory }
 {
     let value = map.as_raw_sourcemap()?.into_value(alloc)?;
     Ok(value_to_vec(alloc, &value)?)
 }
 
-/// Writes the compact JSON text of the map to a borrowed writer. The text is complete before the
-/// first write. So nothing is written if `as_raw_sourcemap` returns an error, or if memory runs out
-/// before the first write. If a write fails, the error is `Io`, or `OutOfMemory` if the write ran
-/// out of memory. The writer may then hold any part of the text.
-pub fn encode_to<M: Encodable, W: Write>(alloc: Global, map: &M, writer: &mut W) -> Result<()>
-    ensures written { OnOk result ((text : List ℕ) × IsEncoded (M.encodes map.now) text
-        × Appends (W.contents writer.old) (W.contents writer.new) text) }
-    ensures unwritten { OnErr result ((writer.new ≡ writer.old)
-        ⊎ ((text : List ℕ) × IsEncoded (M.encodes map.now) text)) }
-    ensures error { IfErr result (λ e. UnlessMemory e (M.encodes map.now (Err e) ⊎ IsIo e)) }
-{
-    let text = encode_to_vec(alloc, map)?;
-    writer.write_all(text.as_slice())?;
-    Ok(())
-}
-
-/// Writes the compact JSON text of the map. The errors are those of [`encode_to`]. The writer is
-/// consumed, so no clause says what it contains afterwards. [`encode_to`] borrows its writer and
-/// has such a clause.
-pub fn encode<M: Encodable, W: Write + Drop>(alloc: Global, map: &M, mut writer: W) -> Result<()>
-    ensures encoded { OnOk result ((text : List ℕ) × IsEncoded (M.encodes map.now) text) }
-    ensures error { IfErr result (λ e. UnlessMemory e (M.encodes map.now (Err e) ⊎ IsIo e)) }
-{
-    encode_to(alloc, map, &mut writer)
-}
-
 impl SourceMap {
     /// Writes the compact JSON text of the map. The errors are `OutOfMemory`, and `Io` if a write
     /// fails for another reason. The writer is consumed, so no clause says what it contains
-    /// afterwards. [`encode_to`] borrows its writer and has such a clause.
-    pub fn to_writer<W: Write + Drop>(&self, writer: W) -> Result<()>
+    /// afterwards. `encode_to` borrows its writer and has such a clause.
+    pub fn to_writer<W: Write + Drop>(&self, mut writer: W) -> Result<()>
         ensures encoded { OnOk result ((text : List ℕ) × IsEncoded (RecordAnswer self.now) text) }
         ensures error { IfErr result (λ e. UnlessMemory e (IsIo e)) }
     {
-        encode(self.allocator(), self, writer)
+        let text = record_text(self.allocator(), self)?;
+        writer.write_all(text.as_slice())?;
+        Ok(())
     }
 
     /// The compact JSON text of the map as a data URL. The only error is `OutOfMemory`.
@@ -76,7 +49,7 @@ impl SourceMap {
         ensures memory { IsOkUnless result OutOfMemory }
     {
         let alloc = self.allocator();
-        let text = encode_to_vec(alloc, self)?;
+        let text = record_text(alloc, self)?;
         // prover: `?` on its own line
         let url = data_url(alloc, text.as_slice())?;
         Ok(url)

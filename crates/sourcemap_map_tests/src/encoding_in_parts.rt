@@ -102,7 +102,8 @@ fn parts_are_the_text(rt: HostRuntime) -> Checked {
     Ok(())
 }
 
-// Checks that `encode_in_parts` writes the bytes that `encode_to_vec` returns.
+// Checks that `encode_in_parts` writes the JSON text of the record, and that `encode_to_vec` returns
+// it.
 fn check_same(alloc: Global, about: &str, map: Made) -> Checked {
     check_that(about, is_same_of(alloc, map)?)
 }
@@ -112,10 +113,11 @@ fn is_same_of(alloc: Global, map: Made) -> Result<bool> {
 }
 
 fn is_same(alloc: Global, map: &SourceMap) -> Result<bool> {
+    let record = map.as_raw_sourcemap()?.into_value(alloc)?.to_vec(alloc)?;
     let whole = encode_to_vec(alloc, map)?;
     let mut parts = Vec::new(alloc);
     encode_in_parts(alloc, map, &mut parts)?;
-    Ok(whole.as_slice() == parts.as_slice())
+    Ok(record.as_slice() == whole.as_slice() && record.as_slice() == parts.as_slice())
 }
 
 #[test]

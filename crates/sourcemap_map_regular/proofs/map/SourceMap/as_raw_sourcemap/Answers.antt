@@ -7,7 +7,7 @@ use Rattle.sourcemap_map_regular.specs.Map.{MapValue}
 use Rattle.sourcemap_map_regular.specs.MapStored.{parts_in, value_of}
 use Rattle.sourcemap_map_regular.specs.Encode.{RecordAnswer}
 use Rattle.sourcemap_map_regular.proofs.EncodeLemmas.{answered-if, back-if}
-use Rattle.sourcemap_map_regular.proofs.encode.SourceMapEncodable.as_raw_sourcemap.Goals as goal
+use Rattle.sourcemap_map_regular.proofs.map.SourceMap.as_raw_sourcemap.Goals as goal
 
 pub returns-clause-answer : goal.returns-clause-answer
 returns-clause-answer c =

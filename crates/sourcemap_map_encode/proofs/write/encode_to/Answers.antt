@@ -1,6 +1,6 @@
 -- prover: explicit search
 use Rattle.std.proofs.Common.{rules}
-use Rattle.sourcemap_map_regular.proofs.write.encode_to.Goals as goal
+use Rattle.sourcemap_map_encode.proofs.write.encode_to.Goals as goal
 
 pub returns-clause-written : goal.returns-clause-written
 returns-clause-written g c = search rules

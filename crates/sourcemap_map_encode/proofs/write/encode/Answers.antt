@@ -1,6 +1,6 @@
 -- prover: explicit search
 use Rattle.std.proofs.Common.{rules}
-use Rattle.sourcemap_map_regular.proofs.map.SourceMap.to_writer.Goals as goal
+use Rattle.sourcemap_map_encode.proofs.write.encode.Goals as goal
 
 pub returns-clause-encoded : goal.returns-clause-encoded
 returns-clause-encoded g c = search rules
