@@ -14,7 +14,7 @@ use Rattle.sourcemap_index_model.specs.MapTree.{MapTree, LeafMap, held, leaf, in
 use Rattle.sourcemap_index_model.specs.Meaning.{relative_position, lookup, lookups, meaning, closest_answer}
 use Rattle.sourcemap_index_model.specs.WellFormed.{IsInOrder, AreSectionsInOrder}
 use Rattle.sourcemap_index_model.proofs.MapTreeLemmas.{InSection, section_list-from}
-use Rattle.sourcemap_index.specs.Lookup.{AnyHasToken, HasToken, IsAmong}
+use Rattle.sourcemap_index.specs.Lookup.{AnyHasToken, HasToken, IsAmong, IsInner}
 
 -- ---- how many indexes a map holds
 
@@ -50,6 +50,9 @@ indexes_at (s' ∷ ss) (suc k) s t at is =
 pub indexes_below : (v : IndexValue) (s : MapSection) (t : MapTree) → IsAmong v.sections s → s.map ≡ Some t
     → indexes t < indexes (index_tree v)
 indexes_below v s t (k, at) is = let less = indexes_at v.sections k s t at is in omega (arith, less)
+
+pub inner_below : (v : IndexValue) (t : MapTree) → IsInner v.sections t → indexes t < indexes (index_tree v)
+inner_below v t (s, among, is) = indexes_below v s t among is
 
 -- ---- what a section answers
 
@@ -99,6 +102,18 @@ each_in_order (s ∷ ss) h = let both = by_case s.map h in (both.0, each_in_orde
         → IfSome m (λ t. IsInOrder t) × InEachSection (λ l. Unit {0}) AreSectionsInOrder (sections_from ss)
     by_case None h = (tt, h)
     by_case (Some t) h = h
+
+in_order_at : (ss : List MapSection) (k : ℕ) (s : MapSection) (t : MapTree) → slice_get ss k ≡ Some s → s.map ≡ Some t
+    → AllByRecursion (InSection (λ l. Unit {0}) AreSectionsInOrder) ss → IsInOrder t
+in_order_at [] k s t at is h = cc
+in_order_at (s' ∷ ss) zero s t at is h =
+    let same : s' ≡ s = cc in
+    subst (λ (m : Option MapTree). IfSome m IsInOrder) (ap (λ (x : MapSection). x.map) same ∙ is) h.0
+in_order_at (s' ∷ ss) (suc k) s t at is h = in_order_at ss k s t at is h.1
+
+-- if the sections of `v` are sorted at all levels, those of the map of a section of `v` are too
+pub inner_in_order : (v : IndexValue) (t : MapTree) → IsInner v.sections t → IsInOrder (index_tree v) → IsInOrder t
+inner_in_order v t (s, (k, at), is) ordered = in_order_at v.sections k s t at is (each_in_order v.sections ordered.1)
 
 -- let the sections of `v` be sorted at all levels. If `found` is the section closest to `p`, and `answer` is the lookup
 -- in `found`, then `answer` is the lookup of `p` in `v`
@@ -175,10 +190,14 @@ in_section (s' ∷ ss) zero s t token at is has =
 in_section (s' ∷ ss) (suc k) s t token at is has =
     in_rest s'.head s'.map (sections_from ss) token (in_section ss k s t token at is has)
 
--- if the map of a section of `v` has the token in `found`, the index map `v` has this token too
-pub found_in_section : (v : IndexValue) (s : MapSection) (t : MapTree) (found : Option Token) → IsAmong v.sections s
-    → s.map ≡ Some t
+-- if the map of a section of `v` has a token, the index map `v` has this token too
+pub inner_has : (v : IndexValue) (t : MapTree) (token : TokenValue) → IsInner v.sections t → HasToken t token
+    → HasToken (index_tree v) token
+inner_has v t token (s, (k, at), is) has = in_section v.sections k s t token at is has
+
+-- if a map has each token of another map, it has the token that was found in the other map
+pub has_found : (t v : MapTree) (found : Option Token) → ((token : TokenValue) → HasToken t token → HasToken v token)
     → IfSome found (λ token. HasToken t (token_value token))
-    → IfSome found (λ token. HasToken (index_tree v) (token_value token))
-found_in_section v s t None among is has = tt
-found_in_section v s t (Some token) (k, at) is has = in_section v.sections k s t (token_value token) at is has
+    → IfSome found (λ token. HasToken v (token_value token))
+has_found t v None each has = tt
+has_found t v (Some token) each has = each (token_value token) has

@@ -7,6 +7,10 @@ use Rattle.sourcemap_index_model.specs.MapTree.{MapTree, leaf, index, held, MapS
 abbrev pub IsAmong : List MapSection → MapSection → Type 0
 IsAmong ss s = (k : ℕ) × (slice_get ss k ≡ Some s)
 
+-- the map is the map of a section in the list
+abbrev pub IsInner : List MapSection → MapTree → Type 0
+IsInner ss t = (s : MapSection) × IsAmong ss s × (s.map ≡ Some t)
+
 -- a regular map has the token if `lookup_regular` returns the token for some generated position. A Hermes map has the
 -- token if its regular map has it. An index map has the token if the map of one of its sections has it
 abbrev mutual

@@ -1,5 +1,5 @@
 //! The lookup of a position in a map of any kind.
-ghost use Rattle.std.specs.Prelude.{◌≡◌, IfSome, IsSortedByKey, option_map};
+ghost use Rattle.std.specs.Prelude.{◌≡◌, IfSome, IsSortedByKey, option_and_then, option_map};
 ghost use Rattle.sourcemap_tokens.specs.Search.{closest_item};
 ghost use Rattle.sourcemap_tokens.specs.Tokens.{position_cmp};
 ghost use Rattle.sourcemap_map_regular.specs.Token.{meaning_of_token, token_value};
@@ -26,8 +26,8 @@ fn relative_position(offset: (u32, u32), line: u32, col: u32) -> (u32, u32)
 }
 
 impl SourceMapIndex {
-    ghost use Rattle.sourcemap_index.specs.Family.{index_value, section_value};
-    ghost use Rattle.sourcemap_index.specs.Lookup.{HasToken, IsAmong};
+    ghost use Rattle.sourcemap_index.specs.Family.{index_value, map_tree, section_value};
+    ghost use Rattle.sourcemap_index.specs.Lookup.{HasToken, IsAmong, IsInner};
 
     fn closest_section(&self, line: u32, col: u32) -> Option<&SourceMapSection>
         ensures own { IfSome result
@@ -45,8 +45,28 @@ impl SourceMapIndex {
         Some(section)
     }
 
-    // Looks the position up in the map of the closest section.
-    #[cycle(lookup)]
+    // The map of the closest section, and the position relative to the offset of this section.
+    #[inline(always)]
+    fn closest_map(&self, line: u32, col: u32) -> Option<(&DecodedMap, (u32, u32))>
+        ensures inner { IfSome result
+            (λ at. IsInner (index_value self.now).sections (map_tree at.0.now)) }
+        ensures in_order { IsInOrder (index_tree (index_value self.now))
+            → IfSome result (λ at. IsInOrder (map_tree at.0.now)) }
+        ensures value { IsInOrder (index_tree (index_value self.now))
+            → option_and_then (λ at. lookup (map_tree at.0.now) at.1) result
+            ≡ lookup (index_tree (index_value self.now)) (line, col) }
+    {
+        let section = self.closest_section(line, col)?;
+        let position = relative_position(section.offset, line, col);
+        match &section.map {
+            Some(map) => Some((&**map, position)),
+            None => None,
+        }
+    }
+
+    // Goes from section to section down to a map without sections, and looks the position up in
+    // this map, without its table of lines. If lookups alternate between many maps, for example
+    // between the maps of sections, this search is usually faster than a search with the table.
     fn closest_token(&self, line: u32, col: u32) -> Option<Token<'_>>
         ensures value { IsInOrder (index_tree (index_value self.now))
             → option_map token_value result
@@ -54,11 +74,18 @@ impl SourceMapIndex {
         ensures found { IfSome result
             (λ token. HasToken (index_tree (index_value self.now)) (token_value token)) }
     {
-        let section = self.closest_section(line, col)?;
-        let (line, col) = relative_position(section.offset, line, col);
-        match &section.map {
-            Some(map) => map.closest_among_many(line, col),
-            None => None,
+        let mut index = self;
+        let mut position = (line, col);
+        'levels: loop {
+            let (map, (line, col)) = index.closest_map(position.0, position.1)?;
+            match map {
+                DecodedMap::Regular(map) => return map.lookup_token_among_many(line, col),
+                DecodedMap::Hermes(map) => return map.lookup_token_among_many(line, col),
+                DecodedMap::Index(inner) => {
+                    index = inner;
+                    position = (line, col);
+                }
+            }
         }
     }
 
@@ -101,23 +128,7 @@ impl DecodedMap {
         match self {
             DecodedMap::Regular(map) => map.lookup_token(line, col),
             DecodedMap::Hermes(map) => map.lookup_token(line, col),
-            index => index.closest_among_many(line, col),
-        }
-    }
-
-    // The token that `lookup_token` returns, found without a table of lines. If lookups alternate
-    // between many maps, for example between the maps of sections, this search is usually faster
-    // than a search with the table.
-    #[cycle(lookup)]
-    fn closest_among_many(&self, line: u32, col: u32) -> Option<Token<'_>>
-        ensures value { IsInOrder (map_tree self.now)
-            → option_map token_value result ≡ lookup (map_tree self.now) (line, col) }
-        ensures found { IfSome result (λ token. HasToken (map_tree self.now) (token_value token)) }
-    {
-        match self {
-            DecodedMap::Regular(map) => map.lookup_token_among_many(line, col),
             DecodedMap::Index(index) => index.closest_token(line, col),
-            DecodedMap::Hermes(map) => map.lookup_token_among_many(line, col),
         }
     }
 
