@@ -15,6 +15,7 @@ use crate::short::put_bytes;
 use itoa::Buffer;
 use serde_json::{Map, Number, Value};
 use std::alloc::{AllocError, Global};
+use std::mem;
 
 // While a short string is put, the vector is longer than the string by up to this many bytes.
 const SPARE: usize = 64;
@@ -52,9 +53,22 @@ pub fn text_to_string(alloc: Global, text: &str) -> Result<String, AllocError>
     ensures text { IfOk result (λ s. string_bytes s ≡ quoted text.now) }
     ensures utf8 { OnOk result (IsUtf8 text.now) }
 {
-    let mut out = Vec::with_capacity(alloc, text.len().saturating_add(SPARE))?;
-    put_quoted(&mut out, text.as_bytes())?;
-    Ok(unsafe { String::from_utf8_unchecked(out) })
+    let mut out = String::with_capacity(alloc, text.len().saturating_add(SPARE))?;
+    push_quoted(&mut out, text)?;
+    Ok(out)
+}
+
+/// Appends a text to `out` as a JSON string, quoted and escaped. The error is out of memory, and
+/// then `out` is empty.
+pub fn push_quoted(out: &mut String, text: &str) -> Result<(), AllocError>
+    ensures text { OnOk result (string_bytes out.new ≡ string_bytes out.old ++ quoted text.now) }
+    ensures utf8 { OnOk result (IsUtf8 text.now) }
+{
+    let empty = String::new(*out.allocator());
+    let mut bytes = mem::replace(out, empty).into_bytes();
+    put_quoted(&mut bytes, text.as_bytes())?;
+    *out = unsafe { String::from_utf8_unchecked(bytes) };
+    Ok(())
 }
 
 /// Why a value was not written.
