@@ -1,6 +1,6 @@
 -- The text of a list, written item by item.
 use Rattle.std.proofs.Common.{◌≡◌, ℕ, ◌∷◌, [], List, ◌++◌, Bool, true, Option, map, string_bytes, String, Global, ◌∙◌}
-use Rattle.std.proofs.Common.{append_assoc}
+use Rattle.std.proofs.Common.{append_assoc, subst}
 use Rattle.std.specs.List.{AllByRecursion}
 use Rattle.std.specs.Str.{IsUtf8}
 use Rattle.std.proofs.lemmas.Str.{IsUtf8-string_bytes}
@@ -29,3 +29,10 @@ listed-more all left d later h i j k a b c e (done, is, x) y z = (
 pub texts-utf8 : (texts : List (String Global)) → AllByRecursion IsUtf8 (map (string_bytes {Z = Global}) texts)
 texts-utf8 [] = tt
 texts-utf8 (t ∷ ts) = (IsUtf8-string_bytes t, texts-utf8 ts)
+
+-- once no item is left, `]` ends the text of the list
+pub listed-end : (all : List Data) (later : Bool) (h i j : Option (List ℕ)) (a b c : List ℕ)
+    → GrowsBy (IsListed all [] later) h a i b → Grows i b j c (93 ∷ [])
+    → Grows h a j c (compact_text (array (items_of all)))
+listed-end all later h i j a b c (done, is, x) y =
+    subst (λ (t : List ℕ). Grows h a j c t) is (Grows-join h i j a b c done (93 ∷ []) x y)

@@ -25,9 +25,9 @@ use Rattle.sourcemap_json_write.proofs.WritingLemmas.{plain_string, plain_reads_
 use Rattle.sourcemap_records.specs.Field.{put_if, written_list, written_number, written_or_null}
 use Rattle.sourcemap_records.specs.Jsontypes.{FitsU32, plain, written, written_fields}
 use Rattle.sourcemap_map_parts.specs.Contents.{fitted}
-use Rattle.sourcemap_map_regular.specs.Map.{MapValue}
-use Rattle.sourcemap_map_regular.specs.Encode.{record_with, written_contents, written_ids}
-use Rattle.sourcemap_map_regular.specs.Write.{IsText}
+use Rattle.sourcemap_map_conversions.specs.Parts.{PartsValue}
+use Rattle.sourcemap_map_conversions.specs.ToRecord.{record_with, written_contents, written_ids}
+use Rattle.sourcemap_map_encode.specs.Encoded.{IsText}
 use Rattle.sourcemap_map_encode.specs.Members.{Entry, key_text, part, parts_text, later_after, IsPlainEntry}
 use Rattle.sourcemap_map_encode.specs.Members.{debug_id_entry, file_entry, ids_entry, mappings_entry}
 use Rattle.sourcemap_map_encode.specs.Members.{names_entry, ranges_entry, root_entry, contents_entry, version_entry}
@@ -36,9 +36,10 @@ use Rattle.sourcemap_map_encode.specs.Members.{leading_entries, token_entries, s
 -- Members.
 
 -- all members of the record
-abbrev pub map_entries : MapValue → List ℕ → Option (List ℕ) → List Entry
+abbrev pub map_entries : PartsValue → List ℕ → Option (List ℕ) → List Entry
 map_entries m mappings ranges =
-    leading_entries m ++ (token_entries m mappings ranges ++ (source_entries m ++ version_entry ∷ []))
+    leading_entries m.metadata
+    ++ (token_entries m.names mappings ranges ++ (source_entries m.sources m.contents ++ version_entry ∷ []))
 
 abbrev pub member_if : List ℕ → Option Data → Members → Members
 member_if key None ms = ms
@@ -142,28 +143,30 @@ same_sources : (xs : List (List ℕ)) → map (written_or_null string) (map Some
 same_sources [] = refl
 same_sources (x ∷ xs) = ap (λ rest. string x ∷ rest) (same_sources xs)
 
-pub members_are : (m : MapValue) (mappings : List ℕ) (ranges : Option (List ℕ))
+pub members_are : (m : PartsValue) (mappings : List ℕ) (ranges : Option (List ℕ))
     → written_fields (record_with m mappings ranges) ≡ chain (map_entries m mappings ranges)
 members_are m mappings ranges =
-    sorted (Some (written_number 3)) (option_map string m.file)
-    (Some (written_list (written_or_null string) (map Some m.sources))) (option_map string m.root)
-    (option_map (written_list (written_or_null string)) (written_contents (length m.sources) m.contents))
+    sorted (Some (written_number 3)) (option_map string m.metadata.file)
+    (Some (written_list (written_or_null string) (map Some m.sources.texts))) (option_map string m.sources.root)
+    (option_map (written_list (written_or_null string)) (written_contents (length m.sources.texts) m.contents))
     (Some (written_list (λ d. d) (map string m.names)))
     (option_map string ranges) (Some (string mappings)) (option_map (written_list written_number)
-    (written_ids m.ignored)) (option_map (λ id. string (debug_id_text id)) m.debug_id)
-    ∙ ap (λ (ds : List Data). chain (debug_id_entry m.debug_id ∷ file_entry m.file ∷ ids_entry m.ignored
+    (written_ids m.metadata.ignored)) (option_map (λ id. string (debug_id_text id)) m.metadata.debug_id)
+    ∙ ap (λ (ds : List Data). chain (debug_id_entry m.metadata.debug_id ∷ file_entry m.metadata.file
+    ∷ ids_entry m.metadata.ignored
     ∷ mappings_entry mappings ∷ (codes "names", Some (array (items_of ds)))
-    ∷ ranges_entry ranges ∷ root_entry m.root ∷ (
+    ∷ ranges_entry ranges ∷ root_entry m.sources.root ∷ (
       codes "sources",
-      Some (written_list (written_or_null string) (map Some m.sources)),
-    ) ∷ contents_entry (length m.sources) m.contents
+      Some (written_list (written_or_null string) (map Some m.sources.texts)),
+    ) ∷ contents_entry (length m.sources.texts) m.contents
     ∷ version_entry ∷ [])) (map-id (map string m.names))
-    ∙ ap (λ (ds : List Data). chain (debug_id_entry m.debug_id ∷ file_entry m.file ∷ ids_entry m.ignored
+    ∙ ap (λ (ds : List Data). chain (debug_id_entry m.metadata.debug_id ∷ file_entry m.metadata.file
+    ∷ ids_entry m.metadata.ignored
     ∷ mappings_entry mappings ∷ names_entry m.names ∷ ranges_entry ranges
-    ∷ root_entry m.root ∷ (
+    ∷ root_entry m.sources.root ∷ (
       codes "sources",
       Some (array (items_of ds)),
-    ) ∷ contents_entry (length m.sources) m.contents ∷ version_entry ∷ [])) (same_sources m.sources)
+    ) ∷ contents_entry (length m.sources.texts) m.contents ∷ version_entry ∷ [])) (same_sources m.sources.texts)
 
 -- Texts.
 
@@ -198,30 +201,32 @@ parts_append later (x ∷ xs) ys =
     (parts_text (later_after (later || is_some x.1) xs) ys)
     ∙ ap (λ t. part later x ++ t) (parts_append (later || is_some x.1) xs ys)
 
-later_after_tokens : (later : Bool) (m : MapValue) (mappings : List ℕ) (ranges : Option (List ℕ))
-    → later_after later (token_entries m mappings ranges) ≡ true
-later_after_tokens true m mappings ranges = refl
-later_after_tokens false m mappings ranges = refl
+later_after_tokens : (later : Bool) (names : List (List ℕ)) (mappings : List ℕ) (ranges : Option (List ℕ))
+    → later_after later (token_entries names mappings ranges) ≡ true
+later_after_tokens true names mappings ranges = refl
+later_after_tokens false names mappings ranges = refl
 
 -- the texts of the leading, token and source entries and of `version`, concatenated, are the text of all entries.
 -- `later` is true exactly if a leading entry has a value
-pub parts_joined : (later : Bool) (m : MapValue) (mappings : List ℕ) (ranges : Option (List ℕ))
-    → later ≡ later_after false (leading_entries m)
-    → parts_text false (leading_entries m) ++ (parts_text later (token_entries m mappings ranges)
-    ++ (parts_text true (source_entries m) ++ part true version_entry))
+pub parts_joined : (later : Bool) (m : PartsValue) (mappings : List ℕ) (ranges : Option (List ℕ))
+    → later ≡ later_after false (leading_entries m.metadata)
+    → parts_text false (leading_entries m.metadata) ++ (parts_text later (token_entries m.names mappings ranges)
+    ++ (parts_text true (source_entries m.sources m.contents) ++ part true version_entry))
     ≡ parts_text false (map_entries m mappings ranges)
 parts_joined later m mappings ranges is =
-    let sources = ap (λ t. parts_text true (source_entries m) ++ t) (sym (append-nil (part true version_entry)))
-    ∙ parts_append true (source_entries m) (version_entry ∷ []) in
-    let tokens = ap (λ t. parts_text later (token_entries m mappings ranges) ++ t) sources
-    ∙ ap (λ b. parts_text later (token_entries m mappings ranges)
-    ++ parts_text b (source_entries m ++ version_entry ∷ [])) (sym (later_after_tokens later m mappings ranges))
-    ∙ parts_append later (token_entries m mappings ranges) (source_entries m ++ version_entry ∷ []) in
-    ap (λ t. parts_text false (leading_entries m) ++ t) tokens
-    ∙ ap (λ b. parts_text false (leading_entries m)
-    ++ parts_text b (token_entries m mappings ranges ++ (source_entries m ++ version_entry ∷ []))) is
-    ∙ parts_append false (leading_entries m)
-    (token_entries m mappings ranges ++ (source_entries m ++ version_entry ∷ []))
+    let leading = leading_entries m.metadata in
+    let tokens = token_entries m.names mappings ranges in
+    let sources = source_entries m.sources m.contents in
+    let end : List Entry = version_entry ∷ [] in
+    let with_sources = ap (λ t. parts_text true sources ++ t) (sym (append-nil (part true version_entry)))
+    ∙ parts_append true sources end in
+    let with_tokens = ap (λ t. parts_text later tokens ++ t) with_sources
+    ∙ ap (λ b. parts_text later tokens ++ parts_text b (sources ++ end))
+    (sym (later_after_tokens later m.names mappings ranges))
+    ∙ parts_append later tokens (sources ++ end) in
+    ap (λ t. parts_text false leading ++ t) with_tokens
+    ∙ ap (λ b. parts_text false leading ++ parts_text b (tokens ++ (sources ++ end))) is
+    ∙ parts_append false leading (tokens ++ (sources ++ end))
 
 -- Values that read back.
 
@@ -305,7 +310,7 @@ plain_chain done (e ∷ es) up ascii fine =
     (subst (λ (before : Members). IsPlainRest before (chain es) (chain ((done ++ e ∷ []) ++ es)))
     (sym (last e.0 e.1 done (above_past e.0 done each.0))) rest))
 
-plain_written : (m : MapValue) (mappings : List ℕ) (ranges : Option (List ℕ))
+plain_written : (m : PartsValue) (mappings : List ℕ) (ranges : Option (List ℕ))
     → AllByRecursion IsPlainEntry (map_entries m mappings ranges)
     → IsPlainValue (written (plain (record_with m mappings ranges)))
 plain_written m mappings ranges fine =
@@ -314,7 +319,7 @@ plain_written m mappings ranges fine =
     (plain_chain [] (map_entries m mappings ranges) refl refl fine))
 
 -- if each entry is plain, the texts of the entries between `{` and `}` are the JSON text of the record
-pub text_is : (m : MapValue) (mappings : List ℕ) (ranges : Option (List ℕ)) (text : List ℕ)
+pub text_is : (m : PartsValue) (mappings : List ℕ) (ranges : Option (List ℕ)) (text : List ℕ)
     → AllByRecursion IsPlainEntry (map_entries m mappings ranges)
     → text ≡ 123 ∷ (parts_text false (map_entries m mappings ranges) ++ 125 ∷ [])
     → IsText (plain (record_with m mappings ranges)) text

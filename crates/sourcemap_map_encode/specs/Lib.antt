@@ -1,3 +1,4 @@
 pub mod Buffered
+pub mod Encoded
 pub mod Members
 pub mod Segments

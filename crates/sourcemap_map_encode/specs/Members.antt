@@ -1,19 +1,19 @@
 -- The JSON text of a map's record, member by member, sorted by the bytes of the keys.
-use Rattle.std.specs.Prelude.{◌≡◌, ℕ, ◌≤◌, true, List, [], ◌∷◌, ◌++◌, length, codes, Bool, ◌||◌, is_some, Option, Some}
-use Rattle.std.specs.Prelude.{None, option_map, IfSome}
+use Rattle.std.specs.Prelude.{◌≡◌, ℕ, true, List, [], ◌∷◌, ◌++◌, length, codes, Bool, ◌||◌, is_some, Option, Some, None}
+use Rattle.std.specs.Prelude.{option_map, IfSome}
 use Rattle.std.specs.List.{AllByRecursion}
-use Rattle.std.specs.List.Sorted.{IsStrictlySortedBy}
-use Rattle.std.specs.Ordering.{nat_cmp}
 use Rattle.json.specs.Print.{quoted}
 use Rattle.serde_json.specs.Data.{Data, string}
 use Rattle.serde_json.specs.Written.{comma_if, compact_text}
 use Rattle.sourcemap_headers.specs.DebugId.{IsId, debug_id_text}
+use Rattle.sourcemap_tokens.specs.declared.tokens.RawToken.{RawToken}
 use Rattle.sourcemap_mappings.specs.Write.{IsRangeText}
 use Rattle.sourcemap_json_write.specs.Writing.{IsPlainValue}
 use Rattle.sourcemap_records.specs.Field.{written_list, written_number, written_or_null}
 use Rattle.sourcemap_records.specs.Jsontypes.{FitsU32}
-use Rattle.sourcemap_map_regular.specs.Map.{MapValue}
-use Rattle.sourcemap_map_regular.specs.Encode.{written_contents, written_ids}
+use Rattle.sourcemap_map_parts.specs.MapMetadata.{MetadataValue}
+use Rattle.sourcemap_map_parts.specs.Sources.{SourcesValue}
+use Rattle.sourcemap_map_conversions.specs.ToRecord.{written_contents, written_ids}
 use Rattle.sourcemap_map_encode.specs.Segments.{IsMappingsText}
 
 -- a key, and its value if there is one
@@ -76,39 +76,37 @@ abbrev pub version_entry : Entry
 version_entry = (codes "version", Some (written_number 3))
 
 -- the members before `mappings`
-abbrev pub leading_entries : MapValue → List Entry
+abbrev pub leading_entries : MetadataValue → List Entry
 leading_entries m = debug_id_entry m.debug_id ∷ file_entry m.file ∷ ids_entry m.ignored ∷ []
 
 -- `mappings`, `names` and `rangeMappings`
-abbrev pub token_entries : MapValue → List ℕ → Option (List ℕ) → List Entry
-token_entries m mappings ranges = mappings_entry mappings ∷ names_entry m.names ∷ ranges_entry ranges ∷ []
+abbrev pub token_entries : List (List ℕ) → List ℕ → Option (List ℕ) → List Entry
+token_entries names mappings ranges = mappings_entry mappings ∷ names_entry names ∷ ranges_entry ranges ∷ []
 
 -- `sourceRoot`, `sources` and `sourcesContent`
-abbrev pub source_entries : MapValue → List Entry
-source_entries m = root_entry m.root ∷ sources_entry m.sources ∷ contents_entry (length m.sources) m.contents ∷ []
+abbrev pub source_entries : SourcesValue → List (Option (List ℕ)) → List Entry
+source_entries s contents = root_entry s.root ∷ sources_entry s.texts ∷ contents_entry (length s.texts) contents ∷ []
 
--- the debug id, if any, has 16 bytes; each ignored id is below 2^32; the ignored ids are sorted, without repeats
-pub record HasSoundLeadingMembers (m : MapValue) : Type 0 where
+-- the debug id, if any, has 16 bytes; each ignored id is below 2^32
+pub record HasSoundLeadingMembers (m : MetadataValue) : Type 0 where
   pub id : IfSome m.debug_id IsId
   pub small : AllByRecursion FitsU32 m.ignored
-  pub rising : IsStrictlySortedBy nat_cmp m.ignored
 
--- the text of the member `mappings`
-abbrev pub IsMappingsPart : Bool → MapValue → List ℕ → Type 0
-IsMappingsPart later m text = (mappings : List ℕ) × IsMappingsText (length m.names) m.tokens mappings × (text
+-- the text of the member `mappings`, in a map with `names` names
+abbrev pub IsMappingsPart : Bool → ℕ → List RawToken → List ℕ → Type 0
+IsMappingsPart later names tokens text = (mappings : List ℕ) × IsMappingsText names tokens mappings × (text
     ≡ part later (mappings_entry mappings))
 
 -- the text of the member `rangeMappings`; empty if no token is a range token
-abbrev pub IsRangesPart : MapValue → List ℕ → Type 0
-IsRangesPart m text = (ranges : Option (List ℕ)) × IsRangeText m.tokens ranges × IsPlainEntry (ranges_entry ranges)
+abbrev pub IsRangesPart : List RawToken → List ℕ → Type 0
+IsRangesPart tokens text = (ranges : Option (List ℕ)) × IsRangeText tokens ranges × IsPlainEntry (ranges_entry ranges)
     × (text ≡ part true (ranges_entry ranges))
 
 -- the text of the members `mappings`, `names` and `rangeMappings`
-pub record IsTokensText (later : Bool) (m : MapValue) (text : List ℕ) : Type 0 where
+pub record IsTokensText (later : Bool) (names : List (List ℕ)) (tokens : List RawToken) (text : List ℕ) : Type 0 where
   pub mappings : List ℕ
   pub ranges : Option (List ℕ)
-  pub of_mappings : IsMappingsText (length m.names) m.tokens mappings
-  pub of_ranges : IsRangeText m.tokens ranges
-  pub is_plain : AllByRecursion IsPlainEntry (token_entries m mappings ranges)
-  pub few_names : length m.names ≤ 4294967295
-  pub is : text ≡ parts_text later (token_entries m mappings ranges)
+  pub of_mappings : IsMappingsText (length names) tokens mappings
+  pub of_ranges : IsRangeText tokens ranges
+  pub is_plain : AllByRecursion IsPlainEntry (token_entries names mappings ranges)
+  pub is : text ≡ parts_text later (token_entries names mappings ranges)

@@ -2,8 +2,8 @@
 ghost use Rattle.std.specs.Prelude.{◌≡◌, [], OnOk, IfErr, replicate, string_bytes};
 ghost use Rattle.sourcemap_errors.specs.Answer.{UnlessMemory};
 ghost use Rattle.sourcemap_mappings.specs.Segment.{semicolon};
-ghost use Rattle.sourcemap_map_regular.specs.Write.{IsIo};
 ghost use Rattle.sourcemap_map_encode.specs.Buffered.{Grows};
+ghost use Rattle.sourcemap_map_encode.specs.Encoded.{IsIo};
 
 use sourcemap_errors::errors::Result;
 use std::io::Write;

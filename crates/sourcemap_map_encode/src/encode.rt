@@ -1,10 +1,8 @@
-//! Writes a regular map in pieces.
+//! Writes the parts of a regular map as compact JSON, in pieces.
 ghost use Rattle.std.specs.Prelude.{◌≡◌, ◌≤◌, ◌||◌, ℕ, List, None, true, false, map, is_some, length, OnOk, IfOk};
 ghost use Rattle.std.specs.Prelude.{IfErr, IfSome, string_bytes};
 ghost use Rattle.std.specs.Option.{option_copied};
 ghost use Rattle.std.specs.List.{AllByRecursion, list_any};
-ghost use Rattle.std.specs.List.Sorted.{IsStrictlySortedBy};
-ghost use Rattle.std.specs.Ordering.{nat_cmp};
 ghost use Rattle.std.specs.Io.KnownBytes.{Appends};
 ghost use Rattle.serde_json.specs.Data.{string};
 ghost use Rattle.serde_json.specs.Written.{compact_text};
@@ -14,9 +12,9 @@ ghost use Rattle.sourcemap_map_parts.specs.Contents.{fitted};
 ghost use Rattle.sourcemap_json_write.specs.Writing.{IsPlainValue};
 ghost use Rattle.sourcemap_records.specs.Field.{written_list, written_or_null};
 ghost use Rattle.sourcemap_records.specs.Jsontypes.{FitsU32};
-ghost use Rattle.sourcemap_map_regular.specs.Encode.{RecordAnswer};
-ghost use Rattle.sourcemap_map_regular.specs.Write.{IsEncoded, IsIo};
+ghost use Rattle.sourcemap_map_conversions.specs.ToRecord.{RecordAnswer};
 ghost use Rattle.sourcemap_map_encode.specs.Buffered.{Grows, GrowsBy};
+ghost use Rattle.sourcemap_map_encode.specs.Encoded.{IsEncoded, IsIo};
 ghost use Rattle.sourcemap_map_encode.specs.Members.{part, parts_text, later_after, IsPlainEntry, debug_id_entry};
 ghost use Rattle.sourcemap_map_encode.specs.Members.{ids_entry, names_entry, contents_entry, version_entry};
 ghost use Rattle.sourcemap_map_encode.specs.Members.{leading_entries, source_entries, HasSoundLeadingMembers};
@@ -29,29 +27,48 @@ use crate::segments::put_mappings;
 use crate::texts::{put_comma, put_number, put_numbers, put_text, put_texts};
 use sourcemap_errors::errors::Result;
 use sourcemap_headers::debug_id::DebugId;
-use sourcemap_map_regular::map::SourceMap;
+use sourcemap_line_index::token_list::TokenList;
+use sourcemap_map_parts::contents::Contents;
+use sourcemap_map_parts::metadata::MapMetadata;
+use sourcemap_map_parts::sources::Sources;
 use sourcemap_mappings::write::has_range;
+use sourcemap_source_views::sourceview::SourceView;
 use std::alloc::Global;
 use std::io::Write;
 
-/// Writes a map as compact JSON, the same bytes as `encode_to`, to a borrowed writer.
+/// Writes the parts of a map as compact JSON, the same bytes as the record of `record_of` has, to a
+/// borrowed writer.
 ///
 /// The text is written in pieces of less than 32 KB, with two exceptions. If the JSON text of a
 /// string in the map has 16 KB or more, the text of this string is a piece of its own. The range
 /// bits of a line are never split, so a piece may have all range bits of a line in addition to less
 /// than 32 KB of other text. So the whole text of the map is in memory at once only if the text of
 /// the map is short. The errors are `OutOfMemory`, and `Io` if a write fails for another reason.
-/// After an error the writer may hold any part of the text.
-pub fn encode_in_parts<W: Write>(alloc: Global, map: &SourceMap, writer: &mut W) -> Result<()>
-    ensures written { OnOk result ((text : List ℕ) × IsEncoded (RecordAnswer map.now) text
-        × Appends (W.contents writer.old) (W.contents writer.new) text) }
+/// After an error the writer may hold any part of the text. Requires at most 4294967295 names.
+pub fn write_parts<W: Write>(
+    alloc: Global,
+    metadata: &MapMetadata,
+    tokens: &TokenList,
+    names: &[String],
+    sources: &Sources,
+    contents: &Contents,
+    writer: &mut W,
+) -> Result<()>
+    requires { length names.now ≤ 4294967295 }
+    ensures written { OnOk result ((text : List ℕ) × IsEncoded (RecordAnswer (record {
+      metadata = metadata.now;
+      tokens = tokens.now;
+      names = map string_bytes names.now;
+      sources = sources.now;
+      contents = contents.now;
+    })) text × Appends (W.contents writer.old) (W.contents writer.new) text) }
     ensures error { IfErr result (λ e. UnlessMemory e (IsIo e)) }
 {
     let mut buffer = String::with_capacity(alloc, PIECE)?;
     put(writer, &mut buffer, "{")?;
-    let later = put_leading_members(alloc, writer, &mut buffer, map)?;
-    put_tokens(alloc, writer, &mut buffer, later, map)?;
-    put_sources(alloc, writer, &mut buffer, map)?;
+    let later = put_leading_members(alloc, writer, &mut buffer, metadata)?;
+    put_tokens(alloc, writer, &mut buffer, later, tokens, names)?;
+    put_sources(alloc, writer, &mut buffer, sources, contents)?;
     put_version(alloc, writer, &mut buffer)?;
     put(writer, &mut buffer, "}")?;
     flush(writer, &mut buffer)
@@ -62,30 +79,28 @@ fn put_leading_members<W: Write>(
     alloc: Global,
     writer: &mut W,
     buffer: &mut String,
-    map: &SourceMap,
+    metadata: &MapMetadata,
 ) -> Result<bool>
     ensures text { OnOk result (Grows (W.contents writer.old) (string_bytes buffer.old)
         (W.contents writer.new) (string_bytes buffer.new)
-        (parts_text false (leading_entries map.now))) }
-    ensures later { IfOk result (λ later. later ≡ later_after false (leading_entries map.now)) }
-    ensures is_plain { OnOk result (AllByRecursion IsPlainEntry (leading_entries map.now)) }
-    ensures sound { OnOk result (HasSoundLeadingMembers map.now) }
+        (parts_text false (leading_entries metadata.now))) }
+    ensures later { IfOk result (λ later.
+        later ≡ later_after false (leading_entries metadata.now)) }
+    ensures is_plain { OnOk result (AllByRecursion IsPlainEntry (leading_entries metadata.now)) }
+    ensures sound { OnOk result (HasSoundLeadingMembers metadata.now) }
     ensures error { IfErr result (λ e. UnlessMemory e (IsIo e)) }
 {
-    let later = put_debug_id(alloc, writer, buffer, map.get_debug_id())?;
-    let later = put_text_if(alloc, writer, buffer, later, "file", map.get_file())?;
-    let ids = ids_of(alloc, map)?;
+    let later = put_debug_id(alloc, writer, buffer, metadata.debug_id())?;
+    let later = put_text_if(alloc, writer, buffer, later, "file", metadata.file())?;
+    let ids = ids_of(alloc, metadata)?;
     put_ids(alloc, writer, buffer, later, ids.as_slice())
 }
 
-fn ids_of(alloc: Global, map: &SourceMap) -> Result<Vec<u32>>
-    ensures items { IfOk result (λ ids. ids.items ≡ map.now.ignored) }
-    ensures rising { IsStrictlySortedBy nat_cmp map.now.ignored }
+fn ids_of(alloc: Global, metadata: &MapMetadata) -> Result<Vec<u32>>
+    ensures items { IfOk result (λ ids. ids.items ≡ metadata.now.ignored) }
     ensures error { IfErr result (λ e. UnlessMemory e (IsIo e)) }
 {
-    // prover: ids are sorted
-    let _ = map.ignore_list();
-    Ok(map.lists().ignored.iter().copied().collect(alloc)?)
+    Ok(metadata.ignore_list().iter().copied().collect(alloc)?)
 }
 
 fn put_debug_id<W: Write>(
@@ -132,42 +147,52 @@ fn put_ids<W: Write>(
     Ok(true)
 }
 
-// Writes `mappings` and `names`. If the map has range tokens, also writes `rangeMappings`. Members
-// are sorted by the bytes of their keys.
+// Writes `mappings` and `names`. If there are range tokens, also writes `rangeMappings`. Members are
+// sorted by the bytes of their keys.
 fn put_tokens<W: Write>(
     alloc: Global,
     writer: &mut W,
     buffer: &mut String,
     later: bool,
-    map: &SourceMap,
+    tokens: &TokenList,
+    names: &[String],
 ) -> Result<()>
-    ensures text { OnOk result (GrowsBy (IsTokensText later map.now)
+    requires { length names.now ≤ 4294967295 }
+    ensures text { OnOk result (GrowsBy
+        (IsTokensText later (map string_bytes names.now) tokens.now)
         (W.contents writer.old) (string_bytes buffer.old)
         (W.contents writer.new) (string_bytes buffer.new)) }
     ensures error { IfErr result (λ e. UnlessMemory e (IsIo e)) }
 {
-    put_mappings_member(alloc, writer, buffer, later, map)?;
-    put_names(alloc, writer, buffer, map)?;
-    put_range_bits(alloc, writer, buffer, map)
+    put_mappings_member(alloc, writer, buffer, later, tokens, name_count(names))?;
+    put_names(alloc, writer, buffer, names)?;
+    put_range_bits(alloc, writer, buffer, tokens)
 }
 
+fn name_count(names: &[String]) -> u32
+    requires { length names.now ≤ 4294967295 }
+    ensures { result ≡ length (map string_bytes names.now) }
+{
+    names.len() as u32
+}
+
+// Writes `mappings`. `names` is the number of names.
 fn put_mappings_member<W: Write>(
     alloc: Global,
     writer: &mut W,
     buffer: &mut String,
     later: bool,
-    map: &SourceMap,
+    tokens: &TokenList,
+    names: u32,
 ) -> Result<()>
-    ensures text { OnOk result (GrowsBy (IsMappingsPart later map.now)
+    ensures text { OnOk result (GrowsBy (IsMappingsPart later names tokens.now)
         (W.contents writer.old) (string_bytes buffer.old)
         (W.contents writer.new) (string_bytes buffer.new)) }
-    ensures few { length map.now.names ≤ 4294967295 }
     ensures error { IfErr result (λ e. UnlessMemory e (IsIo e)) }
 {
-    let names = map.get_name_count();
     put_key(alloc, writer, buffer, later, "mappings")?;
     put(writer, buffer, "\"")?;
-    put_mappings(writer, buffer, map.lists().tokens, names)?;
+    put_mappings(writer, buffer, tokens.as_slice(), names)?;
     put(writer, buffer, "\"")
 }
 
@@ -175,30 +200,30 @@ fn put_names<W: Write>(
     alloc: Global,
     writer: &mut W,
     buffer: &mut String,
-    map: &SourceMap,
+    names: &[String],
 ) -> Result<()>
     ensures text { OnOk result (Grows (W.contents writer.old) (string_bytes buffer.old)
         (W.contents writer.new) (string_bytes buffer.new)
-        (part true (names_entry map.now.names))) }
-    ensures is_plain { OnOk result (IsPlainEntry (names_entry map.now.names)) }
+        (part true (names_entry (map string_bytes names.now)))) }
+    ensures is_plain { OnOk result (IsPlainEntry (names_entry (map string_bytes names.now))) }
     ensures error { IfErr result (λ e. UnlessMemory e (IsIo e)) }
 {
     put_key(alloc, writer, buffer, true, "names")?;
-    put_texts(alloc, writer, buffer, map.lists().names)
+    put_texts(alloc, writer, buffer, names)
 }
 
 fn put_range_bits<W: Write>(
     alloc: Global,
     writer: &mut W,
     buffer: &mut String,
-    map: &SourceMap,
+    tokens: &TokenList,
 ) -> Result<()>
-    ensures text { OnOk result (GrowsBy (IsRangesPart map.now)
+    ensures text { OnOk result (GrowsBy (IsRangesPart tokens.now)
         (W.contents writer.old) (string_bytes buffer.old)
         (W.contents writer.new) (string_bytes buffer.new)) }
     ensures error { IfErr result (λ e. UnlessMemory e (IsIo e)) }
 {
-    let tokens = map.lists().tokens;
+    let tokens = tokens.as_slice();
     if !has_range(tokens) {
         return Ok(());
     }
@@ -212,90 +237,90 @@ fn put_sources<W: Write>(
     alloc: Global,
     writer: &mut W,
     buffer: &mut String,
-    map: &SourceMap,
+    sources: &Sources,
+    contents: &Contents,
 ) -> Result<()>
     ensures text { OnOk result (Grows (W.contents writer.old) (string_bytes buffer.old)
         (W.contents writer.new) (string_bytes buffer.new)
-        (parts_text true (source_entries map.now))) }
-    ensures is_plain { OnOk result (AllByRecursion IsPlainEntry (source_entries map.now)) }
-    ensures few { length map.now.sources ≤ 4294967295 }
+        (parts_text true (source_entries sources.now contents.now))) }
+    ensures is_plain { OnOk result
+        (AllByRecursion IsPlainEntry (source_entries sources.now contents.now)) }
     ensures error { IfErr result (λ e. UnlessMemory e (IsIo e)) }
 {
-    // prover: there are at most 4294967295 sources
-    let _ = map.get_source_count();
-    let root = map.get_source_root();
-    put_text_if(alloc, writer, buffer, true, "sourceRoot", root)?;
+    put_text_if(alloc, writer, buffer, true, "sourceRoot", sources.root())?;
     put_key(alloc, writer, buffer, true, "sources")?;
-    put_unresolved_sources(alloc, writer, buffer, map)?;
-    put_contents(alloc, writer, buffer, map)
+    put_unresolved_sources(alloc, writer, buffer, sources)?;
+    put_contents(alloc, writer, buffer, sources.len(), contents)
 }
 
 fn put_unresolved_sources<W: Write>(
     alloc: Global,
     writer: &mut W,
     buffer: &mut String,
-    map: &SourceMap,
+    sources: &Sources,
 ) -> Result<()>
     ensures text { OnOk result (Grows (W.contents writer.old) (string_bytes buffer.old)
         (W.contents writer.new) (string_bytes buffer.new)
-        (compact_text (written_list string map.now.sources))) }
-    ensures is_plain { OnOk result (IsPlainValue (written_list string map.now.sources)) }
+        (compact_text (written_list string sources.now.texts))) }
+    ensures is_plain { OnOk result (IsPlainValue (written_list string sources.now.texts)) }
     ensures error { IfErr result (λ e. UnlessMemory e (IsIo e)) }
 {
-    put_texts(alloc, writer, buffer, map.unresolved_sources())
+    put_texts(alloc, writer, buffer, sources.unresolved())
 }
 
-fn has_contents(map: &SourceMap) -> bool
-    ensures { result ≡ list_any is_some (fitted (length map.now.sources) map.now.contents) }
+// Whether one of the first `count` sources has contents.
+fn has_contents(count: u32, contents: &Contents) -> bool
+    ensures { result ≡ list_any is_some (fitted count contents.now) }
 {
-    for text in map.source_contents() {
-        if text.is_some() {
+    for id in 0..count {
+        if contents.get(id).is_some() {
             return true;
         }
     }
     false
 }
 
-// If at least one source has contents, writes `sourcesContent`, with one item for each source.
+// If one of the `count` sources has contents, writes `sourcesContent`, with one item for each
+// source.
 fn put_contents<W: Write>(
     alloc: Global,
     writer: &mut W,
     buffer: &mut String,
-    map: &SourceMap,
+    count: u32,
+    contents: &Contents,
 ) -> Result<()>
     ensures text { OnOk result (Grows (W.contents writer.old) (string_bytes buffer.old)
         (W.contents writer.new) (string_bytes buffer.new)
-        (part true (contents_entry (length map.now.sources) map.now.contents))) }
-    ensures is_plain { OnOk result
-        (IsPlainEntry (contents_entry (length map.now.sources) map.now.contents)) }
+        (part true (contents_entry count contents.now))) }
+    ensures is_plain { OnOk result (IsPlainEntry (contents_entry count contents.now)) }
     ensures error { IfErr result (λ e. UnlessMemory e (IsIo e)) }
 {
-    if !has_contents(map) {
+    if !has_contents(count, contents) {
         return Ok(());
     }
     put_key(alloc, writer, buffer, true, "sourcesContent")?;
-    put_content_list(alloc, writer, buffer, map)
+    put_content_list(alloc, writer, buffer, count, contents)
 }
 
 fn put_content_list<W: Write>(
     alloc: Global,
     writer: &mut W,
     buffer: &mut String,
-    map: &SourceMap,
+    count: u32,
+    contents: &Contents,
 ) -> Result<()>
     ensures text { OnOk result (Grows (W.contents writer.old) (string_bytes buffer.old)
         (W.contents writer.new) (string_bytes buffer.new)
-        (compact_text (written_list (written_or_null string)
-        (fitted (length map.now.sources) map.now.contents)))) }
-    ensures is_plain { OnOk result (IsPlainValue (written_list (written_or_null string)
-        (fitted (length map.now.sources) map.now.contents))) }
+        (compact_text (written_list (written_or_null string) (fitted count contents.now)))) }
+    ensures is_plain { OnOk result
+        (IsPlainValue (written_list (written_or_null string) (fitted count contents.now))) }
     ensures error { IfErr result (λ e. UnlessMemory e (IsIo e)) }
 {
     put(writer, buffer, "[")?;
     let mut later = false;
-    for text in map.source_contents() {
+    for id in 0..count {
         put_comma(writer, buffer, later)?;
-        put_content(alloc, writer, buffer, text)?;
+        put_content(alloc, writer, buffer, contents.get(id))?;
         later = true;
     }
     put(writer, buffer, "]")
@@ -305,16 +330,17 @@ fn put_content<W: Write>(
     alloc: Global,
     writer: &mut W,
     buffer: &mut String,
-    text: Option<&str>,
+    view: Option<&SourceView>,
 ) -> Result<()>
     ensures text { OnOk result (Grows (W.contents writer.old) (string_bytes buffer.old)
         (W.contents writer.new) (string_bytes buffer.new)
-        (compact_text (written_or_null string (option_copied text.entry)))) }
-    ensures is_plain { OnOk result (IsPlainValue (written_or_null string (option_copied text.entry))) }
+        (compact_text (written_or_null string (option_copied view.entry)))) }
+    ensures is_plain { OnOk result
+        (IsPlainValue (written_or_null string (option_copied view.entry))) }
     ensures error { IfErr result (λ e. UnlessMemory e (IsIo e)) }
 {
-    match text {
-        Some(text) => put_text(alloc, writer, buffer, text),
+    match view {
+        Some(view) => put_text(alloc, writer, buffer, view.source()),
         None => put(writer, buffer, "null"),
     }
 }

@@ -1,5 +1,5 @@
-//! Writes a regular map as compact JSON in pieces, through a small buffer; knows nothing of Hermes
-//! and index maps.
+//! Writes the parts of a regular map as compact JSON in pieces, through a small buffer. It knows no
+//! type of map.
 #![tactic(auto)]
 
 mod buffered;

@@ -3,8 +3,8 @@ ghost use Rattle.std.specs.Prelude.{◌≡◌, ◌||◌, is_some, option_copied,
 ghost use Rattle.std.specs.Prelude.{string_bytes};
 ghost use Rattle.serde_json.specs.Data.{string};
 ghost use Rattle.sourcemap_errors.specs.Answer.{UnlessMemory};
-ghost use Rattle.sourcemap_map_regular.specs.Write.{IsIo};
 ghost use Rattle.sourcemap_map_encode.specs.Buffered.{Grows};
+ghost use Rattle.sourcemap_map_encode.specs.Encoded.{IsIo};
 ghost use Rattle.sourcemap_map_encode.specs.Members.{key_text, part, IsPlainEntry};
 
 use crate::buffered::put;

@@ -2,8 +2,8 @@
 ghost use Rattle.std.specs.Prelude.{OnOk, IfErr, string_bytes};
 ghost use Rattle.sourcemap_errors.specs.Answer.{UnlessMemory};
 ghost use Rattle.sourcemap_tokens.specs.Tokens.{AreInOrder};
-ghost use Rattle.sourcemap_map_regular.specs.Write.{IsIo};
 ghost use Rattle.sourcemap_map_encode.specs.Buffered.{GrowsBy};
+ghost use Rattle.sourcemap_map_encode.specs.Encoded.{IsIo};
 ghost use Rattle.sourcemap_map_encode.specs.Segments.{IsBitsText, IsLineOfBits};
 
 use crate::buffered::put_line_ends;

@@ -4,8 +4,8 @@ ghost use Rattle.std.specs.Str.{IsAscii};
 ghost use Rattle.sourcemap_errors.specs.Answer.{UnlessMemory};
 ghost use Rattle.sourcemap_tokens.specs.Tokens.{AreInOrder};
 ghost use Rattle.sourcemap_mappings.specs.Segment.{semicolon};
-ghost use Rattle.sourcemap_map_regular.specs.Write.{IsIo};
 ghost use Rattle.sourcemap_map_encode.specs.Buffered.{Grows, GrowsBy};
+ghost use Rattle.sourcemap_map_encode.specs.Encoded.{IsIo};
 ghost use Rattle.sourcemap_map_encode.specs.Segments.{IsMappingsText, before_line};
 
 use crate::buffered::{flush_piece, put_line_ends};

@@ -8,15 +8,19 @@ ghost use Rattle.serde_json.specs.Written.{comma_if, compact_text, has_float};
 ghost use Rattle.sourcemap_errors.specs.Answer.{UnlessMemory};
 ghost use Rattle.sourcemap_records.specs.Field.{written_list, written_number};
 ghost use Rattle.sourcemap_records.specs.Jsontypes.{FitsU32};
-ghost use Rattle.sourcemap_map_regular.specs.Write.{IsIo};
 ghost use Rattle.sourcemap_map_encode.specs.Buffered.{Grows};
+ghost use Rattle.sourcemap_map_encode.specs.Encoded.{IsIo};
 
-use crate::buffered::put;
+use crate::buffered::{flush_piece, put};
 use serde_json::Value;
 use sourcemap_errors::errors::Result;
-use sourcemap_json_write::writing::{text_to_string, value_to_string};
+use sourcemap_json_write::writing::{push_quoted, text_to_string, value_to_string};
 use std::alloc::Global;
 use std::io::Write;
+
+// A text of fewer bytes is quoted in the buffer, without a copy of its own. It then has less than
+// `PIECE` bytes, since an escape has at most six.
+const SHORT: usize = 1 << 11;
 
 /// Writes a value as compact JSON. The value must not contain a float, not even 1.0. The errors
 /// are `Io` and `OutOfMemory`.
@@ -47,6 +51,10 @@ pub(crate) fn put_text<W: Write>(
     ensures utf8 { OnOk result (IsUtf8 text.now) }
     ensures error { IfErr result (λ e. UnlessMemory e (IsIo e)) }
 {
+    if text.len() < SHORT {
+        push_quoted(buffer, text)?;
+        return flush_piece(writer, buffer);
+    }
     let quoted = text_to_string(alloc, text)?;
     put(writer, buffer, quoted.as_str())
 }

@@ -31,6 +31,7 @@ use Rattle.sourcemap_map_regular.specs.Decode.{list_or_empty, name_read, source_
 use Rattle.sourcemap_map_regular.specs.Decode.{TokensAnswer, map_of, RecordDecodes}
 use Rattle.sourcemap_map_regular.proofs.MapLemmas.{of_item, meaning-item}
 use Rattle.sourcemap_map_regular.specs.Encode.{KeepsParts, ReadsBack, Restores, RecordAnswer, record_with, written_ids}
+use Rattle.sourcemap_map_regular.specs.Write.{IsEncoded}
 
 -- Sorting strictly sorted ids changes nothing.
 
@@ -192,6 +193,11 @@ answered m few_names few_sources up t ((mappings, ranges, texts, is), fine) = (
   λ well. subst (λ r. ReadsBack (RecordDecodes r) (Restores m)) (sym (ap flat is))
       (reads_back m mappings ranges few_names few_sources up (texts.back (length m.sources) (omega arith) well)),
 )
+
+pub encoded-map : (m : MapValue) → length m.names ≤ 4294967295 → length m.sources ≤ 4294967295
+    → IsStrictlySortedBy nat_cmp m.ignored
+    → (text : List ℕ) → IsEncoded (PartsAnswer (parts_in m)) text → IsEncoded (RecordAnswer m) text
+encoded-map m few_names few_sources up text (t, answer, is) = (t, answered m few_names few_sources up t answer, is)
 
 pub answered-if : (m : MapValue) → length m.names ≤ 4294967295 → length m.sources ≤ 4294967295
     → IsStrictlySortedBy nat_cmp m.ignored

@@ -1,18 +1,24 @@
-//! Encodes maps as records.
-ghost use Rattle.std.specs.Prelude.{◌≡◌, ◌≤◌, IfOk, vec_len};
-ghost use Rattle.sourcemap_errors.specs.Answer.{IsAnswer};
+//! Encodes maps as records and as JSON text.
+ghost use Rattle.std.specs.Prelude.{◌≡◌, ◌≤◌, ℕ, List, Err, IfErr, IfOk, OnOk, vec_len};
+ghost use Rattle.std.specs.Io.KnownBytes.{Appends};
+ghost use Rattle.sourcemap_errors.specs.Answer.{IsAnswer, UnlessMemory};
 ghost use Rattle.sourcemap_map_conversions.specs.Parts.{parts_view};
 ghost use Rattle.sourcemap_records.specs.Jsontypes.{tree, flat, Tree, IsFine};
 ghost use Rattle.sourcemap_map_regular.specs.Map.{MapValue};
-ghost use Rattle.sourcemap_map_regular.specs.Encode.{IsRecordOf};
+ghost use Rattle.sourcemap_map_regular.specs.Encode.{IsRecordOf, RecordAnswer};
+ghost use Rattle.sourcemap_map_regular.specs.Write.{IsEncoded, IsIo};
 
 use crate::map::SourceMap;
-use sourcemap_errors::errors::Result;
+use sourcemap_errors::errors::{Error, Result};
+use sourcemap_json_write::writing::value_to_vec;
 use sourcemap_map_conversions::parts::Parts;
 use sourcemap_map_conversions::to_record::{into_record, record_of};
+use sourcemap_map_encode::encode::write_parts;
 use sourcemap_records::jsontypes::RawSourceMap;
+use std::alloc::Global;
+use std::io::Write;
 
-/// A map of any kind, which can be encoded as a record.
+/// A map of any kind, which can be encoded as a record and as a JSON text.
 pub trait Encodable {
     ghost use Rattle.std.specs.Prelude.{Result};
     ghost use Rattle.sourcemap_errors.specs.declared.errors.Error.{Error};
@@ -26,12 +32,22 @@ pub trait Encodable {
     /// The record of the map.
     fn as_raw_sourcemap(&self) -> Result<RawSourceMap>
         ensures { IsAnswer tree (encodes self.now) result };
+
+    /// The compact JSON text of the record, as bytes. The errors are `OutOfMemory` and those of
+    /// `as_raw_sourcemap`.
+    fn compact_text(&self, alloc: Global) -> Result<Vec<u8>>
+        ensures text { IfOk result (λ text. IsEncoded (encodes self.now) text.items) }
+        ensures error { IfErr result (λ e. UnlessMemory e (encodes self.now (Err e))) }
+    {
+        let value = self.as_raw_sourcemap()?.into_value(alloc)?;
+        Ok(value_to_vec(alloc, &value)?)
+    }
 }
 
 impl Encodable for SourceMap {
     ghost use Rattle.sourcemap_map_regular.specs.Map.{IsWellFormed};
     ghost use Rattle.sourcemap_map_regular.specs.Decode.{RecordDecodes};
-    ghost use Rattle.sourcemap_map_regular.specs.Encode.{RecordAnswer, ReadsBack, Restores};
+    ghost use Rattle.sourcemap_map_regular.specs.Encode.{ReadsBack, Restores};
 
     ghost encodes = { RecordAnswer };
 
@@ -61,10 +77,23 @@ impl Encodable for SourceMap {
             &self.contents,
         )
     }
+
+    /// The compact JSON text of the record, as bytes, written without the record. The only error is
+    /// `OutOfMemory`.
+    fn compact_text(&self, alloc: Global) -> Result<Vec<u8>>
+        ensures text { IfOk result (λ text. IsEncoded (RecordAnswer self.now) text.items) }
+        ensures error { IfErr result (λ e. UnlessMemory e (RecordAnswer self.now (Err e))) }
+    {
+        let mut text = Vec::new(alloc);
+        match encode_in_parts(alloc, self, &mut text) {
+            Ok(()) => Ok(text),
+            // A write to a `Vec` fails only if memory runs out.
+            Err(_) => Err(Error::OutOfMemory),
+        }
+    }
 }
 
 impl SourceMap {
-    ghost use Rattle.sourcemap_map_regular.specs.Encode.{RecordAnswer};
     ghost use Rattle.sourcemap_map_regular.specs.MapStored.{parts_in};
 
     /// The record that `as_raw_sourcemap` returns; consumes the map. Texts are moved, and tokens
@@ -78,6 +107,34 @@ impl SourceMap {
         let alloc = self.allocator();
         into_record(alloc, self.into_parts())
     }
+}
+
+/// Writes a map as compact JSON, the same bytes as `encode_to`, to a borrowed writer.
+///
+/// The text is written in pieces of less than 32 KB, with two exceptions. If the JSON text of a
+/// string in the map has 16 KB or more, the text of this string is a piece of its own. The range
+/// bits of a line are never split, so a piece may have all range bits of a line in addition to less
+/// than 32 KB of other text. So the whole text of the map is in memory at once only if the text of
+/// the map is short. The errors are `OutOfMemory`, and `Io` if a write fails for another reason.
+/// After an error the writer may hold any part of the text.
+pub fn encode_in_parts<W: Write>(alloc: Global, map: &SourceMap, writer: &mut W) -> Result<()>
+    ensures written { OnOk result ((text : List ℕ) × IsEncoded (RecordAnswer map.now) text
+        × Appends (W.contents writer.old) (W.contents writer.new) text) }
+    ensures error { IfErr result (λ e. UnlessMemory e (IsIo e)) }
+{
+    // prover: there are at most 4294967295 sources, and the ignore list is sorted
+    let _ = map.sources.len();
+    let _ = map.metadata.ignore_list();
+    let names = map.names.as_slice();
+    write_parts(
+        alloc,
+        &map.metadata,
+        &map.tokens,
+        names,
+        &map.sources,
+        &map.contents,
+        writer,
+    )
 }
 
 /// A law: a map determines its record.

@@ -14,7 +14,6 @@ use crate::encode::Encodable;
 use crate::map::SourceMap;
 use sourcemap_errors::errors::Result;
 use sourcemap_headers::data_url::data_url;
-use sourcemap_json_write::writing::value_to_vec;
 use std::alloc::Global;
 use std::io::Write;
 
@@ -24,8 +23,7 @@ pub fn encode_to_vec<M: Encodable>(alloc: Global, map: &M) -> Result<Vec<u8>>
     ensures text { IfOk result (λ text. IsEncoded (M.encodes map.now) text.items) }
     ensures error { IfErr result (λ e. UnlessMemory e (M.encodes map.now (Err e))) }
 {
-    let value = map.as_raw_sourcemap()?.into_value(alloc)?;
-    Ok(value_to_vec(alloc, &value)?)
+    map.compact_text(alloc)
 }
 
 /// Writes the compact JSON text of the map to a borrowed writer. The text is complete before the

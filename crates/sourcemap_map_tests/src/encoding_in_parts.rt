@@ -3,7 +3,7 @@
 // limit the bytes in total. `HaltingWriter` returns `Interrupted` from every second write.
 use crate::samples::{Made, NONE, make_map, mixed_map, range_map, readme};
 use crate::writing::{BARE, WRITTEN, cut_writing, outcome_text, regular};
-use sourcemap::encoder::{encode_in_parts, encode_to_vec};
+use sourcemap::encoder::{Encodable, encode_in_parts, encode_to_vec};
 use sourcemap::{Result, SourceMap};
 use sourcemap_test_support::checks::{Checked, check, check_that};
 use sourcemap_test_support::writers::{HaltingWriter, NarrowWriter};
@@ -102,7 +102,8 @@ fn parts_are_the_text(rt: HostRuntime) -> Checked {
     Ok(())
 }
 
-// Checks that `encode_in_parts` writes the bytes that `encode_to_vec` returns.
+// Checks that `encode_to_vec` returns the JSON text of the record, and that `encode_in_parts` writes
+// it.
 fn check_same(alloc: Global, about: &str, map: Made) -> Checked {
     check_that(about, is_same_of(alloc, map)?)
 }
@@ -112,10 +113,11 @@ fn is_same_of(alloc: Global, map: Made) -> Result<bool> {
 }
 
 fn is_same(alloc: Global, map: &SourceMap) -> Result<bool> {
+    let record = map.as_raw_sourcemap()?.into_value(alloc)?.to_vec(alloc)?;
     let whole = encode_to_vec(alloc, map)?;
     let mut parts = Vec::new(alloc);
     encode_in_parts(alloc, map, &mut parts)?;
-    Ok(whole.as_slice() == parts.as_slice())
+    Ok(whole.as_slice() == record.as_slice() && parts.as_slice() == record.as_slice())
 }
 
 #[test]
@@ -124,7 +126,8 @@ fn parts_are_the_text_of_made_maps(rt: HostRuntime) -> Checked {
     check_same(alloc, "the map of the documentation", readme(alloc))?;
     check_same(alloc, "a range token after a repeat", range_map(alloc))?;
     check_same(alloc, "sources, a name and a range", mixed_map(alloc))?;
-    check_same(alloc, "many tokens", many(alloc))
+    check_same(alloc, "many tokens", many(alloc))?;
+    check_same(alloc, "names with escapes", escaped_names(alloc))
 }
 
 // In JSON, the `mappings` of this map take some 24 KB, and the contents some 18 KB. Both are longer
@@ -145,6 +148,25 @@ fn many_text(alloc: Global) -> Result<String> {
     }
     text.push_str(r#""]}"#)?;
     Ok(text)
+}
+
+// A name, then three names of which each byte takes six bytes in JSON. `encode_in_parts` writes names
+// of fewer than 2048 bytes into its buffer. In JSON, the longest takes 18 KB, more than a piece.
+fn escaped_names(alloc: Global) -> Made {
+    let mut text = String::from_str(alloc, r#"{"mappings":"","sources":[],"names":["a"#)?;
+    for size in [2047, 2048, 3000] {
+        push_name(&mut text, size)?;
+    }
+    text.push_str(r#""]}"#)?;
+    regular(alloc, text.as_str())
+}
+
+fn push_name(text: &mut String, size: u32) -> Result<()> {
+    text.push_str(r#"",""#)?;
+    for _byte in 0..size {
+        text.push_str(r"\u0001")?;
+    }
+    Ok(())
 }
 
 #[test]

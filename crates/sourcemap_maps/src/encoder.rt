@@ -1,5 +1,4 @@
 //! Encodes maps as records and as JSON text.
 
-pub use sourcemap_map_encode::encode::encode_in_parts;
-pub use sourcemap_map_regular::encode::Encodable;
+pub use sourcemap_map_regular::encode::{Encodable, encode_in_parts};
 pub use sourcemap_map_regular::write::{encode, encode_to, encode_to_vec};

@@ -1,6 +1,6 @@
 use Rattle.std.proofs.Common.{◌≡◌, ℕ, List, Bool, false, ◌||◌, is_some, Option, Some, None, option_map, option_copied}
 use Rattle.std.proofs.Common.{string_bytes, Bor, refl, sym, ap, ap₂, subst, ◌∙◌}
-use Rattle.sourcemap_map_regular.specs.Map.{MapValue}
+use Rattle.sourcemap_map_parts.specs.MapMetadata.{MetadataValue}
 use Rattle.sourcemap_map_encode.specs.Buffered.{Grows}
 use Rattle.sourcemap_map_encode.specs.Members.{part, parts_text, debug_id_entry, file_entry, ids_entry, leading_entries}
 use Rattle.sourcemap_map_encode.proofs.BufferedLemmas.{Grows-three, OnOk-then}
@@ -14,7 +14,7 @@ some_copied : (o : Option (Bor (List ℕ))) → is_some o ≡ is_some (option_co
 some_copied None = refl
 some_copied (Some x) = refl
 
-leading_members_grown : (m : MapValue) (l1 l2 : Bool) (id file : Option (List ℕ)) (ids : List ℕ)
+leading_members_grown : (m : MetadataValue) (l1 l2 : Bool) (id file : Option (List ℕ)) (ids : List ℕ)
     (h i j k : Option (List ℕ)) (a b c d : List ℕ)
     → id ≡ m.debug_id → file ≡ m.file → ids ≡ m.ignored → l1 ≡ is_some m.debug_id → l2 ≡ l1 || is_some m.file
     → Grows h a i b (part false (debug_id_entry id)) → Grows i b j c (part l1 (file_entry file))
@@ -36,17 +36,17 @@ leading_members_grown m l1 l2 id file ids h i j k a b c d of_id of_file of_ids e
 pub returns-clause-text : goal.returns-clause-text
 returns-clause-text g c =
     let held = g.W.Write.contents in
-    let m = c.args.map.now in
+    let m = c.args.metadata.now in
     OnOk-then c.put_ids.result _ _
-    (λ ids. leading_members_grown m c.in_ok-later.later c.in_ok-later-2.later c.get_debug_id.result
-    (option_copied c.get_file.result) c.as_slice.result.now
+    (λ ids. leading_members_grown m c.in_ok-later.later c.in_ok-later-2.later c.debug_id.result
+    (option_copied c.file.result) c.as_slice.result.now
     (held c.args.writer.now) (held c.put_debug_id.new.writer) (held c.put_text_if.new.writer)
     (held c.put_ids.new.writer)
     (string_bytes c.args.buffer.now) (string_bytes c.put_debug_id.new.buffer) (string_bytes c.put_text_if.new.buffer)
     (string_bytes c.put_ids.new.buffer)
-    c.get_debug_id.ensures c.get_file.ensures (c.as_slice.ensures.value ∙ c.in_ok-ids.ensures.items)
-    (c.in_ok-later.ensures.later ∙ ap is_some c.get_debug_id.ensures)
+    c.debug_id.ensures c.file.ensures (c.as_slice.ensures.value ∙ c.in_ok-ids.ensures.items)
+    (c.in_ok-later.ensures.later ∙ ap is_some c.debug_id.ensures)
     (c.in_ok-later-2.ensures.later
-    ∙ ap (λ (b : Bool). c.in_ok-later.later || b) (some_copied c.get_file.result ∙ ap is_some c.get_file.ensures))
+    ∙ ap (λ (b : Bool). c.in_ok-later.later || b) (some_copied c.file.result ∙ ap is_some c.file.ensures))
     c.in_ok-later.ensures.text c.in_ok-later-2.ensures.text ids)
     c.put_ids.ensures.text

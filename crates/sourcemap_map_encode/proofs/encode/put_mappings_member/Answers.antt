@@ -1,4 +1,4 @@
-use Rattle.std.proofs.Common.{ℕ, List, codes, length, string_bytes, subst}
+use Rattle.std.proofs.Common.{List, codes, string_bytes, subst}
 use Rattle.sourcemap_tokens.specs.declared.tokens.RawToken.{RawToken}
 use Rattle.sourcemap_map_encode.specs.Buffered.{GrowsBy}
 use Rattle.sourcemap_map_encode.specs.Segments.{IsMappingsText}
@@ -9,16 +9,14 @@ use Rattle.sourcemap_map_encode.proofs.encode.put_mappings_member.Goals as goal
 pub returns-clause-text : goal.returns-clause-text
 returns-clause-text g c =
     let held = g.W.Write.contents in
-    let m = c.args.map.now in
     let i = held c.put.new.writer in
     let b = string_bytes c.put.new.buffer in
     let k = held c.put_mappings.new.writer in
     let d = string_bytes c.put_mappings.new.buffer in
-    let text = subst (λ (n : ℕ). GrowsBy (IsMappingsText n m.tokens) i b k d) c.get_name_count-names.ensures
-    (subst (λ (ts : List RawToken). GrowsBy (IsMappingsText c.get_name_count-names.result ts) i b k d)
-    c.lists.ensures.lists.tokens c.in_ok-put_mappings.ensures.text) in
+    let text = subst (λ (ts : List RawToken). GrowsBy (IsMappingsText c.args.names ts) i b k d)
+    c.as_slice.ensures.value c.in_ok-put_mappings.ensures.text in
     OnOk-then c.put-2.result _ _
-    (λ closed. member-grown c.args.later (codes "mappings") (IsMappingsText (length m.names) m.tokens)
+    (λ closed. member-grown c.args.later (codes "mappings") (IsMappingsText c.args.names c.args.tokens.now)
     (λ t is. is.is_plain)
     (held c.args.writer.now) (held c.put_key.new.writer) i k (held c.put-2.new.writer)
     (string_bytes c.args.buffer.now) (string_bytes c.put_key.new.buffer) b d (string_bytes c.put-2.new.buffer)

@@ -10,20 +10,24 @@ use Rattle.sourcemap_map_encode.proofs.encode.put_sources.Goals as goal
 pub returns-clause-text : goal.returns-clause-text
 returns-clause-text g c =
     let held = g.W.Write.contents in
-    let m = c.args.map.now in
+    let s = c.args.sources.now in
+    let contents = c.args.contents.now in
     let h = held c.args.writer.now in
     let i = held c.put_text_if.new.writer in
     let j = held c.put_unresolved_sources.new.writer in
+    let k = held c.put_contents.new.writer in
     let a = string_bytes c.args.buffer.now in
     let b = string_bytes c.put_text_if.new.buffer in
     let d = string_bytes c.put_unresolved_sources.new.buffer in
+    let e = string_bytes c.put_contents.new.buffer in
     let root = subst (λ (r : Option (List ℕ)). Grows h a i b
-    (part true (root_entry r))) c.get_source_root-root.ensures c.in_ok-put_text_if.ensures.text in
+    (part true (root_entry r))) c.root.ensures c.in_ok-put_text_if.ensures.text in
     let sources = Grows-join i (held c.put_key.new.writer) j b (string_bytes c.put_key.new.buffer) d
     (key_text true (codes "sources")) (compact_text
-    (written_list string m.sources)) c.in_ok-put_key.ensures.text c.in_ok-put_unresolved_sources.ensures.text in
+    (written_list string s.texts)) c.in_ok-put_key.ensures.text c.in_ok-put_unresolved_sources.ensures.text in
     OnOk-then c.put_contents.result _ _
-    (λ contents. Grows-three h i j (held c.put_contents.new.writer) a b d (string_bytes c.put_contents.new.buffer)
-    (part true (root_entry m.root)) (part true (sources_entry m.sources))
-    (part true (contents_entry (length m.sources) m.contents)) root sources contents)
+    (λ put. Grows-three h i j k a b d e
+    (part true (root_entry s.root)) (part true (sources_entry s.texts))
+    (part true (contents_entry (length s.texts) contents)) root sources
+    (subst (λ (n : ℕ). Grows j d k e (part true (contents_entry n contents))) c.len.ensures put))
     c.put_contents.ensures.text

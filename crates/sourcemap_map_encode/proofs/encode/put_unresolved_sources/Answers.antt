@@ -15,12 +15,12 @@ returns-clause-text g c =
     OnOk-then c.put_texts.result _ _
     (λ value. subst (λ (ts : List (List ℕ)). Grows (held c.args.writer.now) (string_bytes c.args.buffer.now)
     (held c.put_texts.new.writer) (string_bytes c.put_texts.new.buffer)
-    (compact_text (written_list string ts))) c.unresolved_sources.ensures value)
+    (compact_text (written_list string ts))) c.unresolved.ensures.texts value)
     c.put_texts.ensures.text
 
 pub returns-clause-is_plain : goal.returns-clause-is_plain
 returns-clause-is_plain g c =
     OnOk-then c.put_texts.result _ _
-    (λ utf8. plain_texts c.args.map.now.sources
-    (subst (λ (ts : List (List ℕ)). AllByRecursion IsUtf8 ts) c.unresolved_sources.ensures utf8))
+    (λ utf8. plain_texts c.args.sources.now.texts
+    (subst (λ (ts : List (List ℕ)). AllByRecursion IsUtf8 ts) c.unresolved.ensures.texts utf8))
     c.put_texts.ensures.utf8

@@ -1,14 +1,21 @@
-use Rattle.std.proofs.Common.{ℕ, List, [], ◌∷◌, ◌++◌, true, false, string_bytes, subst}
+use Rattle.std.proofs.Common.{ℕ, List, [], ◌∷◌, ◌++◌, true, false, map, string_bytes, subst, Global}
+use Rattle.sourcemap_map_conversions.specs.Parts.{PartsValue}
 use Rattle.sourcemap_map_encode.specs.Buffered.{Grows}
 use Rattle.sourcemap_map_encode.specs.Members.{part, parts_text, leading_entries, source_entries, version_entry}
 use Rattle.sourcemap_map_encode.proofs.BufferedLemmas.{Grows-join, Grows-flushed, Grows-bare, OnOk-both}
 use Rattle.sourcemap_map_encode.proofs.WholeLemmas.{whole_of, encoded}
-use Rattle.sourcemap_map_encode.proofs.encode.encode_in_parts.Goals as goal
+use Rattle.sourcemap_map_encode.proofs.encode.write_parts.Goals as goal
 
 pub returns-clause-written : goal.returns-clause-written
 returns-clause-written g c =
     let held = g.W.Write.contents in
-    let m = c.args.map.now in
+    let m : PartsValue = record {
+      metadata = c.args.metadata.now;
+      tokens = c.args.tokens.now;
+      names = map (string_bytes {Z = Global}) c.args.names.now;
+      sources = c.args.sources.now;
+      contents = c.args.contents.now;
+    } in
     let start = held c.args.writer.now in
     let w1 = held c.put.new.writer in
     let w2 = held c.put_leading_members.new.writer in
@@ -24,8 +31,8 @@ returns-clause-written g c =
     let b5 = string_bytes c.put_version.new.buffer in
     let b6 = string_bytes c.put-2.new.buffer in
     let left = string_bytes c.flush.new.buffer in
-    let H = parts_text false (leading_entries m) in
-    let S = parts_text true (source_entries m) in
+    let H = parts_text false (leading_entries m.metadata) in
+    let S = parts_text true (source_entries m.sources m.contents) in
     let V = part true version_entry in
     let tokens = c.in_ok-put_tokens.ensures.text in
     let opened =
@@ -35,7 +42,7 @@ returns-clause-written g c =
       whole_of m tokens.0,
       encoded m c.in_ok-later.later tokens.0 c.in_ok-later.ensures.later c.in_ok-later.ensures.is_plain
           c.in_ok-later.ensures.sound tokens.1
-          c.in_ok-put_sources.ensures.is_plain c.in_ok-put_sources.ensures.few c.in_ok-put_version.ensures.is_plain,
+          c.in_ok-put_sources.ensures.is_plain c.in_ok-put_version.ensures.is_plain,
       Grows-bare start end left (whole_of m tokens.0) empty
           (Grows-join start w1 end [] b1 left (123 ∷ []) (H ++ (tokens.0 ++ (S ++ (V ++ (125 ∷ []))))) opened
           (Grows-join w1 w2 end b1 b2 left H (tokens.0 ++ (S ++ (V ++ (125 ∷ [])))) c.in_ok-later.ensures.text

@@ -1,6 +1,6 @@
 -- prover: explicit search
 use Rattle.std.proofs.Common.{rules}
-use Rattle.sourcemap_map_regular.proofs.write.encode_to_vec.Goals as goal
+use Rattle.sourcemap_map_regular.proofs.encode.Encodable.compact_text.Goals as goal
 
 pub returns-clause-text : goal.returns-clause-text
 returns-clause-text g c = search rules
