@@ -1,15 +1,19 @@
 -- Sections are written one by one.
-use Rattle.std.proofs.Common.{◌≡◌, refl, List, [], ◌∷◌, ◌++◌, Option, Some, None, MatchOption, Result, Ok, Err, IfOk}
+use Rattle.std.proofs.Common.{◌≡◌, refl, ℕ, Vec, Global, List, [], ◌∷◌, ◌++◌, Option, Some, None, MatchOption, Result, Ok, Err, IfOk}
 use Rattle.sourcemap_errors.specs.Answer.{IsAnswer}
 use Rattle.sourcemap_errors.specs.declared.errors.Error.{Error}
 use Rattle.sourcemap_records.specs.declared.jsontypes.RawSourceMap.{RawSourceMap}
-use Rattle.sourcemap_map_regular.specs.Encode.{ReadsBack}
+use Rattle.sourcemap_map_regular.specs.Map.{MapValue}
+use Rattle.sourcemap_map_regular.specs.Encode.{ReadsBack, RecordAnswer as RecordAnswerRegular}
+use Rattle.sourcemap_map_regular.specs.Write.{IsEncoded}
+use Rattle.sourcemap_hermes.specs.Map.{HermesValue}
+use Rattle.sourcemap_hermes.specs.Encode.{RecordAnswer as RecordAnswerHermes}
 use Rattle.sourcemap_index_model.specs.Decode.{TreeDecodes}
 use Rattle.sourcemap_index_model.specs.WellFormed.{IsWellFormed}
 use Rattle.sourcemap_index_model.proofs.EncodeLemmas.{tree_answer}
 use Rattle.sourcemap_records.specs.Jsontypes.{Tree, Section, section_with, sections_from, AreSectionsInRange, IsSectionInRange, IsFine, tree}
 use Rattle.sourcemap_index_model.specs.Encode.{IsLeafAnswer, IsWrittenBy, AreWrittenBy, RecordAnswer, Restores}
-use Rattle.sourcemap_index_model.specs.MapTree.{MapTree, MapSection, section_with as map_with, sections_from as maps_from}
+use Rattle.sourcemap_index_model.specs.MapTree.{MapTree, leaf, regular, hermes, MapSection, section_with as map_with, sections_from as maps_from}
 use Rattle.sourcemap_index.specs.Encode.{SectionIsWritten, MapWrites}
 
 -- as many records as sections, and each section is written as the record at the same index
@@ -65,3 +69,16 @@ pub answer_back : (t : MapTree) (r : Result RawSourceMap Error) → IsAnswer tre
     → IfOk r (λ raw. IsWellFormed t → ReadsBack (TreeDecodes (tree raw)) (Restores t))
 answer_back t (Ok raw) h = (tree_answer t (tree raw) h.0 h.1).2
 answer_back t (Err e) h = tt
+
+-- the text of a regular map, or of a Hermes map, is its text as a map of any kind
+pub regular_text : (m : MapValue) (r : Result (Vec ℕ Global) Error)
+    → IfOk r (λ text. IsEncoded (RecordAnswerRegular m) text.items)
+    → IfOk r (λ text. IsEncoded (RecordAnswer (leaf (regular m))) text.items)
+regular_text m (Ok text) (t, is, written) = (t, tree_answer (leaf (regular m)) t is is.1.0, written)
+regular_text m (Err e) h = tt
+
+pub hermes_text : (h : HermesValue) (r : Result (Vec ℕ Global) Error)
+    → IfOk r (λ text. IsEncoded (RecordAnswerHermes h) text.items)
+    → IfOk r (λ text. IsEncoded (RecordAnswer (leaf (hermes h))) text.items)
+hermes_text h (Ok text) (t, is, written) = (t, tree_answer (leaf (hermes h)) t is is.1.0, written)
+hermes_text h (Err e) none = tt

@@ -1,5 +1,5 @@
 //! Encodes maps of any kind as records. Writes index maps as compact JSON text.
-ghost use Rattle.std.specs.Prelude.{◌≡◌, ℕ, List, Ok, IfSome, IfOk, IfErr, OnOk, map, option_map, string_bytes};
+ghost use Rattle.std.specs.Prelude.{◌≡◌, ℕ, List, Ok, Err, IfSome, IfOk, IfErr, OnOk, map, option_map, string_bytes};
 ghost use Rattle.std.specs.List.{AllByRecursion};
 ghost use Rattle.sourcemap_errors.specs.Answer.{IsAnswer, Gives, UnlessMemory};
 ghost use Rattle.sourcemap_records.specs.Jsontypes.{tree, flat, indexed, section, sections_from, text_view, FitsU32, AreInRange, IsFine};
@@ -41,6 +41,21 @@ impl Encodable for DecodedMap {
             → ReadsBack (TreeDecodes (tree r)) (Restores (map_tree self.now))) }
     {
         record_of_map(self)
+    }
+
+    /// The compact JSON text of the record, as bytes. The text of a regular map is written without
+    /// the record. The only error is `OutOfMemory`.
+    fn compact_text(&self, alloc: Global) -> Result<Vec<u8>>
+        ensures text { IfOk result
+            (λ text. IsEncoded (RecordAnswer (map_tree self.now)) text.items) }
+        ensures error { IfErr result
+            (λ e. UnlessMemory e (RecordAnswer (map_tree self.now) (Err e))) }
+    {
+        match self {
+            DecodedMap::Regular(map) => map.compact_text(alloc),
+            DecodedMap::Index(index) => index.compact_text(alloc),
+            DecodedMap::Hermes(map) => map.compact_text(alloc),
+        }
     }
 }
 
