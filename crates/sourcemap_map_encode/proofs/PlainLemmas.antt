@@ -1,7 +1,7 @@
 -- VLQ digits, `,` and `;` need no escapes in JSON.
-use Rattle.std.proofs.Common.{◌≡◌, ℕ, ◌<◌, suc, zero, List, [], ◌∷◌, ◌++◌, ℤ, Bool, true, false, not, ◌&&◌, nat_lt}
+use Rattle.std.proofs.Common.{◌≡◌, ℕ, ◌+◌, ◌<◌, suc, zero, filter, List, [], ◌∷◌, ◌++◌, ℤ, Bool, true, false, not, ◌&&◌, nat_lt}
 use Rattle.std.proofs.Common.{cond, Option, Some, None, is_none, replicate, refl, sym, ap, subst, ◌∙◌, arith}
-use Rattle.std.specs.List.{AllByRecursion}
+use Rattle.std.specs.List.{AllByRecursion, join_with_byte}
 use Rattle.std.specs.Str.{IsUtf8}
 use Rattle.std.proofs.lemmas.Bool.{agree_below_at}
 use Rattle.std.proofs.lemmas.Str.{IsUtf8-from_ascii}
@@ -9,7 +9,10 @@ use Rattle.json.specs.Print.{escape, escape_byte, escape_letter}
 use Rattle.sourcemap_vlq.specs.Vlq.{digit_value, glyph, IsChain, Spells}
 use Rattle.sourcemap_vlq.specs.Bits.{first_non_digit, IsBitText}
 use Rattle.sourcemap_vlq.proofs.DigitLemmas.{digit_value-below, glyph-digit_value, glyph-ascii}
+use Rattle.sourcemap_tokens.specs.Tokens.{without_repeats}
+use Rattle.sourcemap_tokens.specs.declared.tokens.RawToken.{RawToken}
 use Rattle.sourcemap_mappings.specs.Segment.{comma, semicolon}
+use Rattle.sourcemap_mappings.specs.Write.{AreSegments, EachLine, IsLine, IsWritten, base, is_above, is_on, numbers}
 use Rattle.sourcemap_mappings.proofs.BufferLemmas.{recursion-ascii}
 use Rattle.sourcemap_map_encode.specs.Segments.{IsPlainByte, IsPlainText}
 
@@ -58,6 +61,40 @@ ends-plain (suc n) = ((omega arith, stays-plain semicolon refl), ends-plain n)
 pub comma-plain : IsPlainText (comma ∷ [])
 unfolding stays
 comma-plain = ((omega arith, stays-plain comma refl), tt)
+
+join-plain : (d : ℕ) (parts : List (List ℕ)) → IsPlainByte d → AllByRecursion IsPlainText parts
+    → IsPlainText (join_with_byte d parts)
+join-plain d [] byte all = tt
+join-plain d (p ∷ []) byte all = all.0
+join-plain d (p ∷ q ∷ ps) byte all =
+    plain-append p (d ∷ join_with_byte d (q ∷ ps)) all.0 (byte, join-plain d (q ∷ ps) byte all.1)
+
+segments-plain : (names : ℕ) (before ts : List RawToken) (segments : List (List ℕ))
+    → AreSegments names before ts segments → AllByRecursion IsPlainText segments
+segments-plain names before [] segments are = subst (λ ss. AllByRecursion IsPlainText ss) (sym are) tt
+segments-plain names before (t ∷ ts) [] are = absurd are
+segments-plain names before (t ∷ ts) (s ∷ ss) are = (
+  spells-plain (numbers names (base names t.dst_line before) t) s are.0,
+  segments-plain names (before ++ t ∷ []) ts ss are.1,
+)
+
+line-of-segments-plain : (names : ℕ) (tokens : List RawToken) (n : ℕ) (line : List ℕ) → IsLine names tokens n line
+    → IsPlainText line
+line-of-segments-plain names tokens n line (segments, are, is) = subst IsPlainText (sym is)
+    (join-plain comma segments comma-plain.0
+    (segments-plain names (filter (is_above n) tokens) (filter (is_on n) tokens) segments are))
+
+lines-plain : (names : ℕ) (tokens : List RawToken) (n : ℕ) (lines : List (List ℕ))
+    → EachLine (IsLine names tokens) n lines → AllByRecursion IsPlainText lines
+lines-plain names tokens n [] each = tt
+lines-plain names tokens n (l ∷ ls) each =
+    (line-of-segments-plain names tokens n l each.0, lines-plain names tokens (n + 1) ls each.1)
+
+-- a text of `mappings` needs no escapes
+pub written-plain : (names : ℕ) (tokens : List RawToken) (text : List ℕ) → IsWritten names tokens text
+    → IsPlainText text
+written-plain names tokens text (lines, count, each, is) = subst IsPlainText (sym is)
+    (join-plain semicolon lines (ends-plain 1).0 (lines-plain names (without_repeats tokens) 0 lines each))
 
 found : (c : ℕ) (o : Option ℕ) → digit_value c ≡ o → is_none o ≡ false → IsPlainByte c
 found c None e some = cc

@@ -23,7 +23,7 @@ ghost use Rattle.sourcemap_map_encode.specs.Members.{IsMappingsPart, IsRangesPar
 use crate::buffered::{PIECE, flush, put};
 use crate::members::{put_key, put_text_if};
 use crate::ranges::put_ranges;
-use crate::segments::put_mappings;
+use crate::segments::{Mappings, put_mappings};
 use crate::texts::{put_comma, put_number, put_numbers, put_text, put_texts};
 use sourcemap_errors::errors::Result;
 use sourcemap_headers::debug_id::DebugId;
@@ -53,6 +53,7 @@ pub fn write_parts<W: Write>(
     sources: &Sources,
     contents: &Contents,
     writer: &mut W,
+    how: Mappings,
 ) -> Result<()>
     requires { length names.now ≤ 4294967295 }
     ensures written { OnOk result ((text : List ℕ) × IsEncoded (RecordAnswer (record {
@@ -67,7 +68,7 @@ pub fn write_parts<W: Write>(
     let mut buffer = String::with_capacity(alloc, PIECE)?;
     put(writer, &mut buffer, "{")?;
     let later = put_leading_members(alloc, writer, &mut buffer, metadata)?;
-    put_tokens(alloc, writer, &mut buffer, later, tokens, names)?;
+    put_tokens(alloc, writer, &mut buffer, later, tokens, names, how)?;
     put_sources(alloc, writer, &mut buffer, sources, contents)?;
     put_version(alloc, writer, &mut buffer)?;
     put(writer, &mut buffer, "}")?;
@@ -156,6 +157,7 @@ fn put_tokens<W: Write>(
     later: bool,
     tokens: &TokenList,
     names: &[String],
+    how: Mappings,
 ) -> Result<()>
     requires { length names.now ≤ 4294967295 }
     ensures text { OnOk result (GrowsBy
@@ -164,7 +166,7 @@ fn put_tokens<W: Write>(
         (W.contents writer.new) (string_bytes buffer.new)) }
     ensures error { IfErr result (λ e. UnlessMemory e (IsIo e)) }
 {
-    put_mappings_member(alloc, writer, buffer, later, tokens, name_count(names))?;
+    put_mappings_member(alloc, writer, buffer, later, tokens, name_count(names), how)?;
     put_names(alloc, writer, buffer, names)?;
     put_range_bits(alloc, writer, buffer, tokens)
 }
@@ -184,6 +186,7 @@ fn put_mappings_member<W: Write>(
     later: bool,
     tokens: &TokenList,
     names: u32,
+    how: Mappings,
 ) -> Result<()>
     ensures text { OnOk result (GrowsBy (IsMappingsPart later names tokens.now)
         (W.contents writer.old) (string_bytes buffer.old)
@@ -192,7 +195,7 @@ fn put_mappings_member<W: Write>(
 {
     put_key(alloc, writer, buffer, later, "mappings")?;
     put(writer, buffer, "\"")?;
-    put_mappings(writer, buffer, tokens.as_slice(), names)?;
+    put_mappings(alloc, writer, buffer, tokens.as_slice(), names, how)?;
     put(writer, buffer, "\"")
 }
 
@@ -319,7 +322,7 @@ fn put_content_list<W: Write>(
     put(writer, buffer, "[")?;
     let mut later = false;
     for id in 0..count {
-        put_comma(writer, buffer, later)?;
+        put_comma(buffer, later)?;
         put_content(alloc, writer, buffer, contents.get(id))?;
         later = true;
     }

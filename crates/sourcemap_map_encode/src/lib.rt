@@ -6,5 +6,5 @@ mod buffered;
 pub mod encode;
 mod members;
 mod ranges;
-mod segments;
+pub mod segments;
 mod texts;

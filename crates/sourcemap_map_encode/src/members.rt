@@ -27,7 +27,7 @@ pub(crate) fn put_key<W: Write>(
         (W.contents writer.new) (string_bytes buffer.new) (key_text later key.now)) }
     ensures error { IfErr result (λ e. UnlessMemory e (IsIo e)) }
 {
-    put_comma(writer, buffer, later)?;
+    put_comma(buffer, later)?;
     put_text(alloc, writer, buffer, key)?;
     put(writer, buffer, ":")
 }

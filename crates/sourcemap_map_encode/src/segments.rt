@@ -8,12 +8,22 @@ ghost use Rattle.sourcemap_map_encode.specs.Buffered.{Grows, GrowsBy};
 ghost use Rattle.sourcemap_map_encode.specs.Encoded.{IsIo};
 ghost use Rattle.sourcemap_map_encode.specs.Segments.{IsMappingsText, before_line};
 
-use crate::buffered::{flush_piece, put_line_ends};
+use crate::buffered::{flush_piece, put, put_line_ends};
 use sourcemap_errors::errors::Result;
 use sourcemap_mappings::buffer::{BUFFER_SIZE, flush};
-use sourcemap_mappings::write::{START, is_repeat, move_to_line, put_token};
+use sourcemap_mappings::write::{START, is_repeat, move_to_line, put_token, write_mappings};
 use sourcemap_tokens::tokens::RawToken;
+use std::alloc::Global;
 use std::io::Write;
+
+/// How `mappings` is written.
+#[derive(Clone, Copy, Debug, PartialEq, Eq)]
+pub enum Mappings {
+    /// In pieces, so that it is never in memory as a whole.
+    InPieces,
+    /// As a whole, in fewer instructions.
+    AtOnce,
+}
 
 // Ends the empty lines before `line`: the output then ends on the line before it, so at most one
 // semicolon is left to be written before the segment of a token on `line`. Before the call, the
@@ -51,6 +61,43 @@ fn put_empty_lines<W: Write>(
 
 /// Writes the mappings of sorted tokens. `names` is the number of names of the map.
 pub(crate) fn put_mappings<W: Write>(
+    alloc: Global,
+    writer: &mut W,
+    buffer: &mut String,
+    tokens: &[RawToken],
+    names: u32,
+    how: Mappings,
+) -> Result<()>
+    requires { AreInOrder tokens.now }
+    ensures text { OnOk result (GrowsBy (IsMappingsText names tokens.now)
+        (W.contents writer.old) (string_bytes buffer.old)
+        (W.contents writer.new) (string_bytes buffer.new)) }
+    ensures error { IfErr result (λ e. UnlessMemory e (IsIo e)) }
+{
+    match how {
+        Mappings::InPieces => put_segments(writer, buffer, tokens, names),
+        Mappings::AtOnce => put_whole_mappings(alloc, writer, buffer, tokens, names),
+    }
+}
+
+fn put_whole_mappings<W: Write>(
+    alloc: Global,
+    writer: &mut W,
+    buffer: &mut String,
+    tokens: &[RawToken],
+    names: u32,
+) -> Result<()>
+    requires { AreInOrder tokens.now }
+    ensures text { OnOk result (GrowsBy (IsMappingsText names tokens.now)
+        (W.contents writer.old) (string_bytes buffer.old)
+        (W.contents writer.new) (string_bytes buffer.new)) }
+    ensures error { IfErr result (λ e. UnlessMemory e (IsIo e)) }
+{
+    let text = write_mappings(alloc, tokens, names)?;
+    put(writer, buffer, text.as_str())
+}
+
+fn put_segments<W: Write>(
     writer: &mut W,
     buffer: &mut String,
     tokens: &[RawToken],

@@ -1,5 +1,5 @@
 //! Writes strings, numbers and lists as JSON. A list is written item by item.
-ghost use Rattle.std.specs.Prelude.{◌≡◌, map, false, OnOk, IfErr, string_bytes, IsUtf8};
+ghost use Rattle.std.specs.Prelude.{◌≡◌, ◌++◌, map, false, OnOk, IfErr, string_bytes, IsUtf8};
 ghost use Rattle.std.specs.List.{AllByRecursion};
 ghost use Rattle.json.specs.Print.{quoted};
 ghost use Rattle.serde_json.specs.Data.{string};
@@ -15,8 +15,9 @@ use crate::buffered::{flush_piece, put};
 use serde_json::Value;
 use sourcemap_errors::errors::Result;
 use sourcemap_json_write::writing::{push_quoted, text_to_string, value_to_string};
-use std::alloc::Global;
+use std::alloc::{AllocError, Global};
 use std::io::Write;
+use std::result;
 
 // A text of fewer bytes is quoted in the buffer, without a copy of its own. It then has less than
 // `PIECE` bytes, since an escape has at most six.
@@ -59,13 +60,11 @@ pub(crate) fn put_text<W: Write>(
     put(writer, buffer, quoted.as_str())
 }
 
-/// Writes a comma if an item or a member precedes (`later`).
-pub(crate) fn put_comma<W: Write>(writer: &mut W, buffer: &mut String, later: bool) -> Result<()>
-    ensures text { OnOk result (Grows (W.contents writer.old) (string_bytes buffer.old)
-        (W.contents writer.new) (string_bytes buffer.new) (comma_if later)) }
-    ensures error { IfErr result (λ e. UnlessMemory e (IsIo e)) }
+/// Appends a comma if an item or a member precedes (`later`). The error is out of memory.
+pub(crate) fn put_comma(buffer: &mut String, later: bool) -> result::Result<(), AllocError>
+    ensures { OnOk result (string_bytes buffer.new ≡ string_bytes buffer.old ++ comma_if later) }
 {
-    put(writer, buffer, if later { "," } else { "" })
+    buffer.push_str(if later { "," } else { "" })
 }
 
 /// Writes a list of strings.
@@ -84,7 +83,7 @@ pub(crate) fn put_texts<W: Write>(
     put(writer, buffer, "[")?;
     let mut later = false;
     for text in texts {
-        put_comma(writer, buffer, later)?;
+        put_comma(buffer, later)?;
         put_text(alloc, writer, buffer, text.as_str())?;
         later = true;
     }
@@ -124,7 +123,7 @@ pub(crate) fn put_numbers<W: Write>(
     put(writer, buffer, "[")?;
     let mut later = false;
     for number in numbers {
-        put_comma(writer, buffer, later)?;
+        put_comma(buffer, later)?;
         put_number(alloc, writer, buffer, *number)?;
         later = true;
     }

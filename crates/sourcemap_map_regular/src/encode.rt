@@ -14,6 +14,7 @@ use sourcemap_json_write::writing::value_to_vec;
 use sourcemap_map_conversions::parts::Parts;
 use sourcemap_map_conversions::to_record::{into_record, record_of};
 use sourcemap_map_encode::encode::write_parts;
+use sourcemap_map_encode::segments::Mappings;
 use sourcemap_records::jsontypes::RawSourceMap;
 use std::alloc::Global;
 use std::io::Write;
@@ -85,7 +86,7 @@ impl Encodable for SourceMap {
         ensures error { IfErr result (λ e. UnlessMemory e (RecordAnswer self.now (Err e))) }
     {
         let mut text = Vec::new(alloc);
-        match encode_in_parts(alloc, self, &mut text) {
+        match put_map(alloc, self, &mut text, Mappings::AtOnce) {
             Ok(()) => Ok(text),
             // A write to a `Vec` fails only if memory runs out.
             Err(_) => Err(Error::OutOfMemory),
@@ -122,6 +123,14 @@ pub fn encode_in_parts<W: Write>(alloc: Global, map: &SourceMap, writer: &mut W)
         × Appends (W.contents writer.old) (W.contents writer.new) text) }
     ensures error { IfErr result (λ e. UnlessMemory e (IsIo e)) }
 {
+    put_map(alloc, map, writer, Mappings::InPieces)
+}
+
+fn put_map<W: Write>(alloc: Global, map: &SourceMap, writer: &mut W, how: Mappings) -> Result<()>
+    ensures written { OnOk result ((text : List ℕ) × IsEncoded (RecordAnswer map.now) text
+        × Appends (W.contents writer.old) (W.contents writer.new) text) }
+    ensures error { IfErr result (λ e. UnlessMemory e (IsIo e)) }
+{
     // prover: there are at most 4294967295 sources, and the ignore list is sorted
     let _ = map.sources.len();
     let _ = map.metadata.ignore_list();
@@ -134,6 +143,7 @@ pub fn encode_in_parts<W: Write>(alloc: Global, map: &SourceMap, writer: &mut W)
         &map.sources,
         &map.contents,
         writer,
+        how,
     )
 }
 

@@ -6,8 +6,9 @@ use Rattle.serde_json.specs.Data.{string}
 use Rattle.sourcemap_map_parts.specs.Contents.{fitted}
 use Rattle.sourcemap_map_parts.proofs.ContentsLemmas.{drop-fitted, length-fitted}
 use Rattle.sourcemap_records.specs.Field.{written_or_null}
+use Rattle.serde_json.specs.Written.{comma_if}
 use Rattle.sourcemap_map_encode.specs.Buffered.{GrowsBy}
-use Rattle.sourcemap_map_encode.proofs.BufferedLemmas.{OnOk-any, OnOk-then}
+use Rattle.sourcemap_map_encode.proofs.BufferedLemmas.{Grows-into, OnOk-any, OnOk-then}
 use Rattle.sourcemap_map_encode.proofs.ListLemmas.{IsListed, listed-more, listed-end}
 use Rattle.sourcemap_map_encode.proofs.MemberLemmas.{IsPlainContent, plain_contents}
 use Rattle.sourcemap_map_encode.proofs.encode.put_content_list.Goals as goal
@@ -24,14 +25,15 @@ loop-id-preserved g c =
     record {
       listed = listed-more (map (written_or_null string) all) (map
           (written_or_null string) left) (written_or_null string one) l.later
-          (held c.args.writer.now) (held l.writer) (held c.put_comma.new.writer) (held c.put_content.new.writer)
+          (held c.args.writer.now) (held l.writer) (held l.writer) (held c.put_content.new.writer)
           (string_bytes c.args.buffer.now) (string_bytes l.buffer) (string_bytes c.put_comma.new.buffer)
           (string_bytes c.put_content.new.buffer)
           (subst (λ (cs : List (Option (List ℕ))). GrowsBy
           (IsListed (map (written_or_null string) all) (map (written_or_null string) cs) l.later)
           (held c.args.writer.now) (string_bytes c.args.buffer.now) (held l.writer)
           (string_bytes l.buffer)) step l.invariant.listed)
-          c.in_ok-put_comma.ensures.text c.in_ok-put_content.ensures.text;
+          (Grows-into (held l.writer) (string_bytes l.buffer) (string_bytes c.put_comma.new.buffer) (comma_if l.later)
+          c.in_ok-put_comma.ensures) c.in_ok-put_content.ensures.text;
       each = λ rest. l.invariant.each (subst (λ (cs : List (Option (List ℕ))). AllByRecursion IsPlainContent cs)
           (sym step) (c.in_ok-put_content.ensures.is_plain, rest));
     }

@@ -7,7 +7,7 @@ use Rattle.sourcemap_map_regular.specs.MapStored.{value_of}
 use Rattle.sourcemap_map_regular.specs.Encode.{RecordAnswer}
 use Rattle.sourcemap_map_regular.specs.Write.{IsEncoded}
 use Rattle.sourcemap_map_regular.proofs.EncodeLemmas.{encoded-map}
-use Rattle.sourcemap_map_regular.proofs.encode.encode_in_parts.Goals as goal
+use Rattle.sourcemap_map_regular.proofs.encode.put_map.Goals as goal
 
 pub returns-clause-written : goal.returns-clause-written
 returns-clause-written g c =

@@ -2,7 +2,7 @@ use Rattle.std.proofs.Common.{◌≤◌, ◌++◌, option_copied, take, string_b
 use Rattle.std.specs.Str.{IsAscii}
 use Rattle.sourcemap_map_encode.specs.Buffered.{GrowsBy}
 use Rattle.sourcemap_map_encode.proofs.SegmentLemmas.{Written}
-use Rattle.sourcemap_map_encode.proofs.segments.put_mappings.Given as goal
+use Rattle.sourcemap_map_encode.proofs.segments.put_segments.Given as goal
 
 abbrev pub invariant-loop-token : goal.invariant-loop-token
 invariant-loop-token g l = record {

@@ -14,9 +14,9 @@ use Rattle.sourcemap_map_encode.specs.Segments.{IsMappingsText}
 use Rattle.sourcemap_map_encode.proofs.BufferedLemmas.{Grows-behind, GrowsBy-flushed, OnOk-then}
 use Rattle.sourcemap_map_encode.proofs.SegmentLemmas.{Written, none-put, repeat-put, token-put, put-carried, all-put}
 use Rattle.sourcemap_map_encode.proofs.SegmentLemmas.{token-grown, before_line-then}
-use Rattle.sourcemap_map_encode.proofs.segments.put_mappings.Goals as goal
-use Rattle.sourcemap_map_encode.proofs.segments.put_mappings.Goals.{then-not-is_repeat+in_ok-free+in_ok-at+in_ok-flush_piece}
-use Rattle.sourcemap_map_encode.proofs.segments.put_mappings.Goals.{else-not-is_repeat}
+use Rattle.sourcemap_map_encode.proofs.segments.put_segments.Goals as goal
+use Rattle.sourcemap_map_encode.proofs.segments.put_segments.Goals.{then-not-is_repeat+in_ok-free+in_ok-at+in_ok-flush_piece}
+use Rattle.sourcemap_map_encode.proofs.segments.put_segments.Goals.{else-not-is_repeat}
 
 pub loop-token-init : goal.loop-token-init
 loop-token-init g c =
