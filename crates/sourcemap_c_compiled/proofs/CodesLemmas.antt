@@ -1,11 +1,11 @@
 -- Codes follow from the header, and from the text that was read.
-use Rattle.std.proofs.Common.{◌≡◌, ℕ, List, Bor, Option, Some, None, Result, Ok, Err, MatchOption, refl, subst, sym}
+use Rattle.std.proofs.Common.{◌≡◌, ℕ, List, Bor, Option, Some, None, Result, Ok, Err, MatchOption, subst, sym}
 use Rattle.std.specs.Str.{IsUtf8}
 use Rattle.sourcemap_compiled.specs.Layout.{IsAccepted, refusal}
 use Rattle.sourcemap_compiled.specs.Texts.{ReadsText}
 use Rattle.sourcemap_compiled.specs.declared.errors.CompiledMapError.{CompiledMapError}
 use Rattle.sourcemap_compiled.specs.declared.errors.CompiledMapError.TheVariants.{InvalidUtf8}
-use Rattle.sourcemap_c_compiled.specs.Codes.{OnCompiled, ReturnsText, compiled_code}
+use Rattle.sourcemap_c_compiled.specs.Codes.{OnCompiled, ReturnsRead, ReturnsText, compiled_code}
 
 -- what is said of the bytes that were read is said of the bytes that were passed
 pub on_accepted : {X : Type 0} (Says : List ℕ → Type 0) (bytes read : List ℕ) (code : ℕ) (old new : X)
@@ -19,20 +19,18 @@ pub on_refused : {X : Type 0} (Says : Type 0) (bytes : List ℕ) (code : ℕ) (o
 on_refused Says bytes code old new e refused is kept =
     subst (λ r. MatchOption r Says (λ e. (code ≡ compiled_code e) × (new ≡ old))) (sym refused) (is, kept)
 
--- Texts.
+-- What a getter of the file returns tells what a call returns for the text of the file.
 
-pub text_written : (bytes : Result (Option (List ℕ)) CompiledMapError) (text : Bor (List ℕ)) (old new : List ℕ)
-    → ReadsText bytes (Ok (Some text)) → new ≡ text.now → ReturnsText bytes 0 old new
-text_written bytes text old new reads is =
-    subst (λ b. ReturnsText b 0 old new) (sym reads.0) ((λ utf8. (refl, is)), (λ bad. absurd (bad reads.1)))
+module _ (text_in_file : Result (Option (List ℕ)) CompiledMapError) (code : ℕ) (old new : List ℕ) where
+  returned : (same : Result (Option (List ℕ)) CompiledMapError) → text_in_file ≡ same → ReturnsText same code old new
+      → ReturnsText text_in_file code old new
+  returned same is returns = subst (λ b. ReturnsText b code old new) (sym is) returns
 
-pub text_absent : (bytes : Result (Option (List ℕ)) CompiledMapError) (text : List ℕ)
-    → ReadsText bytes (Ok None) → ReturnsText bytes 32 text text
-text_absent bytes text reads =
-    subst (λ b. ReturnsText b 32 text text) (sym reads) (refl, refl)
-
-pub text_refused : (bytes : Result (Option (List ℕ)) CompiledMapError) (e : CompiledMapError) (code : ℕ) (text : List ℕ)
-    → ReadsText bytes (Err e) → code ≡ compiled_code e → ReturnsText bytes code text text
-text_refused bytes InvalidUtf8 code text (found, reads, bad) is =
-    subst (λ b. ReturnsText b code text text) (sym reads) ((λ utf8. absurd (bad utf8)), (λ _. (is, refl)))
-text_refused bytes e code text reads is = subst (λ b. ReturnsText b code text text) (sym reads) (is, refl)
+  pub text_returned : (found : Result (Option (Bor (List ℕ))) CompiledMapError) → ReadsText text_in_file found
+      → ReturnsRead found code old new → ReturnsText text_in_file code old new
+  text_returned (Ok None) reads read = returned (Ok None) reads read
+  text_returned (Ok (Some text)) reads read =
+      returned (Ok (Some text.now)) reads.0 ((λ utf8. read), (λ bad. absurd (bad reads.1)))
+  text_returned (Err InvalidUtf8) (text, reads, bad) read =
+      returned (Ok (Some text)) reads ((λ utf8. absurd (bad utf8)), (λ _. read))
+  text_returned (Err e) reads read = returned (Err e) reads read

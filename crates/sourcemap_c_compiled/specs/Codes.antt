@@ -1,6 +1,7 @@
 -- Codes and values of calls on the bytes of a compiled map.
 use Rattle.std.specs.Prelude.{◌≡◌, ◌⊎◌, ℕ, List, MatchOption, Option, Some, None, Result, Ok, Err}
 use Rattle.std.specs.Str.{IsUtf8}
+use denote.Ref.{Bor}
 use Rattle.sourcemap_compiled.specs.Layout.{refusal}
 use Rattle.sourcemap_compiled.specs.Soundness.{HasFault, IsSound}
 use Rattle.sourcemap_compiled.specs.declared.errors.CompiledMapError.{CompiledMapError}
@@ -37,6 +38,12 @@ OnCompiled bytes Says code old new = MatchOption (refusal bytes) Says (λ e. (co
 abbrev pub ReturnsOption : {X : Type 0} → Option X → (code : ℕ) → (old new : X) → Type 0
 ReturnsOption None code old new = (code ≡ 32) × (new ≡ old)
 ReturnsOption (Some x) code old new = (code ≡ 0) × (new ≡ x)
+
+-- the code and the text for what a getter returned
+abbrev pub ReturnsRead : Result (Option (Bor (List ℕ))) CompiledMapError → (code : ℕ) → (old new : List ℕ) → Type 0
+ReturnsRead (Err e) code old new = (code ≡ compiled_code e) × (new ≡ old)
+ReturnsRead (Ok None) code old new = (code ≡ 32) × (new ≡ old)
+ReturnsRead (Ok (Some text)) code old new = (code ≡ 0) × (new ≡ text.now)
 
 -- The code and the text of a call that borrows a text: `SM_UTF8` if the bytes of the text are not UTF-8. The call writes
 -- the text only if it returns `SM_OK`

@@ -1,8 +1,6 @@
 //! The texts of a compiled map. They are borrowed from the bytes of the map.
-ghost use Rattle.std.specs.Prelude.{ℕ, List, Option, Result};
-ghost use Rattle.sourcemap_compiled.specs.Texts.{ReadsText, compiled_contents, compiled_file, compiled_name, compiled_source};
-ghost use Rattle.sourcemap_compiled.specs.declared.errors.CompiledMapError.{CompiledMapError};
-ghost use Rattle.sourcemap_c_compiled.specs.Codes.{OnCompiled, ReturnsText};
+ghost use Rattle.sourcemap_compiled.specs.Texts.{compiled_contents, compiled_file, compiled_name, compiled_source};
+ghost use Rattle.sourcemap_c_compiled.specs.Codes.{OnCompiled, ReturnsRead, ReturnsText};
 
 use crate::codes::{ABSENT, OK, code_of};
 use sourcemap_compiled::errors::CompiledMapError;
@@ -62,8 +60,7 @@ pub(crate) fn put_text<'a>(
     found: Result<Option<&'a str>, CompiledMapError>,
     text: &mut &'a [u8],
 ) -> u32
-    ensures { (bytes : Result (Option (List ℕ)) CompiledMapError) → ReadsText bytes found.entry
-        → ReturnsText bytes result text.old.now text.new.now }
+    ensures { ReturnsRead found.entry result text.old.now text.new.now }
 {
     match found {
         Ok(Some(found)) => {
