@@ -24,11 +24,13 @@ function compile(map, { contents = true, mapUrl } = {}) {
   const traced = FlattenMap(fields, mapUrl);
   const { mappings, rangeMappings } = mappingsOf(traced).encodedFields;
   const { file, names, resolvedSources, sourcesContent } = traced;
+  // a list of nulls says no more than no list
+  const hasContents = contents && sourcesContent?.some((text) => text != null);
   return native.compile(JSON.stringify({
     version: 3,
     file,
     sources: resolvedSources,
-    sourcesContent: contents ? sourcesContent : undefined,
+    sourcesContent: hasContents ? sourcesContent : undefined,
     names,
     mappings,
     rangeMappings,

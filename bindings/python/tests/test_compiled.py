@@ -160,7 +160,7 @@ class Files(InFolder):
         positions = [(0, column) for column in range(30)]
         expected = [ordinary.lookup(*position) for position in positions] * 50
         with ThreadPoolExecutor(8) as pool:
-            runs = [pool.submit(lambda: [map.lookup(*position) for position in positions] * 50) for _ in range(8)]
+            runs = [pool.submit(lambda: [map.lookup(*position) for position in positions * 50]) for _ in range(8)]
             for run in runs:
                 self.assertEqual(run.result(), expected)
 
