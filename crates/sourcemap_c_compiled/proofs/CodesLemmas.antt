@@ -1,25 +1,10 @@
--- Codes follow from the header, and from the text that was read.
-use Rattle.std.proofs.Common.{◌≡◌, ℕ, List, Bor, Option, Some, None, Result, Ok, Err, MatchOption, subst, sym}
+-- What a getter of the file returns tells what a call returns for the text of the file.
+use Rattle.std.proofs.Common.{◌≡◌, ℕ, List, Bor, Option, Some, None, Result, Ok, Err, subst, sym}
 use Rattle.std.specs.Str.{IsUtf8}
-use Rattle.sourcemap_compiled.specs.Layout.{IsAccepted, refusal}
 use Rattle.sourcemap_compiled.specs.Texts.{ReadsText}
 use Rattle.sourcemap_compiled.specs.declared.errors.CompiledMapError.{CompiledMapError}
 use Rattle.sourcemap_compiled.specs.declared.errors.CompiledMapError.TheVariants.{InvalidUtf8}
-use Rattle.sourcemap_c_compiled.specs.Codes.{OnCompiled, ReturnsRead, ReturnsText, compiled_code}
-
--- what is said of the bytes that were read is said of the bytes that were passed
-pub on_accepted : {X : Type 0} (Says : List ℕ → Type 0) (bytes read : List ℕ) (code : ℕ) (old new : X)
-    → IsAccepted bytes → read ≡ bytes → Says read → OnCompiled bytes (Says bytes) code old new
-on_accepted Says bytes read code old new accepted same says =
-    subst (λ r. MatchOption r (Says bytes) (λ e. (code ≡ compiled_code e) × (new ≡ old))) (sym accepted)
-    (subst Says same says)
-
-pub on_refused : {X : Type 0} (Says : Type 0) (bytes : List ℕ) (code : ℕ) (old new : X) (e : CompiledMapError)
-    → refusal bytes ≡ Some e → code ≡ compiled_code e → new ≡ old → OnCompiled bytes Says code old new
-on_refused Says bytes code old new e refused is kept =
-    subst (λ r. MatchOption r Says (λ e. (code ≡ compiled_code e) × (new ≡ old))) (sym refused) (is, kept)
-
--- What a getter of the file returns tells what a call returns for the text of the file.
+use Rattle.sourcemap_c_compiled.specs.Codes.{ReturnsRead, ReturnsText}
 
 module _ (text_in_file : Result (Option (List ℕ)) CompiledMapError) (code : ℕ) (old new : List ℕ) where
   returned : (same : Result (Option (List ℕ)) CompiledMapError) → text_in_file ≡ same → ReturnsText same code old new

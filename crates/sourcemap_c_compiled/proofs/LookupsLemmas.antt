@@ -1,8 +1,9 @@
 -- What a lookup finds, and what many lookups write, one after another.
-use Rattle.std.proofs.Common.{◌≡◌, ◌≢◌, ◌≤◌, ◌<◌, ◌+◌, ◌∙◌, ℕ, zero, suc, List, [], ◌∷◌, Some, None, ap, arith, length, refl, slice_get, slice_set, subst, sym, inl, inr}
+use Rattle.std.proofs.Common.{◌≡◌, ◌≢◌, ◌≤◌, ◌<◌, ◌+◌, ◌∙◌, ℕ, zero, suc, List, [], ◌∷◌, Some, ap, arith, get_or, length, refl, slice_get, slice_set, subst, sym, inl, inr}
 use Rattle.std.proofs.lemmas.Bool.{cases_eq}
+use Rattle.std.proofs.lemmas.Option.{slice_get-get_or}
 use Rattle.sourcemap_compiled.specs.Blocks.{compiled_token}
-use Rattle.sourcemap_compiled.specs.Lookup.{IsInOrder, IsNextTo, StartsAfter, lookup}
+use Rattle.sourcemap_compiled.specs.Lookup.{IsInOrder, IsNextTo, lookup}
 use Rattle.sourcemap_compiled.specs.Numbers.{position_number}
 use Rattle.sourcemap_compiled.specs.Stored.{token_value}
 use Rattle.sourcemap_compiled.specs.declared.token.CompiledToken.{CompiledToken}
@@ -15,10 +16,6 @@ pub one_found : (bytes : List ℕ) (p : ℕ × ℕ) (token : CompiledToken)
     → token.raw ≡ compiled_token bytes token.index → IsNextTo bytes (position_number p) token.index
     → IsFound bytes p (Some (token_value token))
 one_found bytes p token closest own next = record { closest = closest; near = (own, next) }
-
-pub none_found : (bytes : List ℕ) (p : ℕ × ℕ) → (IsInOrder bytes → None ≡ lookup bytes p)
-    → StartsAfter bytes (position_number p) → IsFound bytes p None
-none_found bytes p closest after = record { closest = closest; near = after }
 
 -- the item that was set, and the others
 set_here : {X : Type 0} (xs : List X) (i : ℕ) (x : X) → i < length xs → slice_get (slice_set xs i x) i ≡ Some x
@@ -34,14 +31,14 @@ set_other (y ∷ xs) (suc i) zero x other = refl
 set_other (y ∷ xs) (suc i) (suc k) x other = set_other xs i k x (λ same. other (ap suc same))
 
 -- one answer more
-pub answered_more : (bytes : List ℕ) (positions : List Position) (found : List Found) (i : ℕ) (p : Position) (one : Found)
-    → slice_get positions i ≡ Some p → i < length found → IsAnswer bytes p one
+pub answered_more : (bytes : List ℕ) (positions : List Position) (found : List Found) (i : ℕ) (spare : Position)
+    (one : Found) → i < length positions → i < length found → IsAnswer bytes (get_or positions i spare) one
     → AreAnswered bytes positions found i → AreAnswered bytes positions (slice_set found i one) (i + 1)
-answered_more bytes positions found i p one at less answer before k below = elim (cases_eq k i) [
+answered_more bytes positions found i spare one inside less answer before k below = elim (cases_eq k i) [
   | inl here ↦
       subst (λ j. IsAnswerTo bytes (slice_get positions j) (slice_get (slice_set found i one) j)) (sym here)
-      (subst (λ o. IsAnswerTo bytes o (slice_get (slice_set found i one) i)) (sym at)
-      (subst (λ o. IsAnswerTo bytes (Some p) o) (sym (set_here found i one less)) answer))
+      (subst (λ o. IsAnswerTo bytes o (slice_get (slice_set found i one) i)) (sym (slice_get-get_or positions i spare inside))
+      (subst (λ o. IsAnswerTo bytes (Some (get_or positions i spare)) o) (sym (set_here found i one less)) answer))
   | inr other ↦
       subst (λ o. IsAnswerTo bytes (slice_get positions k) o) (sym (set_other found i k one other))
       (before k (omega arith))
