@@ -1,6 +1,5 @@
 -- What a getter of the file returns tells what a call returns for the text of the file.
 use Rattle.std.proofs.Common.{◌≡◌, ℕ, List, Bor, Option, Some, None, Result, Ok, Err, subst, sym}
-use Rattle.std.specs.Str.{IsUtf8}
 use Rattle.sourcemap_compiled.specs.Texts.{ReadsText}
 use Rattle.sourcemap_compiled.specs.declared.errors.CompiledMapError.{CompiledMapError}
 use Rattle.sourcemap_compiled.specs.declared.errors.CompiledMapError.TheVariants.{InvalidUtf8}

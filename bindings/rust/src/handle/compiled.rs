@@ -41,18 +41,14 @@ pub(crate) fn debug_id(bytes: &[u8]) -> Option<DebugId> {
 pub(crate) fn lookup(bytes: &[u8], line: u32, column: u32) -> Option<RawToken> {
     let mut found = ffi::Found::NONE;
     // SAFETY: the slice is where it says, and the answer begins as zeros.
-    let code = unsafe {
-        ffi::sm_compiled_lookup(bytes.as_ptr(), bytes.len(), line, column, &mut found)
-    };
+    let code =
+        unsafe { ffi::sm_compiled_lookup(bytes.as_ptr(), bytes.len(), line, column, &mut found) };
     (code == ffi::SM_OK).then_some(found.token)
 }
 
 /// The text that a call points to in these bytes.
 #[inline]
-fn text(
-    bytes: &[u8],
-    ask: impl FnOnce(*const u8, usize, *mut ffi::Text) -> ffi::Code,
-) -> Text<'_> {
+fn text(bytes: &[u8], ask: impl FnOnce(*const u8, usize, *mut ffi::Text) -> ffi::Code) -> Text<'_> {
     let mut text = ffi::Text::EMPTY;
     match ask(bytes.as_ptr(), bytes.len(), &mut text) {
         // SAFETY: the text is in the bytes, and the library found it to be UTF-8.

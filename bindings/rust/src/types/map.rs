@@ -96,7 +96,8 @@ impl SourceMap {
 
     /// Returns the bytes of the compiled map, as [`DecodedMap::compile`] does.
     pub fn compile(&self, contents: WithContents) -> Result<Vec<u8>> {
-        self.regular_handle().compiled(contents == WithContents::Yes)
+        self.regular_handle()
+            .compiled(contents == WithContents::Yes)
     }
 
     /// Returns the map as a `data:` URL.

@@ -68,7 +68,11 @@ fn check_same(found: Option<CompiledToken<'_>>, wanted: Option<Token<'_>>) {
         (
             (token.get_dst(), token.get_src(), token.get_src_id()),
             (token.get_name_id(), token.is_range(), token.has_source()),
-            (Ok(token.get_source()), Ok(token.get_name()), token.has_name()),
+            (
+                Ok(token.get_source()),
+                Ok(token.get_name()),
+                token.has_name(),
+            ),
         )
     });
     assert_eq!(found, wanted);
@@ -88,7 +92,12 @@ fn real_files_answer_as_their_maps() {
         assert_eq!(compiled.token_count(), map.get_token_count());
         for token in map.tokens() {
             let (line, column) = token.get_dst();
-            for column in [column.saturating_sub(1), column, column.saturating_add(1), !0] {
+            for column in [
+                column.saturating_sub(1),
+                column,
+                column.saturating_add(1),
+                !0,
+            ] {
                 check_same(
                     compiled.lookup_token(line, column),
                     map.lookup_token(line, column),
@@ -98,7 +107,10 @@ fn real_files_answer_as_their_maps() {
         check_same(compiled.lookup_token(0, 0), map.lookup_token(0, 0));
         for id in 0..map.get_source_count() + 1 {
             assert_eq!(compiled.source(id), Ok(map.get_source(id)));
-            assert_eq!(compiled.source_contents(id), Ok(map.get_source_contents(id)));
+            assert_eq!(
+                compiled.source_contents(id),
+                Ok(map.get_source_contents(id))
+            );
         }
         for id in 0..map.get_name_count() + 1 {
             assert_eq!(compiled.name(id), Ok(map.get_name(id)));
@@ -110,26 +122,42 @@ fn real_files_answer_as_their_maps() {
 fn all_parts_are_compiled() {
     let file = compiled(&regular(FULL));
     let map = CompiledMap::parse(&file).expect("a compiled map");
-    assert_eq!((map.token_count(), map.source_count(), map.name_count()), (3, 2, 1));
+    assert_eq!(
+        (map.token_count(), map.source_count(), map.name_count()),
+        (3, 2, 1)
+    );
     assert_eq!(map.file(), Ok(Some("out.js")));
     assert_eq!(map.debug_id(), regular(FULL).get_debug_id());
     assert_eq!(map.source(0), Ok(Some("root/a.js")));
     assert_eq!(map.source_contents(0), Ok(Some("let a;")));
-    assert_eq!((map.source_contents(1), map.source(2), map.name(!0)), (Ok(None), Ok(None), Ok(None)));
+    assert_eq!(
+        (map.source_contents(1), map.source(2), map.name(!0)),
+        (Ok(None), Ok(None), Ok(None))
+    );
     let range = map.lookup_token(0, 5).expect("a token");
-    assert_eq!((range.get_dst(), range.get_src(), range.is_range()), ((0, 4), (1, 3), true));
+    assert_eq!(
+        (range.get_dst(), range.get_src(), range.is_range()),
+        ((0, 4), (1, 3), true)
+    );
     let last = map.lookup_token(!0, !0).expect("a token");
     assert_eq!((last.has_source(), last.get_src()), (false, (!0, !0)));
-    let bare = regular(FULL).compile(WithContents::No).expect("a compiled map");
+    let bare = regular(FULL)
+        .compile(WithContents::No)
+        .expect("a compiled map");
     let bare = CompiledMap::parse(&bare).expect("a compiled map");
     assert_eq!(bare.source_contents(0), Ok(None));
 }
 
 #[test]
 fn a_map_without_tokens_answers_none() {
-    let file = compiled(&regular(r#"{"version":3,"sources":[],"names":[],"mappings":""}"#));
+    let file = compiled(&regular(
+        r#"{"version":3,"sources":[],"names":[],"mappings":""}"#,
+    ));
     let map = CompiledMap::parse(&file).expect("a compiled map");
-    assert_eq!((map.token_count(), map.file(), map.debug_id()), (0, Ok(None), None));
+    assert_eq!(
+        (map.token_count(), map.file(), map.debug_id()),
+        (0, Ok(None), None)
+    );
     assert!(map.lookup_token(!0, !0).is_none());
 }
 
@@ -146,7 +174,10 @@ fn scopes_are_those_of_hermes_maps() {
     }
     let file = compiled_regular(&map);
     let regular = CompiledMap::parse(&file).expect("a compiled map");
-    assert_eq!(regular.lookup_token(0, 0).expect("a token").get_scope(), Ok(None));
+    assert_eq!(
+        regular.lookup_token(0, 0).expect("a token").get_scope(),
+        Ok(None)
+    );
 }
 
 /// The regular map in a Hermes map, compiled.
@@ -163,7 +194,10 @@ fn equal_maps_give_equal_bytes() {
     );
     let flat_file = regular(r#"{"version":3,"sources":["a.js"],"names":[],"mappings":";AAAA"}"#);
     let file = index.expect("a map").compile(WithContents::No);
-    assert_eq!(file.expect("a compiled map"), flat_file.compile(WithContents::No).expect("one"));
+    assert_eq!(
+        file.expect("a compiled map"),
+        flat_file.compile(WithContents::No).expect("one")
+    );
 }
 
 #[test]
@@ -183,7 +217,10 @@ fn headers_are_checked() {
     }
     let longer = [&file[..], &[0]].concat();
     assert_eq!(refused(&longer), Err(CompiledMapError::WrongExtent));
-    assert_eq!(refused(COOLSTUFF.as_bytes()), Err(CompiledMapError::WrongMagic));
+    assert_eq!(
+        refused(COOLSTUFF.as_bytes()),
+        Err(CompiledMapError::WrongMagic)
+    );
     put_number(&mut file, 4, 513);
     assert_eq!(refused(&file), Err(CompiledMapError::WrongVersion(513)));
 }
@@ -222,7 +259,10 @@ fn errors_of_compiled_maps_print() {
             CompiledMapError::WrongExtent,
             "a table of the compiled map has a wrong extent",
         ),
-        (CompiledMapError::OutOfOrder, "the compiled map is out of order"),
+        (
+            CompiledMapError::OutOfOrder,
+            "the compiled map is out of order",
+        ),
         (
             CompiledMapError::TextOutside,
             "a text passes the end of the compiled map",
