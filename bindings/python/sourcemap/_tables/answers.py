@@ -1,0 +1,150 @@
+"""What `batch.symbolicate` adds to a table of frames, as arrays."""
+from __future__ import annotations
+
+from typing import Any, Callable, Dict, List, NamedTuple, Tuple
+
+import numpy as np
+import pandas as pd
+from numpy.typing import NDArray
+
+from ..release import Problem, Release
+from .columns import Codes, Texts, distinct, positions
+from .opened import Lookups, Numbers, OpenedMap
+
+STATUSES = ('found', 'no map', 'no token', 'bad position', 'bad map')
+FOUND, NO_MAP, NO_TOKEN, BAD_POSITION, BAD_MAP = range(len(STATUSES))
+
+
+class Answers(NamedTuple):
+    """The answers to the rows of a table. Where a row has none, the numbers are -1. `problems` has for each generated
+    file without a map why it has none."""
+
+    source: Texts
+    source_line: Codes
+    source_column: Codes
+    name: Texts
+    scope: Texts
+    context_line: Texts
+    status: NDArray[np.int8]
+    problems: Dict[str, str]
+
+
+class _Column:
+    """A column of texts that is filled map by map."""
+
+    def __init__(self, count: int) -> None:
+        self._codes = np.full(count, -1, np.int64)
+        self._texts: List[str] = []
+
+    def add(self, rows: Codes, keys: NDArray[Any], read: Callable[[Any], List[str]]) -> None:
+        """Sets the texts of rows. Rows with one key have one text; `read` gets each key once."""
+        codes, used = pd.factorize(keys)
+        self.add_texts(rows, codes, read(used))
+
+    def add_texts(self, rows: Codes, codes: Codes, texts: List[str]) -> None:
+        """Sets the texts of rows by their numbers in a list; -1 is none."""
+        self._codes[rows] = np.where(codes < 0, -1, codes + len(self._texts))
+        self._texts.extend(texts)
+
+    def texts(self) -> Texts:
+        return Texts(self._codes, self._texts)
+
+
+class _Answering:
+    """The columns while they are filled."""
+
+    def __init__(self, count: int, base: int) -> None:
+        self._base = base
+        self.status = np.full(count, BAD_POSITION, np.int8)
+        self._line, self._column = np.full(count, -1, np.int64), np.full(count, -1, np.int64)
+        self._source, self._name, self._scope, self._context = (_Column(count) for _ in range(4))
+
+    def ask(self, map: OpenedMap, rows: Codes, lines: Numbers, columns: Numbers) -> None:
+        """Asks a map for these rows, which have these positions."""
+        all_found = map.lookup(lines, columns)
+        hits = all_found.has_original
+        self.status[rows] = np.where(hits, FOUND, NO_TOKEN)
+        rows, lines, columns = rows[hits], lines[hits], columns[hits]
+        found = Lookups(*(field[hits] for field in all_found))
+        self._line[rows] = found.lines.astype(np.int64) + self._base
+        self._column[rows] = found.columns.astype(np.int64) + self._base
+        self._source.add(rows, found.sources, map.sources)
+        named = map.has_name(found.names)
+        self._name.add(rows[named], found.names[named], map.names)
+        if map.has_scopes:
+            self._scope.add_texts(rows, *map.scopes(lines, columns, found))
+        keys = map.line_keys(found.sources, found.lines, found.columns)
+        there = keys >= 0
+        self._context.add(rows[there], keys[there], map.read_lines)
+
+    def answers(self, problems: Dict[str, str]) -> Answers:
+        return Answers(self._source.texts(), self._line, self._column, self._name.texts(), self._scope.texts(),
+                       self._context.texts(), self.status, problems)
+
+
+class _Maps(NamedTuple):
+    """The maps of a table: for each row the number of its map, or -1, and the status that it has without a map."""
+
+    numbers: Codes
+    status: NDArray[np.int8]
+    opened: List[OpenedMap]
+    problems: Dict[str, str]
+
+
+def answer(frames: pd.DataFrame, release: Release, base: int) -> Answers:
+    """The answers to the rows of a table. Lines and columns, read and returned, count from `base`."""
+    lines, have_lines = positions(frames['line'], base)
+    columns, have_columns = positions(frames['column'], base)
+    have_positions = have_lines & have_columns
+    maps = _maps_of(frames, release)
+    answering = _Answering(len(frames), base)
+    answering.status[have_positions] = maps.status[have_positions]
+    numbers = np.where(have_positions, maps.numbers, -1)
+    order = np.argsort(numbers.astype(np.int16) if len(maps.opened) < 1 << 15 else numbers, kind='stable')
+    bounds = np.searchsorted(numbers[order], np.arange(len(maps.opened) + 1))
+    for map, first, end in zip(maps.opened, bounds, bounds[1:]):
+        if first < end:
+            rows = order[first:end]
+            answering.ask(map, rows, lines[rows], columns[rows])
+    return answering.answers(maps.problems)
+
+
+def _maps_of(frames: pd.DataFrame, release: Release) -> _Maps:
+    codes, files, ids = _files_of(frames)
+    numbers = np.full(len(files) + 1, -1, np.int64)
+    status = np.full(len(files) + 1, NO_MAP, np.int8)
+    opened: Dict[int, Tuple[int, OpenedMap]] = {}
+    problems: Dict[str, str] = {}
+    for code, (file, debug_id) in enumerate(zip(files, ids)):
+        found = release.opened(file, debug_id)
+        if isinstance(found, Problem):
+            status[code] = BAD_MAP if found.is_bad else NO_MAP
+            if file or debug_id:
+                problems[file or debug_id] = found.why
+        else:
+            numbers[code], _ = opened.setdefault(id(found), (len(opened), found))
+    return _Maps(numbers[codes], status[codes], [map for _, map in opened.values()], problems)
+
+
+def _files_of(frames: pd.DataFrame) -> Tuple[Codes, List[Any], List[Any]]:
+    """For each row the number of its file and debug id, or -1, and these by their numbers."""
+    codes, files = _used_texts(frames['file'])
+    if 'debug_id' not in frames:
+        return codes, files, [None] * len(files)
+    id_codes, ids = _used_texts(frames['debug_id'])
+    pairs, used = pd.factorize((codes + 1) * (len(ids) + 1) + id_codes + 1)
+    named, identified = [None, *files], [None, *ids]
+    file_of, id_of = np.divmod(used, len(ids) + 1)
+    return pairs.astype(np.int64), [named[each] for each in file_of], [identified[each] for each in id_of]
+
+
+def _used_texts(column: pd.Series) -> Tuple[Codes, List[Any]]:
+    """For each row the number of its text, and the texts that rows have. What is no text counts as missing."""
+    codes, values = distinct(column)
+    is_used = np.zeros(len(values) + 1, bool)
+    is_used[codes] = True
+    is_used[-1] = False
+    used = [code for code in np.flatnonzero(is_used).tolist() if isinstance(values[code], str)]
+    numbers = np.full(len(values) + 1, -1, np.int64)
+    numbers[used] = np.arange(len(used))
+    return numbers[codes], [values[code] for code in used]
