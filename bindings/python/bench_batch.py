@@ -3,8 +3,7 @@
 
     bindings/python/bench_batch.py MAPS WORK [--frames N] [--maps N] [--workers 1,2,4] [--rounds N]
 
-MAPS is a folder with maps, such as those of a corpus: the first ones by the SHA-256 of their bytes are taken, at most 200
-(--maps). WORK is a folder that is made: it gets the release, a table with 10,000,000 frames (--frames), and the output.
+MAPS is a folder with maps, such as those of a corpus: the largest ones are taken, at most 200 (--maps). WORK is a folder that is made: it gets the release, a table with 10,000,000 frames (--frames), and the output.
 A table that is there already is used again. The frames are drawn at random: a map, a token of it, and a column up to two
 behind it. Each number of workers takes the table some times (--rounds, 1), and the least time counts. The maps are
 compiled before.
@@ -17,6 +16,7 @@ import cProfile
 import hashlib
 import os
 import pstats
+import resource
 import shutil
 import subprocess
 import sys
@@ -37,14 +37,15 @@ PARTS = [('reading CSV', csv_rows._read), ('lookups', opened.CompiledMap.lookup_
          ('lines of sources', opened.OpenedMap.read_lines), ('writing CSV', csv_rows._write)]
 
 
-def digest(path):
-    return hashlib.sha256(path.read_bytes()).hexdigest()
+def rank(path):
+    data = path.read_bytes()
+    return -len(data), hashlib.sha256(data).digest()
 
 
 def write_release(maps, folder, most):
     """Takes the maps that can be read and have tokens with sources. Returns the name of each file, and its positions."""
     taken = []
-    for path in sorted((path for path in maps.rglob('*.map') if path.is_file()), key=digest):
+    for path in sorted((path for path in maps.rglob('*.map') if path.is_file()), key=rank):
         if len(taken) == most:
             break
         try:
@@ -95,9 +96,15 @@ def own_memory(pid):
     return found
 
 
+def processor_seconds():
+    """Those of all processes that this one started, and that ended."""
+    used = resource.getrusage(resource.RUSAGE_CHILDREN)
+    return used.ru_utime + used.ru_stime
+
+
 def measure(words):
-    """Runs the program. Returns the seconds, the most own memory of a process, and the last line."""
-    began = time.monotonic()
+    """Runs the program. Returns the seconds, those of the processor, the most own memory of a process, the last line."""
+    began, used = time.monotonic(), processor_seconds()
     program = subprocess.Popen([sys.executable, '-m', 'sourcemap', 'batch', *words], stderr=subprocess.PIPE, text=True)
     most = 0
     while program.poll() is None:
@@ -107,14 +114,14 @@ def measure(words):
     errors = program.stderr.read()
     if program.returncode:
         sys.exit(errors)
-    return seconds, most, errors.splitlines()[-1]
+    return seconds, processor_seconds() - used, most, errors.splitlines()[-1]
 
 
 def profile(frames, release, count):
     with tempfile.TemporaryDirectory() as folder, Table(frames, 8_000_000, Path(folder)) as table:
         format = job.Format('csv', False)
         run = job.Job(release, format, table.names, 1, folder)
-        profiler = cProfile.Profile()
+        profiler = cProfile.Profile(time.process_time)
         answered = 0
         for piece in table.pieces():
             profiler.enable()
@@ -163,10 +170,10 @@ def main():
     for workers in map(int, arguments.workers.split(',')):
         words = [str(frames), '--release', str(folder), '--cache', str(cache), '-o', str(work / 'out.csv'), '--workers',
                  str(workers)]
-        seconds, most, last = min(measure(words) for _ in range(arguments.rounds))
+        seconds, used, most, last = min(measure(words) for _ in range(arguments.rounds))
         first = first or seconds
         print(f'{workers} workers: {seconds:.1f} s, {arguments.frames / seconds:.0f} frames a second, '
-              f'{first / seconds:.2f} of the first, {most / 1e6:.0f} MB each at most; {last}')
+              f'{first / seconds:.2f} of the first, {used:.1f} s of processors, {most / 1e6:.0f} MB each at most; {last}')
     print(f'out.csv: {(work / "out.csv").stat().st_size / 1e6:.0f} MB')
     profile(frames, release, arguments.frames // 10)
 

@@ -1,19 +1,16 @@
 """Tables of frames in a Dask cluster."""
 from __future__ import annotations
 
-from typing import TYPE_CHECKING, Any
+from typing import Any
 
 from . import batch
 from ._needed import need
 from .release import Release
 
-if TYPE_CHECKING:
-    import dask.dataframe
 
-
-def symbolicate(frames: dask.dataframe.DataFrame, release: Release, *, zero_based: bool = False) -> Any:
-    """`batch.symbolicate` of each partition of a Dask table, which Dask computes when it is asked for it. The folder of
-    the release, and of its cache, have the same path for each worker.
+def symbolicate(frames: Any, release: Release, *, zero_based: bool = False) -> Any:
+    """`batch.symbolicate` of each partition of a `dask.dataframe.DataFrame`, as another one. Nothing is computed until
+    Dask is asked for it. The folder of the release, and that of its cache, have the same path for each worker.
 
     >>> import pandas, sourcemap
     >>> from dask.dataframe import from_pandas

@@ -97,8 +97,7 @@ class Release:
         """Raises `NotADirectoryError` if there is no such folder."""
         self._begin(Path(folder).absolute(), Path(cache).absolute() if cache is not None else _cache.default_folder(),
                     uuid.uuid4().hex)
-        if not os.path.isdir(self._folder):
-            raise NotADirectoryError(errno.ENOTDIR, os.strerror(errno.ENOTDIR), str(self._folder))
+        self._check_folder()
 
     def _begin(self, folder: Path, cache: Path, token: str) -> None:
         self._folder = folder
@@ -112,6 +111,10 @@ class Release:
         self._answers: Dict[Tuple[Optional[str], Optional[str]], Match] = {}
         self._compiled: Dict[str, Union[_Compiled, Problem]] = {}
         self._opened: 'OrderedDict[str, OpenedMap]' = OrderedDict()
+
+    def _check_folder(self) -> None:
+        if not os.path.isdir(self._folder):
+            raise NotADirectoryError(errno.ENOTDIR, os.strerror(errno.ENOTDIR), str(self._folder))
 
     @property
     def folder(self) -> Path:
@@ -280,6 +283,7 @@ class Release:
 
     def _listed(self) -> _Files:
         if self._files is None:
+            self._check_folder()  # for another process it may be missing
             self._files = _Files(self._folder)
         return self._files
 
@@ -319,7 +323,7 @@ class Release:
         found = self._cache.find(key)
         if found is None:
             try:
-                data = _embedded_in(path) if embedded else path.read_bytes()
+                data: Union[bytes, str] = _embedded_in(path) if embedded else path.read_bytes()
             except OSError as error:
                 return Problem(not isinstance(error, FileNotFoundError), reason_of(error))
             try:

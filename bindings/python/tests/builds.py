@@ -87,6 +87,7 @@ def put(folder: Path, name: str, data: bytes) -> Path:
     return path
 
 
+MISSING = [None] * 6
 # A row of a table: the file, the debug id, the line and the column, as texts.
 Row = Tuple[str, str, str, str]
 WRONG = ['', 'x', '-5', '4294967297', '99999999999999999999', '1.5', '1e3', 'say "hi", twice', 'two\nlines', '0', ' ', '1 2']
@@ -119,22 +120,22 @@ class Reference:
                 self._maps[each.file].flatten()
         self._views: Dict[Tuple[str, int], Optional[View]] = {}
 
-    def answer(self, row: Row) -> List[str]:
-        """The fields that are added to a row, as texts."""
+    def answer(self, row: Row) -> List[Optional[str]]:
+        """The fields that are added to a row, as texts; None for what it does not have."""
         file, _, line, column = row
         positions = [self._position(text) for text in (line, column)]
         if None in positions:
-            return ['', '', '', '', '', '', 'bad position']
+            return [*MISSING, 'bad position']
         map = self._maps.get(file)
         if map is None:
-            return ['', '', '', '', '', '', 'no map']
+            return [*MISSING, 'no map']
         token = map.lookup(positions[0] or 0, positions[1] or 0)
         if token is None or token.source_id is None or token.line is None or token.column is None or not (
                 token.generated_line == positions[0] or token.is_range):
-            return ['', '', '', '', '', '', 'no token']
+            return [*MISSING, 'no token']
         scope = map.scope_for(token.source_id, token.line, token.column) if map.kind == 'hermes' else None
         context = self._context(file, map, token.source_id, token.line, token.column)
-        return [token.source or '', str(token.line + 1), str(token.column + 1), token.name or '', scope or '', context, 'found']
+        return [token.source, str(token.line + 1), str(token.column + 1), token.name, scope, context, 'found']
 
     @staticmethod
     def _position(text: str) -> Optional[int]:
@@ -142,13 +143,13 @@ class Reference:
             return None
         return int(text) - 1
 
-    def _context(self, file: str, map: Map, source: int, line: int, column: int) -> str:
+    def _context(self, file: str, map: Map, source: int, line: int, column: int) -> Optional[str]:
         if (file, source) not in self._views:
             contents = map.contents[source]
             self._views[file, source] = None if contents is None else View(contents)
         view = self._views[file, source]
         if view is None or line >= len(view):
-            return ''
+            return None
         units = view[line].encode('utf-16-le')
         if len(units) <= 400:
             return view[line]

@@ -2,6 +2,9 @@
 
 from __future__ import annotations
 
+import doctest
+import os
+import re
 import subprocess
 import sys
 import unittest
@@ -172,7 +175,7 @@ class AsOneAtATime(Folder):
         built = builds.write(self.root)
         rows = list(builds.rows(built, 20_000))
         reference = Reference(built)
-        wanted = [reference.answer(row) for row in rows]
+        wanted = [[field or '' for field in reference.answer(row)] for row in rows]
         self.assertGreater(min(sum(row[6] == status for row in wanted) for status in ('found', 'no token', 'bad position')), 100)
         frames = pd.DataFrame(rows, columns=['file', 'debug_id', 'line', 'column'])
         release = self.release()
@@ -194,6 +197,23 @@ class AsOneAtATime(Folder):
         self.assertEqual(lazy.dtypes.tolist(), expected.dtypes.tolist())
         for scheduler in 'synchronous', 'threads':
             pd.testing.assert_frame_equal(lazy.compute(scheduler=scheduler), expected)
+
+
+class Page(Tables):
+    """The examples of BATCH.md."""
+
+    def test_examples(self) -> None:
+        page = (FOLDER / 'BATCH.md').read_text('utf-8')
+        self.put('static/app.js', '//# sourceMappingURL=../app.js.map')
+        frames = pd.DataFrame({'file': ['static/app.js'] * 2000 + ['none.js'] * 500, 'line': 1, 'column': 1})
+        frames.to_csv(self.top / 'frames.csv', index=False)
+        self.addCleanup(os.chdir, os.getcwd())
+        os.chdir(self.top)
+        self.assertEqual(doctest.DocTestRunner().run(doctest.DocTestParser().get_doctest(page, {}, 'BATCH.md', None, 0)), (0, 3))
+        code, printed = re.findall(r'```python\n(.*?)```\n\nprints `(.*?)`', page, flags=re.DOTALL)[0]
+        run = subprocess.run([sys.executable, '-c', code], env={**ENVIRONMENT, 'PYTHONPATH': str(FOLDER)},
+                             capture_output=True, text=True)
+        self.assertEqual((run.stdout, run.stderr), (f'{printed}\n', ''))
 
 
 class Needed(unittest.TestCase):

@@ -21,7 +21,7 @@ import time
 import unittest
 from importlib.util import find_spec
 from pathlib import Path
-from typing import Any, Callable, Dict, Iterator, List, Literal, Sequence, Set, Tuple
+from typing import Any, Callable, Dict, Iterator, List, Literal, Optional, Sequence, Set, Tuple
 from unittest import mock
 
 try:
@@ -45,9 +45,22 @@ COUNTS = re.compile(r'(\d+) rows: (\d+) found, (\d+) no map, (\d+) no token, (\d
 needs_distributed = unittest.skipUnless(find_spec('distributed'), 'distributed is not installed')
 
 
-def csv_of(rows: Sequence[Sequence[str]], quoting: Literal[0, 1] = csv.QUOTE_MINIMAL) -> bytes:
+def csv_of(rows: Sequence[Sequence[Optional[str]]], quoting: Literal[0, 1] = csv.QUOTE_MINIMAL) -> bytes:
     text = io.StringIO()
     csv.writer(text, lineterminator='\n', quoting=quoting).writerows(rows)
+    return text.getvalue().encode()
+
+
+def answered(rows: Sequence[Row], answers: Sequence[Sequence[Optional[str]]]) -> bytes:
+    """The table with the answers. All lines of sources are in quotes."""
+    text = io.StringIO()
+    writer = csv.writer(text, lineterminator='\n')
+    writer.writerow([*HEAD, *batch.COLUMNS])
+    for row, (*answer, context, status) in zip(rows, answers):
+        writer.writerow([*row, *answer])
+        text.seek(text.tell() - 1)
+        in_quotes = '' if context is None else '"' + context.replace('"', '""') + '"'
+        text.write(f',{in_quotes},{status}\n')
     return text.getvalue().encode()
 
 
@@ -78,7 +91,7 @@ class Jobs(Folder):
 
 
 class SameAnswers(Jobs):
-    def build(self, count: int) -> Tuple[List[Row], List[List[str]]]:
+    def build(self, count: int) -> Tuple[List[Row], List[List[Optional[str]]]]:
         built = builds.write(self.root)
         rows = list(builds.rows(built, count))
         reference = Reference(built)
@@ -90,7 +103,7 @@ class SameAnswers(Jobs):
         from distributed import LocalCluster
 
         rows, answers = self.build(200_000)
-        wanted = csv_of([[*HEAD, *batch.COLUMNS], *([*row, *answer] for row, answer in zip(rows, answers))])
+        wanted = answered(rows, answers)
         frames = self.table('frames.csv', [HEAD, *rows])
         self.assertEqual(self.output_of(frames, '--workers', 1), wanted)
         self.assertEqual(self.output_of(frames, '--workers', 1, '--partition', 300_001), wanted)
@@ -103,7 +116,7 @@ class SameAnswers(Jobs):
     def test_formats(self) -> None:
         rows, answers = self.build(3000)
         frames = self.table('frames.csv', [HEAD, *rows])
-        wanted = csv_of([[*HEAD, *batch.COLUMNS], *([*row, *answer] for row, answer in zip(rows, answers))])
+        wanted = answered(rows, answers)
         zipped = builds.put(self.top, 'frames.csv.gz', gzip.compress(frames.read_bytes()))
         self.assertEqual(self.output_of(zipped, '--workers', 1, '--partition', 20_000), wanted)
         first = self.output_of(frames, '--workers', 1, '--partition', 20_000, out='out.csv.gz')
@@ -121,7 +134,7 @@ class SameAnswers(Jobs):
                     record[name] = int(str(record[name]))
         text = '\n'.join(map(json.dumps, records)) + '\n \n'
         types: Dict[str, Callable[[str], object]] = {'source_line': int, 'source_column': int}
-        wanted = [{**record, **{name: types.get(name, str)(text) if text else None
+        wanted = [{**record, **{name: None if text is None else types.get(name, str)(text)
                                 for name, text in zip(batch.COLUMNS, answer)}} for record, answer in zip(records, answers)]
         for name, data in ('f.jsonl', text.encode()), ('f.ndjson.gz', gzip.compress(text.encode())):
             frames = builds.put(self.top, name, data)
@@ -347,11 +360,10 @@ class BadMaps(Jobs):
         answers = [reference.answer(row) for row in rows]
         for place, (file, status) in enumerate(list(bad.items()) * 3):
             rows.insert(place * 9, (file, '', '1', '1'))
-            answers.insert(place * 9, [''] * 6 + [status])
+            answers.insert(place * 9, [*builds.MISSING, status])
         frames = self.table('f.csv', [HEAD, *rows])
         run = self.run_job(frames, '--workers', 1)
-        self.assertEqual(run.stdout.encode(), csv_of([[*HEAD, *batch.COLUMNS], *([*row, *answer]
-                                                                                 for row, answer in zip(rows, answers))]))
+        self.assertEqual(run.stdout.encode(), answered(rows, answers))
         lines = run.stderr.splitlines()
         self.assertIn(f'sourcemap: /static/cut.js: {self.root}/static/cut.js.map: bad json: the text is not JSON', lines)
         self.assertIn(f'sourcemap: /static/hostile.js: {self.root}/static/hostile.js.map takes more memory than a map of its '

@@ -3,14 +3,12 @@
 from __future__ import annotations
 
 import json
-import multiprocessing
 import os
 import pickle
 import subprocess
 import sys
 import tempfile
 import unittest
-import uuid
 from pathlib import Path
 from typing import List
 
@@ -337,6 +335,12 @@ class Objects(Folder):
         self.put_map('later.js.map')
         self.assertIsNone(pickle.loads(pickled).find('later.js').map)
         self.assertIsNotNone(pickle.loads(pickle.dumps(self.release())).find('later.js').map)
+
+    def test_pickled_to_where_the_folder_is_not(self) -> None:
+        pickled = pickle.dumps(self.release())
+        self.root.rmdir()
+        with self.assertRaises(NotADirectoryError):
+            pickle.loads(pickled).find('app.js')
 
 
 if __name__ == '__main__':

@@ -9,7 +9,7 @@ from numpy.typing import NDArray
 
 from ..release import Problem, Release
 from .columns import Codes, Texts, distinct, positions
-from .opened import Lookups, Numbers, OpenedMap
+from .opened import Numbers, OpenedMap
 
 STATUSES = ('found', 'no map', 'no token', 'bad position', 'bad map')
 FOUND, NO_MAP, NO_TOKEN, BAD_POSITION, BAD_MAP = range(len(STATUSES))
@@ -29,6 +29,23 @@ class Answers(NamedTuple):
     problems: Dict[str, str]
 
 
+class Distinct(NamedTuple):
+    """The distinct keys of rows, and for each row the number of its key among them."""
+
+    keys: NDArray[Any]
+    codes: Codes
+
+
+def distinct_ids(ids: Numbers, count: int) -> Distinct:
+    """The distinct ids, of those below `count`."""
+    is_used = np.zeros(count, bool)
+    is_used[ids] = True
+    used = np.flatnonzero(is_used)
+    numbers = np.empty(count, np.int64)
+    numbers[used] = np.arange(len(used))
+    return Distinct(used, numbers[ids])
+
+
 class _Column:
     """A column of texts that is filled map by map."""
 
@@ -36,10 +53,9 @@ class _Column:
         self._codes = np.full(count, -1, np.int64)
         self._texts: List[str] = []
 
-    def add(self, rows: Codes, keys: NDArray[Any], read: Callable[[Any], List[str]]) -> None:
+    def add(self, rows: Codes, keys: Distinct, read: Callable[[Any], List[str]]) -> None:
         """Sets the texts of rows. Rows with one key have one text; `read` gets each key once."""
-        codes, used = pd.factorize(keys)
-        self.add_texts(rows, codes, read(used))
+        self.add_texts(rows, keys.codes, read(keys.keys))
 
     def add_texts(self, rows: Codes, codes: Codes, texts: List[str]) -> None:
         """Sets the texts of rows by their numbers in a list; -1 is none."""
@@ -61,21 +77,20 @@ class _Answering:
 
     def ask(self, map: OpenedMap, rows: Codes, lines: Numbers, columns: Numbers) -> None:
         """Asks a map for these rows, which have these positions."""
-        all_found = map.lookup(lines, columns)
-        hits = all_found.has_original
-        self.status[rows] = np.where(hits, FOUND, NO_TOKEN)
-        rows, lines, columns = rows[hits], lines[hits], columns[hits]
-        found = Lookups(*(field[hits] for field in all_found))
-        self._line[rows] = found.lines.astype(np.int64) + self._base
-        self._column[rows] = found.columns.astype(np.int64) + self._base
-        self._source.add(rows, found.sources, map.sources)
-        named = map.has_name(found.names)
-        self._name.add(rows[named], found.names[named], map.names)
+        found, has_original = map.lookup(lines, columns)
+        self.status[rows] = np.where(has_original, FOUND, NO_TOKEN)
+        if not has_original.all():
+            rows, found = rows[has_original], found[has_original]
+            lines, columns = lines[has_original], columns[has_original]
+        self._line[rows] = found['line'].astype(np.int64) + self._base
+        self._column[rows] = found['column'].astype(np.int64) + self._base
+        self._source.add(rows, distinct_ids(found['source'], map.source_count), map.sources)
+        names = found['name']
+        named = names < map.name_count
+        self._name.add(rows[named], distinct_ids(names[named], map.name_count), map.names)
         if map.has_scopes:
             self._scope.add_texts(rows, *map.scopes(lines, columns, found))
-        keys = map.line_keys(found.sources, found.lines, found.columns)
-        there = keys >= 0
-        self._context.add(rows[there], keys[there], map.read_lines)
+        self._context.add_texts(rows, *map.context(found))
 
     def answers(self, problems: Dict[str, str]) -> Answers:
         return Answers(self._source.texts(), self._line, self._column, self._name.texts(), self._scope.texts(),

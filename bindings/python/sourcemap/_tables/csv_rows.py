@@ -17,7 +17,7 @@ from numpy.typing import NDArray
 from ..release import Release
 from .answers import STATUSES, Answers, answer
 from .columns import Codes, Texts, distinct
-from .pieces import quoted
+from .pieces import SPECIAL, quoted
 
 BLOCK = 8192
 _SMALL = 1 << 16
@@ -41,9 +41,8 @@ def answer_rows(data: bytes, names: Sequence[str], release: Release, base: int, 
     answers = answer(frames, release, base)
     columns = [_of_input(table[place], names[place] in ('line', 'column')) for place in range(len(names))]
     status = Texts(answers.status.astype(np.int64), list(STATUSES))
-    added = [answers.source, answers.source_line, answers.source_column, answers.name, answers.scope,
-             answers.context_line, status]
-    _write(file, [*columns, *(each if isinstance(each, Texts) else _Numbers(each, True) for each in added)], len(table))
+    _write(file, [*columns, answers.source, _Numbers(answers.source_line, True), _Numbers(answers.source_column, True),
+                  answers.name, answers.scope, _Quoted(answers.context_line), status], len(table))
     return answers
 
 
@@ -52,6 +51,12 @@ class _Numbers(NamedTuple):
 
     numbers: Codes
     added: bool
+
+
+class _Quoted(NamedTuple):
+    """A column of texts that are all put into quotes, as most need them. So a line that is empty differs from none."""
+
+    texts: Texts
 
 
 def _read(data: bytes, names: Sequence[str]) -> pd.DataFrame:
@@ -98,8 +103,7 @@ def _plain(text: str) -> str:
 
 def _write(file: BinaryIO, columns: List[Any], count: int) -> None:
     ends = [b','] * (len(columns) - 1) + [b'\n']
-    cells = [_text_cells(column, end) if isinstance(column, Texts) else _number_cells(column, end)
-             for column, end in zip(columns, ends)]
+    cells = [_cells(column, end) for column, end in zip(columns, ends)]
     block = np.empty((BLOCK, len(cells)), object)
     for first in range(0, count, BLOCK):
         rows = block[:min(BLOCK, count - first)]
@@ -108,15 +112,31 @@ def _write(file: BinaryIO, columns: List[Any], count: int) -> None:
         file.write(b''.join(rows.ravel().tolist()))
 
 
+def _cells(column: Any, end: bytes) -> _Cells:
+    if isinstance(column, _Numbers):
+        return _number_cells(column, end)
+    if isinstance(column, _Quoted):
+        return _text_cells(column.texts, end, True)
+    return _text_cells(column, end, False)
+
+
 def _objects(items: Sequence[bytes]) -> NDArray[np.object_]:
     array = np.empty(len(items), object)
     array[:] = items
     return array
 
 
-def _text_cells(column: Texts, end: bytes) -> _Cells:
-    return _Cells(column.codes, _objects([*(quoted(text).encode('utf-8', 'surrogateescape') + end
-                                            for text in column.texts), end]))
+def _text_cells(column: Texts, end: bytes, in_quotes: bool) -> _Cells:
+    texts = column.texts
+    joined = '\0'.join(texts)
+    if texts and joined.count('\0') == len(texts) - 1 and (in_quotes or SPECIAL.search(joined) is None):
+        # all at once; the zero character divides them again
+        start, stop = ('"', '"' + end.decode()) if in_quotes else ('', end.decode())
+        whole = joined.replace('"', '""').replace('\0', f'{stop}\0{start}')
+        rendered = f'{start}{whole}{stop}'.encode('utf-8', 'surrogateescape').split(b'\0')
+    else:
+        rendered = [quoted(text, in_quotes).encode('utf-8', 'surrogateescape') + end for text in texts]
+    return _Cells(column.codes, _objects([*rendered, end]))
 
 
 _small_numbers: Dict[bytes, NDArray[np.object_]] = {}

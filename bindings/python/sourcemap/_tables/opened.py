@@ -29,30 +29,28 @@ Numbers = NDArray[np.uint32]
 Places = NDArray[np.int64]
 
 
-class Lookups(NamedTuple):
-    """What was found at each of many positions, as arrays of one length. `has_original` is false if there is no token,
-    if the token has no source, or if it is on an earlier line and no range token. Lines and columns count from 0."""
+# An sm_found of the library.
+FOUND = np.dtype({'names': ['generated_line', 'generated_column', 'line', 'column', 'source', 'name', 'is_range', 'found'],
+                  'formats': [np.uint32] * 6 + [np.bool_] * 2, 'offsets': range(0, 32, 4), 'itemsize': 32})
 
-    has_original: Flags
-    sources: Numbers
-    lines: Numbers
-    columns: Numbers
-    names: Numbers
-    generated_lines: Numbers
-    generated_columns: Numbers
+# What was found at many positions, with lines and columns counted from 0.
+Found = NDArray[np.void]
 
 
 class _Lines(NamedTuple):
     """Where the lines of contents are in the bytes of the file. `breaks` are the ends of lines, the bytes of line feeds
-    and of returns that stand alone. For each source, `starts` and `ends` are where its contents begin and end, `first`
-    and `last` the numbers of the breaks that come next; `is_there` says whether it has contents."""
+    and of returns that stand alone, and then a 0; `begins` is 0, and then the bytes after each of them. For each source,
+    `starts` and `ends` are where its contents begin and end, `first` and `last` the numbers of the breaks that come next;
+    `is_there` says whether it has contents."""
 
-    breaks: Numbers
+    breaks: Places
+    begins: Places
     starts: Places
     ends: Places
     first: Places
     last: Places
     is_there: Flags
+    has_returns: bool
 
 
 class OpenedMap:
@@ -74,32 +72,38 @@ class OpenedMap:
         blocks = (self._tokens + 63) // 64
         self._offsets: Numbers = np.frombuffer(self._data, '<u4', count + 1, int(header[48 // 4]) + 40 * blocks)
         self._lines: Optional[_Lines] = None
+        self._knows_lines = False
 
-    def lookup(self, lines: Numbers, columns: Numbers) -> Lookups:
-        """Looks up many positions, counted from 0."""
+    def lookup(self, lines: Numbers, columns: Numbers) -> Tuple[Found, Flags]:
+        """Looks up many positions, counted from 0. Returns what was found, and for each whether it has an original
+        position: it has none if there is no token, if the token has no source, or if it is on an earlier line and no range
+        token."""
         positions = np.empty((len(lines), 2), np.uint32)
         positions[:, 0] = lines
         positions[:, 1] = columns
-        answers = self._map.lookup_many(memoryview(positions.reshape(-1)))
-        sources, generated_lines = np.asarray(answers.source_ids), np.asarray(answers.generated_lines)
-        on_line = (generated_lines == lines) | np.asarray(answers.is_range)
-        has_original = np.asarray(answers.found) & on_line & (sources < self._sources)
-        return Lookups(has_original, sources, np.asarray(answers.lines), np.asarray(answers.columns),
-                       np.asarray(answers.name_ids), generated_lines, np.asarray(answers.generated_columns))
+        found = np.frombuffer(self._map.lookup_many(positions.reshape(-1).data)._found, FOUND)
+        on_line = (found['generated_line'] == lines) | found['is_range']
+        return found, found['found'] & on_line & (found['source'] < self._sources)
 
     # Texts
 
-    def sources(self, ids: Numbers) -> List[str]:
+    @property
+    def source_count(self) -> int:
+        """How many sources there are. Their ids are the numbers below it."""
+        return self._sources
+
+    @property
+    def name_count(self) -> int:
+        """How many names there are. Their ids are the numbers below it."""
+        return self._names
+
+    def sources(self, ids: Places) -> List[str]:
         """The sources of these ids."""
         return self._texts(ids)
 
-    def names(self, ids: Numbers) -> List[str]:
+    def names(self, ids: Places) -> List[str]:
         """The names of these ids."""
-        return self._texts(ids.astype(np.int64) + self._sources)
-
-    def has_name(self, ids: Numbers) -> Flags:
-        """For each id whether it is one of a name."""
-        return np.asarray(ids < self._names)
+        return self._texts(ids + self._sources)
 
     def _spans(self, numbers: NDArray[Any]) -> Tuple[Places, Places]:
         """Where texts begin and end. A zero byte, which does not count, follows each text that exists."""
@@ -107,26 +111,32 @@ class OpenedMap:
         return starts, np.maximum(self._offsets[numbers + 1].astype(np.int64) - 1, starts)
 
     def _texts(self, numbers: NDArray[Any]) -> List[str]:
-        data = self._data
         starts, ends = self._spans(numbers)
-        return [str(data[start:end], 'utf-8', 'replace')[:LONGEST_TEXT]
-                for start, end in zip(starts.tolist(), ends.tolist())]
+        texts = self._read(starts, ends)
+        if len(ends) and int((ends - starts).max()) > LONGEST_TEXT:
+            return [text[:LONGEST_TEXT] for text in texts]
+        return texts
+
+    def _read(self, starts: Places, ends: Places) -> List[str]:
+        """The texts in these bytes. They are decoded at once, unless one has the character that is put between them."""
+        data = self._data
+        pieces = [data[start:end] for start, end in zip(starts.tolist(), ends.tolist())]
+        texts = str(b'\0'.join(pieces), 'utf-8', 'replace').split('\0')
+        return texts if len(texts) == len(pieces) else [str(piece, 'utf-8', 'replace') for piece in pieces]
 
     @property
     def has_scopes(self) -> bool:
         """Whether tokens have names of functions, as those of Hermes maps do."""
         return self._scopes > 0
 
-    def scopes(self, lines: Numbers, columns: Numbers, found: Lookups) -> Tuple[Places, List[str]]:
+    def scopes(self, lines: Numbers, columns: Numbers, found: Found) -> Tuple[Places, List[str]]:
         """The functions of tokens that were found at these positions: for each position a number in the list of texts,
         or -1. Positions with one token are asked once: those that lie on the token itself, and those behind it, since
         these are two tokens if several stand at one position."""
-        tokens = (found.generated_lines.astype(np.uint64) << np.uint64(32)) | found.generated_columns
+        tokens = (found['generated_line'].astype(np.uint64) << np.uint64(32)) | found['generated_column']
         numbers, _ = pd.factorize(tokens)
-        is_exact = (found.generated_lines == lines) & (found.generated_columns == columns)
-        codes, distinct = pd.factorize(numbers * 2 + is_exact)
-        places = np.empty(len(distinct), np.int64)
-        places[codes[::-1]] = np.arange(len(codes))[::-1]
+        is_exact = (found['generated_line'] == lines) & (found['generated_column'] == columns)
+        _, places, codes = np.unique(numbers * 2 + is_exact, return_index=True, return_inverse=True)
         asked = [self._map.scope_at(line, column)
                  for line, column in zip(lines[places].tolist(), columns[places].tolist())]
         texts = list(dict.fromkeys(scope for scope in asked if scope is not None))
@@ -136,84 +146,78 @@ class OpenedMap:
 
     # Lines of contents
 
-    def line_keys(self, sources: Numbers, lines: Numbers, columns: Numbers) -> Places:
-        """For each original position the key of its line, which is equal for equal texts; -1 if the contents of the
-        source are not there, or have no such line."""
+    def context(self, found: Found) -> Tuple[Places, List[str]]:
+        """The lines of the sources that were found: for each a number in the list of texts, or -1 if the contents of the
+        source are not there, or have no such line. They are cut to `LONGEST_LINE`."""
         table = self._line_table()
-        if not table.is_there.any():
-            return np.full(len(sources), -1, np.int64)
-        known = sources < len(table.starts)
-        ids = np.where(known, sources, 0)
-        number = table.first[ids] + lines
-        is_there = known & table.is_there[ids] & (number <= table.last[ids])
-        number = np.where(is_there, number, 0)
-        starts = np.where(lines == 0, table.starts[ids], self._after_break(number - 1))
-        is_long = self._line_ends(starts, ids) - starts > LONGEST_LINE
-        buckets = np.where(is_long, columns.astype(np.int64) // STEP, 0)
-        return np.where(is_there, starts << _BUCKET_BITS | buckets, -1)
+        if table is None:
+            return np.full(len(found), -1, np.int64), []
+        sources, lines = found['source'], found['line']
+        number = table.first[sources] + lines
+        is_there = table.is_there[sources] & (number <= table.last[sources])
+        number[~is_there] = 0
+        starts = np.where(lines == 0, table.starts[sources], table.begins[number])
+        ends = np.where(number < table.last[sources], table.breaks[number], table.ends[sources])
+        if table.has_returns:
+            ends = self._without_return(starts, ends)
+        keys = starts << _BUCKET_BITS
+        is_long = is_there & (ends - starts > LONGEST_LINE)
+        if is_long.any():
+            keys[is_long] |= found['column'][is_long].astype(np.int64) // STEP
+        keys[~is_there] = -1
+        used, places, codes = np.unique(keys, return_index=True, return_inverse=True)
+        if len(used) and used[0] < 0:
+            return codes - 1, self._read_lines(used[1:], starts[places[1:]], ends[places[1:]])
+        return codes, self._read_lines(used, starts[places], ends[places])
 
-    def read_lines(self, keys: Places) -> List[str]:
-        """The lines of these keys, cut to `LONGEST_LINE`."""
-        table = self._line_table()
-        starts = keys >> _BUCKET_BITS
-        order = np.argsort(table.starts, kind='stable')
-        owners = order[np.searchsorted(table.starts[order], starts, 'right') - 1]
-        ends = self._line_ends(starts, owners)
-        data = self._data
-        texts = [str(data[start:min(end, start + LONGEST_LINE + 1)], 'utf-8', 'replace')
-                 for start, end in zip(starts.tolist(), ends.tolist())]
-        long = np.flatnonzero(ends - starts > LONGEST_LINE)
+    def _read_lines(self, keys: Places, starts: Places, ends: Places) -> List[str]:
+        """The lines of these keys, which rise, and between these bytes."""
+        is_long = ends - starts > LONGEST_LINE
+        texts = self._read(starts, np.where(is_long, starts, ends))
         last, units = -1, b''
-        for place in long[np.argsort(keys[long])].tolist():
+        for place in np.flatnonzero(is_long).tolist():
             start, end = int(starts[place]), int(ends[place])
             if start != last:
-                last, units = start, str(data[start:end], 'utf-8', 'replace').encode('utf-16-le')
+                last, units = start, str(self._data[start:end], 'utf-8', 'replace').encode('utf-16-le')
             texts[place] = _piece(units, int(keys[place]) & (1 << _BUCKET_BITS) - 1)
         return texts
 
-    def _after_break(self, numbers: Places) -> Places:
-        breaks = self._line_table().breaks
-        if not len(breaks):
-            return np.zeros(len(numbers), np.int64)
-        return breaks[np.clip(numbers, 0, len(breaks) - 1)].astype(np.int64) + 1
-
-    def _line_ends(self, starts: Places, sources: NDArray[Any]) -> Places:
-        """Where the lines of these sources end that begin here: before their line feed, or return, or both."""
-        table = self._line_table()
-        number = np.searchsorted(table.breaks, starts)
-        limits = table.ends[sources]
-        if len(table.breaks):
-            breaks = table.breaks[np.minimum(number, len(table.breaks) - 1)].astype(np.int64)
-            limits = np.where(number < table.last[sources], breaks, limits)
+    def _without_return(self, starts: Places, ends: Places) -> Places:
+        """Where lines end without the return that stands before their line feed."""
         # where the file ends no text goes on
-        following = self._bytes[np.minimum(limits, len(self._bytes) - 1)]
-        is_pair = (limits > starts) & (self._bytes[np.maximum(limits - 1, 0)] == _RETURN) & (following == _LINE_FEED)
-        return limits - is_pair
+        following = self._bytes[np.minimum(ends, len(self._bytes) - 1)]
+        is_pair = (ends > starts) & (self._bytes[np.maximum(ends - 1, 0)] == _RETURN) & (following == _LINE_FEED)
+        return np.asarray(ends - is_pair)
 
-    def _line_table(self) -> _Lines:
-        if self._lines is None:
+    def _line_table(self) -> Optional[_Lines]:
+        if not self._knows_lines:
             self._lines = self._find_lines()
+            self._knows_lines = True
         return self._lines
 
-    def _find_lines(self) -> _Lines:
+    def _find_lines(self) -> Optional[_Lines]:
+        """None if no source has contents. Only then are there fewer places for contents than sources."""
         numbers = np.arange(self._contents) + (self._sources + self._names + self._scopes + 1)
-        starts, ends = self._spans(numbers)
         is_there = self._offsets[numbers + 1] > self._offsets[numbers]
-        breaks = [np.empty(0, np.uint32)]
-        if is_there.any():
-            low, high = int(starts[is_there].min()), int(ends[is_there].max())
-            breaks += [self._breaks_in(at, min(at + _CHUNK, high)) for at in range(low, high, _CHUNK)]
-        joined = np.concatenate(breaks)
-        return _Lines(joined, starts, ends, np.searchsorted(joined, starts), np.searchsorted(joined, ends), is_there)
+        if not is_there.any() or self._contents < self._sources:
+            return None
+        starts, ends = self._spans(numbers)
+        low, high = int(starts[is_there].min()), int(ends[is_there].max())
+        chunks = [self._breaks_in(at, min(at + _CHUNK, high)) for at in range(low, high, _CHUNK)]
+        breaks = np.concatenate([*chunks, [0]])
+        begins = np.concatenate([[0], breaks[:-1] + 1])
+        first, last = np.searchsorted(breaks[:-1], starts), np.searchsorted(breaks[:-1], ends)
+        has_returns = any((self._bytes[at:min(at + _CHUNK, high)] == _RETURN).any() for at in range(low, high, _CHUNK))
+        return _Lines(breaks, begins, starts, ends, first, last, is_there, has_returns)
 
-    def _breaks_in(self, start: int, end: int) -> Numbers:
+    def _breaks_in(self, start: int, end: int) -> Places:
         chunk = self._bytes[start:end]
         feeds = np.flatnonzero(chunk == _LINE_FEED)
         returns = np.flatnonzero(chunk == _RETURN)
         if len(returns):
             following = self._bytes[np.minimum(returns + (start + 1), len(self._bytes) - 1)]
             feeds = np.sort(np.concatenate([feeds, returns[following != _LINE_FEED]]))
-        return (feeds + start).astype(np.uint32)
+        return feeds + start
 
 
 def _piece(units: bytes, bucket: int) -> str:

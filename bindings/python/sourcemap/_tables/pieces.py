@@ -9,6 +9,7 @@ import csv
 import gzip
 import io
 import re
+import zlib
 from pathlib import Path
 from typing import BinaryIO, Callable, Iterator, List, NamedTuple, Tuple
 
@@ -16,6 +17,8 @@ SUFFIXES = {'.csv': 'csv', '.jsonl': 'json', '.ndjson': 'json'}
 LONGEST_ROW = 64 << 20
 MARK = b'\xef\xbb\xbf'
 
+# What a field has in quotes alone.
+SPECIAL = re.compile('[",\r\n]')
 # A quoted field with what is before it, and its closing quote if that is there.
 _QUOTED = re.compile(rb'(?:\A|[,\n\r])"[^"]*(?:""[^"]*)*("?)')
 
@@ -84,20 +87,26 @@ class Table:
         self._raw.close()
 
     def _read_names(self) -> None:
-        start = self._file.read(len(MARK))
+        start = self._read(len(MARK))
         if start == MARK:
             self._at, start = len(MARK), b''
-        block, end = self._grow(start, lambda block: _row_end(block, first=True))
+        block, end = self._grow(start, _first_row_end)
         text = block[:end].decode('utf-8', 'surrogateescape')
         self.names = tuple(next(csv.reader(io.StringIO(text, newline='')), ()))
         if not self.names:
             raise ValueError(f'{self._path} has no row with the names of columns')
         self._at, self._held = self._at + end, block[end:]
 
+    def _read(self, size: int) -> bytes:
+        try:
+            return self._file.read(size)
+        except (EOFError, gzip.BadGzipFile, zlib.error) as error:
+            raise ValueError(f'{self._path}: {error}') from None
+
     def _grow(self, block: bytes, end_of: Callable[[bytes], int]) -> Tuple[bytes, int]:
         """The block and more bytes of the file, and where the rows in it end. They end with it where the file does."""
         while True:
-            data = self._file.read(self._size)
+            data = self._read(self._size)
             block += data
             end = end_of(block)
             if end or not data:
@@ -107,7 +116,7 @@ class Table:
 
     def pieces(self) -> Iterator[Piece]:
         """The pieces in their order. The last one may have no newline at its end."""
-        end_of = _row_end if self.format.kind == 'csv' else _line_end
+        end_of = _last_row_end if self.format.kind == 'csv' else _line_end
         number = 0
         while True:
             block, end = self._grow(self._held, end_of)
@@ -130,8 +139,17 @@ def _line_end(data: bytes) -> int:
     return data.rfind(b'\n') + 1
 
 
-def _row_end(data: bytes, first: bool = False) -> int:
-    """Where the last row of CSV ends, or the first one; 0 if none does."""
+def _last_row_end(data: bytes) -> int:
+    """Where the last row of CSV ends; 0 if none does."""
+    return _row_end(data, first=False)
+
+
+def _first_row_end(data: bytes) -> int:
+    """Where the first row of CSV ends; 0 if none does."""
+    return _row_end(data, first=True)
+
+
+def _row_end(data: bytes, first: bool) -> int:
     find = data.find if first else data.rfind
     end = 0
     gap = 0
@@ -145,14 +163,11 @@ def _row_end(data: bytes, first: bool = False) -> int:
     return find(b'\n', gap) + 1 or end
 
 
-def quoted(text: str) -> str:
-    """A field of CSV, in quotes if it needs them."""
-    return '"' + text.replace('"', '""') + '"' if _SPECIAL.search(text) else text
+def quoted(text: str, always: bool = False) -> str:
+    """A field of CSV, in quotes if it needs them, or always."""
+    return '"' + text.replace('"', '""') + '"' if always or SPECIAL.search(text) else text
 
 
 def row_of(names: List[str]) -> bytes:
     """A row of CSV."""
     return (','.join(map(quoted, names)) + '\n').encode('utf-8', 'surrogateescape')
-
-
-_SPECIAL = re.compile('[",\r\n]')
