@@ -31,6 +31,8 @@ def started(arguments: argparse.Namespace, folder: Path, is_small: bool) -> Iter
     """Those who answer, until the block is left. If there is little to do it is this process, unless a cluster is
     named."""
     workers = arguments.workers or _processors()
+    # what is no error of ours, as a connection that was slow to close
+    logging.getLogger('asyncio').setLevel(logging.CRITICAL)
     if arguments.dask is not None:
         with need('distributed').Client(arguments.dask, set_as_default=False) as client:
             yield partial(_by_dask, client, AHEAD * max(4, sum(client.nthreads().values())))
