@@ -145,7 +145,13 @@ export type SourceMapErrorCode =
   | 'CANNOT_FLATTEN'
   | 'INVALID_BASE64'
   | 'OUT_OF_MEMORY'
-  | 'PAST_LIMIT';
+  | 'PAST_LIMIT'
+  | 'COMPILED_TRUNCATED'
+  | 'COMPILED_MAGIC'
+  | 'COMPILED_VERSION'
+  | 'COMPILED_EXTENT'
+  | 'COMPILED_TEXT'
+  | 'COMPILED_ORDER';
 
 /**
  * Why a map or a position is refused. An argument of a wrong type throws a TypeError
@@ -154,7 +160,7 @@ export type SourceMapErrorCode =
  */
 export declare class SourceMapError extends Error {
   readonly code: SourceMapErrorCode;
-  /** The number that the error is about, such as the id of a source that does not exist; else 0. */
+  /** The number that the error is about, such as the id of a source that does not exist, or an unknown version; else 0. */
   readonly number: number;
   constructor(message: string, code: SourceMapErrorCode, number?: number, options?: { cause?: unknown });
 }
@@ -254,3 +260,67 @@ export declare function decodedMap(
 export declare function encodedMap(map: TraceMap): EncodedSourceMap;
 /** Opens a map with decoded mappings that are in order. `decodedMappings` returns them as they are. */
 export declare function presortedDecodedMap(map: Input<DecodedSourceMap>, mapUrl?: string | null): TraceMap;
+
+export interface CompileOptions {
+  /** Whether the compiled map has the contents of its sources. True if it is not given. */
+  contents?: boolean;
+  /** The URL of the map, against which its sources are resolved as by `TraceMap`. */
+  mapUrl?: string | null;
+}
+
+/**
+ * The compiled map of a map of any kind, in a Buffer: for a file that `CompiledMap` looks up
+ * without decoding it. It has the mappings, `resolvedSources`, names, `file`, contents, and of a
+ * map that is passed as JSON or as an object its debug id, and the functions of a Hermes map. It
+ * has no ignore list. An index map is flattened. Equal maps give equal bytes. Throws as `FlattenMap` does.
+ */
+export declare function compile(map: SectionedSourceMapInput, options?: CompileOptions): Uint8Array;
+
+/** A position that is looked up in a compiled map: the line counts from 1, the column from 0. */
+export interface CompiledNeedle {
+  line: number;
+  column: number;
+  bias?: typeof GREATEST_LOWER_BOUND;
+}
+
+/**
+ * A compiled map, which is looked up in its bytes. Nothing is decoded: it opens in the same time
+ * whatever its size, and workers may share the bytes by a SharedArrayBuffer. The bytes are not
+ * copied: do not change them.
+ *
+ * The constructor checks the header alone, and throws a SourceMapError with the code
+ * COMPILED_TRUNCATED, COMPILED_MAGIC, COMPILED_VERSION or COMPILED_EXTENT. Damaged bytes may pass
+ * that; then answers may be wrong, and a call that reads a text may throw COMPILED_TEXT or UTF8.
+ */
+export declare class CompiledMap {
+  constructor(bytes: Uint8Array);
+  readonly file: string | null;
+  /** The debug id as it is printed: hyphenated, in lower case. */
+  readonly debugId: string | null;
+  readonly tokenCount: number;
+  readonly sourceCount: number;
+  readonly nameCount: number;
+  /** The source of this id, resolved; null if there is none. */
+  source(id: number): string | null;
+  /** The name of this id; null if there is none. */
+  name(id: number): string | null;
+  /** The contents of the source of this id; null if there are none. */
+  sourceContent(id: number): string | null;
+  /**
+   * The original position of a generated one, as the function `originalPositionFor` answers it: from
+   * the closest token of the same line.
+   */
+  originalPositionFor(needle: CompiledNeedle): OriginalMapping | InvalidOriginalMapping;
+  /** Answers many positions, as the function `originalPositionsFor` does. */
+  originalPositionsFor(positions: Uint32Array): Uint32Array;
+  /**
+   * The name of the function that contains the original position of the closest token of the same
+   * line; null if there is none. Only maps that were compiled of Hermes maps have such names.
+   */
+  scopeFor(needle: CompiledNeedle): string | null;
+  /**
+   * Reads all bytes. Throws COMPILED_ORDER if the tokens are not sorted, else COMPILED_TEXT or UTF8
+   * if a text cannot be read.
+   */
+  verify(): void;
+}

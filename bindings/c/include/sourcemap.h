@@ -110,6 +110,14 @@ typedef uint32_t sm_code;
 #define SM_WRONG_KIND 33u           /* the handle is empty, or holds something that the call does not take */
 #define SM_PAST_LIMIT 34u           /* a line would pass 4294967295 */
 
+/* Why bytes are no compiled map, or a damaged one. */
+#define SM_COMPILED_TRUNCATED 35u   /* fewer than 64 bytes, or fewer than the header says */
+#define SM_COMPILED_MAGIC 36u       /* the bytes do not begin as a compiled map does */
+#define SM_COMPILED_VERSION 37u     /* a version that this library does not read */
+#define SM_COMPILED_EXTENT 38u      /* more bytes than the header says, or tables that pass the end */
+#define SM_COMPILED_TEXT 39u        /* a text ends before it begins, or past the end of the bytes */
+#define SM_COMPILED_ORDER 40u       /* a token is before the token ahead of it */
+
 /* What a handle holds, as sm_kind() returns it. */
 #define SM_KIND_EMPTY 0u
 #define SM_KIND_REGULAR 1u
@@ -140,7 +148,7 @@ typedef sm_handle sm_sections; /* sections of an index map that is being made */
 typedef sm_handle sm_view;    /* a text with the table of its lines */
 typedef sm_handle sm_bundle;  /* a RAM bundle */
 typedef sm_handle sm_split;   /* what makes the maps of the modules of a RAM bundle */
-typedef sm_handle sm_bytes;   /* a text that a call made */
+typedef sm_handle sm_bytes;   /* a text or a compiled map that a call made */
 
 #ifdef __cplusplus
 #define SM_EMPTY {}
@@ -585,8 +593,8 @@ sm_code sm_write(sm_map *map, sm_bytes *text, sm_error *error);
 ** Returns SM_OK, or SM_WRONG_KIND if `map` holds no map. */
 sm_code sm_write_url(sm_map *map, sm_bytes *text, sm_error *error);
 
-/* The text that sm_write(), sm_trace(), sm_resolve() or another such call put into the
-** handle. It is borrowed from `bytes`. SM_WRONG_KIND if the handle holds no such text;
+/* The text or the compiled map that sm_write(), sm_compile() or another such call put into
+** the handle. It is borrowed from `bytes`. SM_WRONG_KIND if the handle holds no such text;
 ** then `text` is as it was. */
 sm_code sm_bytes_text(sm_bytes *bytes, sm_text *text);
 
@@ -869,6 +877,75 @@ sm_code sm_split_open(sm_split *split, sm_map *index, sm_error *error);
 ** first line. SM_WRONG_KIND if `split` was not filled by sm_split_open(), or `bundle` holds
 ** no bundle. `split` is as it was, whatever the call returns. */
 sm_code sm_split_map(sm_split *split, sm_bundle *bundle, size_t id, sm_map *map, sm_error *error);
+
+/*
+** COMPILED MAPS
+**
+** A compiled map is bytes that sm_compile() makes of a map. The other calls look into
+** such bytes where they lie, for example in mapped memory. They take no handle, allocate
+** nothing, keep nothing, and write nothing but their results. So any number of threads
+** may make them at once with the same bytes, without synchronisation, as long as nobody
+** changes the bytes. A text that they write points into the bytes.
+**
+** Each call checks the header first, in the same time for any bytes. If they are no
+** compiled map, it writes nothing and returns why: SM_COMPILED_TRUNCATED,
+** SM_COMPILED_MAGIC, SM_COMPILED_VERSION or SM_COMPILED_EXTENT. The rest is read as it is:
+** no call reads outside of the bytes, whatever they are. If their tokens are not sorted, a
+** lookup finds a token next to the position, which need not be the closest one. What
+** sm_compile() made is sorted, and all its texts are UTF-8. sm_compiled_verify() tells it of
+** other bytes.
+*/
+
+/* Fills `bytes` with the compiled map, which sm_bytes_text() reads. It has the tokens, the
+** names, the file, the debug id, the sources, resolved against `sourceRoot`, the contents
+** if `with_contents` is true, and of a Hermes map the function of each token. An index map
+** is compiled as sm_flatten() flattens it. Equal maps give equal bytes. Returns SM_OK;
+** SM_CANNOT_FLATTEN if sm_flatten() would return it; SM_INCOMPATIBLE if there would be
+** 2^32 bytes or tokens, or more; SM_WRONG_KIND if `map` holds no map. */
+sm_code sm_compile(sm_map *map, bool with_contents, sm_bytes *bytes, sm_error *error);
+
+/* Checks the header alone. Returns SM_OK, or why the bytes are no compiled map. */
+sm_code sm_compiled_check(const uint8_t *bytes, size_t length);
+
+/* Checks all bytes, in a time that grows with them. Returns SM_OK; why they are no compiled
+** map; SM_COMPILED_ORDER if their tokens are not sorted; otherwise SM_COMPILED_TEXT or
+** SM_UTF8 for the first text that cannot be read. After SM_OK no call returns one of these
+** three, and lookups find the closest token. */
+sm_code sm_compiled_verify(const uint8_t *bytes, size_t length);
+
+/* Writes how many tokens, sources and names there are. The other counts are 0. */
+sm_code sm_compiled_count(const uint8_t *bytes, size_t length, sm_counts *counts);
+
+/* Writes the debug id. SM_ABSENT if there is none; then `id` is as it was. */
+sm_code sm_compiled_debug_id(const uint8_t *bytes, size_t length, sm_debug_id *id);
+
+/* Writes the closest token, as sm_lookup() does. SM_ABSENT if there is none; then `found`
+** is as it was. */
+sm_code sm_compiled_lookup(const uint8_t *bytes, size_t length, uint32_t line, uint32_t column, sm_found *found);
+
+/* Answers each position in turn, as sm_lookup_many() does. Returns how many it answered:
+** 0 if the bytes are no compiled map. */
+size_t sm_compiled_lookup_many(const uint8_t *bytes, size_t length, const sm_position *positions, size_t count,
+                               sm_found *found, size_t found_length);
+
+/* The name of the function that contains the original position of the closest token, of a
+** Hermes map that was compiled. SM_ABSENT if there is no token, or the token has no
+** function. Else, and on an error, as sm_compiled_source(). */
+sm_code sm_compiled_scope(const uint8_t *bytes, size_t length, uint32_t line, uint32_t column, sm_text *text);
+
+/* The source of this id. SM_ABSENT if there is no source of that id; SM_COMPILED_TEXT if
+** its text ends before it begins, or past the end of the bytes; SM_UTF8 if it is not UTF-8.
+** Then `text` is as it was. */
+sm_code sm_compiled_source(const uint8_t *bytes, size_t length, uint32_t id, sm_text *text);
+
+/* The name of this id. Returns the codes of sm_compiled_source(). */
+sm_code sm_compiled_name(const uint8_t *bytes, size_t length, uint32_t id, sm_text *text);
+
+/* The contents of the source of this id. Returns the codes of sm_compiled_source(). */
+sm_code sm_compiled_contents(const uint8_t *bytes, size_t length, uint32_t id, sm_text *text);
+
+/* The name of the generated file. Returns the codes of sm_compiled_source(). */
+sm_code sm_compiled_file(const uint8_t *bytes, size_t length, sm_text *text);
 
 #ifdef __cplusplus
 }

@@ -71,6 +71,7 @@ ASK(ignore_source, sm_ignore_source(handle, 0, &error))
 ASK(remove_names, sm_remove_names(handle, &error))
 FILL(write_json, json, sm_write(handle, &json, &error))
 FILL(write_url, url, sm_write_url(handle, &url, &error))
+FILL(compile, bytes, sm_compile(handle, true, &bytes, &error))
 ASK(bytes_text, sm_bytes_text(handle, &text))
 WRITE(section_start_of, sm_section_start, start, sm_section_start_of(handle, 0, &start))
 ASK(section_url, sm_section_url(handle, 0, &text))
@@ -266,6 +267,7 @@ const struct export_row EXPORTS[] = {
     { "sm_remove_names", remove_names, LISTS, true },
     { "sm_write", write_json, MAPS, false },
     { "sm_write_url", write_url, MAPS, false },
+    { "sm_compile", compile, MAPS, false },
     { "sm_bytes_text", bytes_text, KIND(SM_KIND_BYTES), false },
     { "sm_section_start_of", section_start_of, KIND(SM_KIND_INDEX), false },
     { "sm_section_url", section_url, KIND(SM_KIND_INDEX), false },

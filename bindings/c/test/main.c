@@ -19,6 +19,7 @@ int main(int count, char **words)
     }
     if (count == 2 && strcmp(words[1], "threads") == 0) {
         test_threads(true);
+        test_compiled_by_threads();
         return report();
     }
     test_opening();
@@ -33,6 +34,8 @@ int main(int count, char **words)
     test_segments();
     test_debug_id_texts();
     test_bundles();
+    test_compiled();
+    test_compiled_by_threads();
     test_wrong_kinds();
     test_threads(false);
     test_threads(true);

@@ -249,6 +249,7 @@ CALL(ignore_source, sm_ignore_source(&h->subject, 0, error))
 CALL(remove_names, sm_remove_names(&h->subject, error))
 CALL(write_json, sm_write(&h->subject, &h->out, error))
 CALL(write_url, sm_write_url(&h->subject, &h->out, error))
+CALL(compile, sm_compile(&h->subject, true, &h->out, error))
 CALL(section, sm_section(&h->subject, 1, &h->out, error))
 CALL(builder_new, sm_builder_new(&h->out, true, BYTES("f"), error))
 CALL(sections_new, sm_sections_new(&h->out, error))
@@ -326,6 +327,8 @@ CALL(parse_bad_segment, parse(BYTES("GAAI!"), error))
 /* README_MAP, its generated text moved one line down */
 #define README_MAP_MOVED \
     "{\"mappings\":\";" README_MAPPINGS "\",\"names\":[\"x\",\"alert\"],\"sources\":[\"coolstuff.js\"],\"version\":3}"
+/* what describe() prints of a compiled map: magic number and version, up to a zero byte */
+#define COMPILED "\217SMC\1"
 #define EMPTY_URL                                 \
     "data:application/json;charset=utf-8;base64," \
     "eyJtYXBwaW5ncyI6IiIsIm5hbWVzIjpbXSwic291cmNlcyI6W10sInZlcnNpb24iOjN9"
@@ -382,6 +385,10 @@ static const struct refusal_row ROWS[] = {
     { "write an index map", prepare_index, write_json, SM_OK, NULL, INDEX_MAP },
     { "write a Hermes map", prepare_hermes, write_json, SM_OK, NULL, HERMES_MAP },
     { "write a URL", prepare_empty, write_url, SM_OK, NULL, EMPTY_URL },
+    { "compile", prepare_full, compile, SM_OK, NULL, COMPILED },
+    { "compile an index map", prepare_index, compile, SM_OK, NULL, COMPILED },
+    { "compile a Hermes map", prepare_hermes, compile, SM_OK, NULL, COMPILED },
+    { "compile what has no map", prepare_linked, compile, SM_CANNOT_FLATTEN, NULL, NULL },
     { "copy a section", prepare_index, section, SM_OK, NULL, SECOND_SECTION },
     { "begin to build", prepare_none, builder_new, SM_OK, NULL, "a builder" },
     { "begin an index map", prepare_none, sections_new, SM_OK, NULL, "sections" },
@@ -717,6 +724,39 @@ static void test_pairs_without_memory(void)
     }
 }
 
+/* The same, for calls on the bytes of a compiled map. */
+static void test_bytes_without_memory(void)
+{
+    static const sm_position POSITIONS[1] = { { 0, 0 } };
+    sm_map map = SM_EMPTY;
+    sm_bytes bytes = SM_EMPTY;
+    sm_error error = { 0 };
+    sm_found found = { { 0 }, false };
+    sm_counts counts = { 0 };
+    sm_debug_id id = { { 0 } };
+    sm_text file = SM_TEXT_EMPTY, text = SM_TEXT_EMPTY;
+    sm_code code;
+    OPEN(&map, FULL_MAP);
+    CHECK_NUMBER(sm_compile(&map, true, &bytes, &error), SM_OK);
+    CHECK_NUMBER(sm_bytes_text(&bytes, &file), SM_OK);
+    refuse(1, true);
+    code = sm_compiled_check(file.at, file.length);
+    code |= sm_compiled_verify(file.at, file.length);
+    code |= sm_compiled_count(file.at, file.length, &counts);
+    code |= sm_compiled_debug_id(file.at, file.length, &id);
+    code |= sm_compiled_lookup(file.at, file.length, 0, 0, &found);
+    code |= sm_compiled_source(file.at, file.length, 0, &text);
+    code |= sm_compiled_name(file.at, file.length, 0, &text);
+    code |= sm_compiled_contents(file.at, file.length, 0, &text);
+    code |= sm_compiled_file(file.at, file.length, &text);
+    code |= sm_compiled_scope(file.at, file.length, 0, 0, &text) ^ SM_ABSENT;
+    code |= sm_compiled_lookup_many(file.at, file.length, POSITIONS, 1, &found, 1) ^ 1;
+    CHECK_NUMBER(refuse_none(), 0);
+    CHECK_NUMBER(code, SM_OK);
+    sm_close(&bytes);
+    sm_close(&map);
+}
+
 void test_refusals(unsigned long most)
 {
     uint64_t answers = answers_of_all();
@@ -729,4 +769,5 @@ void test_refusals(unsigned long most)
     test_many_parts_refused(most, answers);
     test_without_memory();
     test_pairs_without_memory();
+    test_bytes_without_memory();
 }

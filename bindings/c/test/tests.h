@@ -16,6 +16,9 @@ void test_texts(void);
 void test_segments(void);
 void test_debug_id_texts(void);
 void test_bundles(void);
+void test_compiled(void);
+/* Eight threads look into the bytes of one compiled map. */
+void test_compiled_by_threads(void);
 void test_wrong_kinds(void);
 /* With `keeps_map` the first handle is closed after all threads have ended, so no thread ever has the only handle on
 ** the map. A race detector that does not see the order that reference counts make then has nothing to report. */

@@ -7,6 +7,8 @@ const { SourceMapError } = require('./native.js');
 const LINE_TOO_LOW = '`line` must be greater than 0 (lines start at line 1)';
 const COLUMN_TOO_LOW = '`column` must be greater than or equal to 0 (columns start at column 0)';
 
+const LEAST_UPPER_BOUND = -1;
+
 /** Throws a TypeError that names the argument, what it must be, and what it is. */
 function refuse(what, wanted, value) {
   throw new TypeError(`${what} must be ${wanted}, not ${inspect(value, { depth: -1, maxStringLength: 40 })}`);
@@ -46,6 +48,20 @@ function checkPositions(positions) {
   for (let i = 0; i + 1 < positions.length; i += 2) checkPosition(positions[i], 0);
 }
 
+/** Checks the position of a lookup in a compiled map, which finds tokens at or before the position alone. */
+function checkLowerNeedle(needle) {
+  checkNeedle(needle);
+  if (needle.bias === LEAST_UPPER_BOUND) refuse('`bias`', 'GREATEST_LOWER_BOUND', needle.bias);
+}
+
+function checkBytes(bytes) {
+  if (!types.isUint8Array(bytes)) refuse('the compiled map', 'a Uint8Array, such as a Buffer', bytes);
+}
+
+function checkId(id) {
+  if (id >>> 0 !== id) refuse('the id', 'a whole number from 0 to 4294967295', id);
+}
+
 function checkCallback(callback) {
   if (typeof callback !== 'function') refuse('the callback', 'a function', callback);
 }
@@ -61,12 +77,16 @@ function checkDecoded(mappings) {
 }
 
 module.exports = {
+  LEAST_UPPER_BOUND,
   refuse,
   isObject,
   checkNumber,
   checkNeedle,
   checkSource,
   checkPositions,
+  checkLowerNeedle,
+  checkBytes,
+  checkId,
   checkCallback,
   checkMap,
   checkDecoded,

@@ -2,11 +2,19 @@
 
 const { native, SourceMapError } = require('./native.js');
 const { TraceMap, FlattenMap, mappingsOf, tokensOf, checkTraceMap } = require('./trace-map.js');
+const { CompiledMap, compile } = require('./compiled-map.js');
 const { NONE } = require('./mappings.js');
-const { checkNumber, checkNeedle, checkSource, checkPositions, checkCallback, checkDecoded } = require('./arguments.js');
+const {
+  LEAST_UPPER_BOUND,
+  checkNumber,
+  checkNeedle,
+  checkSource,
+  checkPositions,
+  checkCallback,
+  checkDecoded,
+} = require('./arguments.js');
 const { NONE: NO_ID } = require('./tokens.js');
 
-const LEAST_UPPER_BOUND = -1;
 const GREATEST_LOWER_BOUND = 1;
 
 /** How many numbers the answer of `originalPositionsFor` to one position has. */
@@ -154,6 +162,7 @@ module.exports = {
   TraceMap,
   FlattenMap,
   AnyMap: FlattenMap,
+  CompiledMap,
   SourceMapError,
   LEAST_UPPER_BOUND,
   GREATEST_LOWER_BOUND,
@@ -171,4 +180,5 @@ module.exports = {
   decodedMap,
   encodedMap,
   presortedDecodedMap,
+  compile,
 };

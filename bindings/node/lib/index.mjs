@@ -4,6 +4,7 @@ export const {
   TraceMap,
   FlattenMap,
   AnyMap,
+  CompiledMap,
   SourceMapError,
   LEAST_UPPER_BOUND,
   GREATEST_LOWER_BOUND,
@@ -21,4 +22,5 @@ export const {
   decodedMap,
   encodedMap,
   presortedDecodedMap,
+  compile,
 } = sourcemap;

@@ -41,6 +41,12 @@ const CODES = {
   32: 'ABSENT',
   33: 'WRONG_KIND',
   34: 'PAST_LIMIT',
+  35: 'COMPILED_TRUNCATED',
+  36: 'COMPILED_MAGIC',
+  37: 'COMPILED_VERSION',
+  38: 'COMPILED_EXTENT',
+  39: 'COMPILED_TEXT',
+  40: 'COMPILED_ORDER',
 };
 
 /** Why a map or a position is refused. */

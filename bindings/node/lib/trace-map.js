@@ -134,4 +134,4 @@ function FlattenMap(map, mapUrl) {
   return new TraceMap(flat, undefined, handle);
 }
 
-module.exports = { TraceMap, FlattenMap, mappingsOf, tokensOf, checkTraceMap };
+module.exports = { TraceMap, FlattenMap, parse, mappingsOf, tokensOf, checkTraceMap };

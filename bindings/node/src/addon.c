@@ -451,18 +451,27 @@ static napi_value lookup(napi_env env, napi_callback_info info) {
     return NULL;
 }
 
-/* Answers up to CHUNK positions, each a line from 1 and a column from 0. */
-static void lookup_chunk(held_map *held, const uint32_t *positions, size_t count, uint32_t *answers) {
-    sm_position queries[CHUNK];
-    sm_found found[CHUNK] = {0};
+/* Reads positions, each a line from 1 and a column from 0. */
+static void to_queries(const uint32_t *positions, size_t count, sm_position *queries) {
     for (size_t i = 0; i < count; i++) {
         queries[i].line = positions[2 * i] - 1;
         queries[i].column = positions[2 * i + 1];
     }
-    sm_lookup_many(&held->map, queries, count, found, CHUNK);
+}
+
+static void write_answers(const sm_position *queries, const sm_found *found, size_t count, uint32_t *answers) {
     for (size_t i = 0; i < count; i++) {
         write_answer(&found[i], queries[i].line, answers + ANSWER_WORDS * i);
     }
+}
+
+/* Answers up to CHUNK positions. */
+static void lookup_chunk(held_map *held, const uint32_t *positions, size_t count, uint32_t *answers) {
+    sm_position queries[CHUNK];
+    sm_found found[CHUNK] = {0};
+    to_queries(positions, count, queries);
+    sm_lookup_many(&held->map, queries, count, found, CHUNK);
+    write_answers(queries, found, count, answers);
 }
 
 /* lookupMany(handle, positions, answers): writes the answers to many positions,
@@ -484,6 +493,232 @@ static napi_value lookup_many(napi_env env, napi_callback_info info) {
         lookup_chunk(held, positions + 2 * at, size, answers + ANSWER_WORDS * at);
     }
     return NULL;
+}
+
+/*
+** COMPILED MAPS
+**
+** Their bytes are a Uint8Array, whose address each call asks anew. The calls of the
+** library read nothing outside of the bytes, whatever they are.
+*/
+
+typedef struct byte_array {
+    const uint8_t *at;
+    size_t length;
+} byte_array;
+
+static napi_status take_bytes(napi_env env, napi_value value, byte_array *bytes) {
+    static const uint8_t none;
+    napi_typedarray_type type;
+    void *at = NULL;
+    napi_status status = napi_get_typedarray_info(env, value, &type, &bytes->length, &at, NULL, NULL);
+    bytes->at = bytes->length ? at : &none;
+    return status == napi_ok && type != napi_uint8_array ? napi_invalid_arg : status;
+}
+
+/* Reads the arguments of a call, the first of which has the bytes of a compiled map. */
+static napi_status take_compiled(napi_env env, napi_callback_info info, size_t count, napi_value *arguments,
+                                 byte_array *bytes) {
+    napi_status status = napi_get_cb_info(env, info, &count, arguments, NULL, NULL);
+    return status == napi_ok ? take_bytes(env, arguments[0], bytes) : status;
+}
+
+static const char *text_of_fault(sm_code code) {
+    switch (code) {
+    case SM_COMPILED_TRUNCATED: return "the compiled map is truncated";
+    case SM_COMPILED_MAGIC: return "not a compiled map";
+    case SM_COMPILED_VERSION: return "unknown version of a compiled map";
+    case SM_COMPILED_EXTENT: return "a table of the compiled map has a wrong extent";
+    case SM_COMPILED_TEXT: return "a text passes the end of the compiled map";
+    case SM_COMPILED_ORDER: return "the compiled map is out of order";
+    default: return "a text of the compiled map is not UTF-8";
+    }
+}
+
+/* Throws the error of a compiled map, unless the code is SM_OK. The number is that of a
+** version. */
+static napi_value throw_fault(napi_env env, sm_code code, const byte_array *bytes) {
+    uint32_t version = 0;
+    if (code == SM_OK) {
+        return NULL;
+    }
+    for (int i = 7; code == SM_COMPILED_VERSION && i >= 4; i--) {
+        version = version << 8 | bytes->at[i];
+    }
+    return throw_code(env, code, version, text_of_fault(code), NAPI_AUTO_LENGTH);
+}
+
+/* compile(json, contents): the compiled map of a JSON text, in a Buffer. */
+static napi_value compile_json(napi_env env, napi_callback_info info) {
+    size_t count = 2, length = 0;
+    napi_value arguments[2], buffer;
+    bool contents = false;
+    sm_map map = SM_EMPTY;
+    sm_bytes bytes = SM_EMPTY;
+    sm_text file = SM_TEXT_EMPTY;
+    sm_error error = {0};
+    TRY(napi_get_cb_info(env, info, &count, arguments, NULL, NULL));
+    TRY(napi_get_value_bool(env, arguments[1], &contents));
+    char *text = copy_text(env, arguments[0], &length);
+    if (!text) {
+        return NULL;
+    }
+    sm_code code = sm_open(&map, (const uint8_t *)text, length, &error);
+    free(text);
+    if (code == SM_OK) {
+        code = sm_compile(&map, contents, &bytes, &error);
+    }
+    sm_close(&map);
+    if (code != SM_OK) {
+        return throw_error(env, &error);
+    }
+    sm_bytes_text(&bytes, &file);
+    napi_status status = napi_create_buffer_copy(env, file.length, file.at, NULL, &buffer);
+    sm_close(&bytes);
+    TRY(status);
+    return buffer;
+}
+
+/* compiledCheck(bytes): throws if the header is not that of a compiled map. */
+static napi_value compiled_check(napi_env env, napi_callback_info info) {
+    napi_value argument;
+    byte_array bytes;
+    TRY(take_compiled(env, info, 1, &argument, &bytes));
+    return throw_fault(env, sm_compiled_check(bytes.at, bytes.length), &bytes);
+}
+
+/* compiledVerify(bytes): throws if anything in the bytes is damaged. */
+static napi_value compiled_verify(napi_env env, napi_callback_info info) {
+    napi_value argument;
+    byte_array bytes;
+    TRY(take_compiled(env, info, 1, &argument, &bytes));
+    return throw_fault(env, sm_compiled_verify(bytes.at, bytes.length), &bytes);
+}
+
+/* compiledCounts(bytes, counts): writes the numbers of tokens, sources and names into a
+** Uint32Array. */
+static napi_value compiled_counts(napi_env env, napi_callback_info info) {
+    napi_value arguments[2];
+    byte_array bytes;
+    uint32_t *words = NULL;
+    size_t length = 0;
+    sm_counts counts = {0};
+    TRY(take_compiled(env, info, 2, arguments, &bytes));
+    TRY(take_words(env, arguments[1], &words, &length));
+    if (length < 3) {
+        return throw_short_array(env);
+    }
+    sm_code code = sm_compiled_count(bytes.at, bytes.length, &counts);
+    words[0] = counts.tokens;
+    words[1] = counts.sources;
+    words[2] = counts.names;
+    return throw_fault(env, code, &bytes);
+}
+
+/* The text that a call found, null if it found none. */
+static napi_value text_or_null(napi_env env, sm_code code, const sm_text *text, const byte_array *bytes) {
+    napi_value value;
+    if (code == SM_OK) {
+        TRY(napi_create_string_utf8(env, (const char *)text->at, text->length, &value));
+        return value;
+    }
+    if (code == SM_ABSENT) {
+        TRY(napi_get_null(env, &value));
+        return value;
+    }
+    return throw_fault(env, code, bytes);
+}
+
+/* compiledText(bytes, call, id): the text of an id: of a source, a name, or contents, by the
+** number of the call; with call 3 the file, whatever the id. */
+static napi_value compiled_text(napi_env env, napi_callback_info info) {
+    static sm_code (*const CALLS[])(const uint8_t *, size_t, uint32_t, sm_text *) = {
+        sm_compiled_source, sm_compiled_name, sm_compiled_contents};
+    napi_value arguments[3];
+    byte_array bytes;
+    uint32_t call = 0, id = 0;
+    sm_text text = SM_TEXT_EMPTY;
+    TRY(take_compiled(env, info, 3, arguments, &bytes));
+    TRY(napi_get_value_uint32(env, arguments[1], &call));
+    TRY(napi_get_value_uint32(env, arguments[2], &id));
+    sm_code code = call < 3 ? CALLS[call](bytes.at, bytes.length, id, &text)
+                            : sm_compiled_file(bytes.at, bytes.length, &text);
+    return text_or_null(env, code, &text, &bytes);
+}
+
+/* compiledDebugId(bytes): a Buffer with the bytes of the debug id, or null. */
+static napi_value compiled_debug_id(napi_env env, napi_callback_info info) {
+    napi_value argument, value;
+    byte_array bytes;
+    sm_debug_id id = {{0}};
+    TRY(take_compiled(env, info, 1, &argument, &bytes));
+    sm_code code = sm_compiled_debug_id(bytes.at, bytes.length, &id);
+    if (code == SM_OK) {
+        TRY(napi_create_buffer_copy(env, sizeof id.bytes, id.bytes, NULL, &value));
+        return value;
+    }
+    return text_or_null(env, code, NULL, &bytes);
+}
+
+/* compiledLookup(bytes, line, column, answer): as lookup(). */
+static napi_value compiled_lookup(napi_env env, napi_callback_info info) {
+    napi_value arguments[4];
+    byte_array bytes;
+    uint32_t line = 0, column = 0, *answer = NULL;
+    size_t length = 0;
+    sm_found found = {0};
+    TRY(take_compiled(env, info, 4, arguments, &bytes));
+    TRY(napi_get_value_uint32(env, arguments[1], &line));
+    TRY(napi_get_value_uint32(env, arguments[2], &column));
+    TRY(take_words(env, arguments[3], &answer, &length));
+    if (length < ANSWER_WORDS) {
+        return throw_short_array(env);
+    }
+    sm_code code = sm_compiled_lookup(bytes.at, bytes.length, line, column, &found);
+    write_answer(&found, line, answer);
+    return throw_fault(env, code == SM_ABSENT ? SM_OK : code, &bytes);
+}
+
+/* compiledLookupMany(bytes, positions, answers): as lookupMany(). */
+static napi_value compiled_lookup_many(napi_env env, napi_callback_info info) {
+    napi_value arguments[3];
+    byte_array bytes;
+    uint32_t *positions = NULL, *answers = NULL;
+    size_t position_words = 0, answer_words = 0;
+    TRY(take_compiled(env, info, 3, arguments, &bytes));
+    TRY(take_words(env, arguments[1], &positions, &position_words));
+    TRY(take_words(env, arguments[2], &answers, &answer_words));
+    size_t count = position_words / 2;
+    if (answer_words / ANSWER_WORDS < count) {
+        return throw_short_array(env);
+    }
+    for (size_t at = 0; at < count; at += CHUNK) {
+        sm_position queries[CHUNK];
+        sm_found found[CHUNK] = {0};
+        size_t size = count - at < CHUNK ? count - at : CHUNK;
+        to_queries(positions + 2 * at, size, queries);
+        sm_compiled_lookup_many(bytes.at, bytes.length, queries, size, found, CHUNK);
+        write_answers(queries, found, size, answers + ANSWER_WORDS * at);
+    }
+    return throw_fault(env, sm_compiled_check(bytes.at, bytes.length), &bytes);
+}
+
+/* compiledScope(bytes, line, column): the scope of the closest token, if it is on the line
+** looked up; else null. */
+static napi_value compiled_scope(napi_env env, napi_callback_info info) {
+    napi_value arguments[3];
+    byte_array bytes;
+    uint32_t line = 0, column = 0;
+    sm_found found = {0};
+    sm_text text = SM_TEXT_EMPTY;
+    TRY(take_compiled(env, info, 3, arguments, &bytes));
+    TRY(napi_get_value_uint32(env, arguments[1], &line));
+    TRY(napi_get_value_uint32(env, arguments[2], &column));
+    sm_code code = sm_compiled_lookup(bytes.at, bytes.length, line, column, &found);
+    if (code == SM_OK) {
+        code = found.token.line == line ? sm_compiled_scope(bytes.at, bytes.length, line, column, &text) : SM_ABSENT;
+    }
+    return text_or_null(env, code, &text, &bytes);
 }
 
 /*
@@ -530,6 +765,15 @@ NAPI_MODULE_INIT() {
         {"tokens", tokens},     {"sources", sources},   {"names", names},
         {"contents", contents}, {"ignoreList", ignore_list}, {"write", write_json},
         {"lookup", lookup},     {"lookupMany", lookup_many}, {"openCount", open_count},
+        {"compile", compile_json},
+        {"compiledCheck", compiled_check},
+        {"compiledVerify", compiled_verify},
+        {"compiledCounts", compiled_counts},
+        {"compiledText", compiled_text},
+        {"compiledDebugId", compiled_debug_id},
+        {"compiledLookup", compiled_lookup},
+        {"compiledLookupMany", compiled_lookup_many},
+        {"compiledScope", compiled_scope},
     };
     if (sm_interface() != SM_INTERFACE) {
         napi_throw_error(env, NULL, "the linked library has another version of the interface");

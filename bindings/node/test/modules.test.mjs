@@ -66,7 +66,7 @@ test('has the calls of the package that it replaces', async (t) => {
 
 const TYPES = `
 import { TraceMap, AnyMap, FlattenMap, SourceMapError, LEAST_UPPER_BOUND } from 'furzehearth-sourcemap';
-import { originalPositionFor, originalPositionsFor, encodedMap, decodedMap, allGeneratedPositionsFor } from 'furzehearth-sourcemap';
+import { CompiledMap, compile, originalPositionFor, originalPositionsFor, encodedMap, decodedMap, allGeneratedPositionsFor } from 'furzehearth-sourcemap';
 import type { Mapping, SourceMap, SectionedSourceMapXInput, EncodedSourceMapXInput, DecodedSourceMapXInput } from 'furzehearth-sourcemap';
 const map = new TraceMap({ version: 3, sources: ['a'], names: [], mappings: 'AAAA' } as const, null);
 const found = originalPositionFor(map, { line: 1, column: 0, bias: LEAST_UPPER_BOUND });
@@ -83,6 +83,13 @@ const inputs: [DecodedSourceMapXInput, SectionedSourceMapXInput] = [
 const mapping: Mapping = { source: fields.resolvedSources[0] ?? null, line: first, column: 0, name: null };
 const opened: TraceMap[] = [new TraceMap(old), new TraceMap(inputs[0]), AnyMap(inputs[1])];
 const bytes: TraceMap[] = [new TraceMap(new Uint8Array(0)), AnyMap(new Uint8Array(0), 'd/out.map')];
+const compiled: CompiledMap = new CompiledMap(compile(map, { contents: false, mapUrl: null }));
+const texts: (string | null)[] = [compiled.file, compiled.debugId, compiled.source(compiled.sourceCount), compiled.scopeFor({ line: 1, column: 0 })];
+const answers: Uint32Array = compiled.originalPositionsFor(new Uint32Array(2));
+const position = compiled.originalPositionFor({ line: 1, column: 0 });
+if (position.line !== null) { const line: number = position.line + texts.length + answers.length; }
+// @ts-expect-error: a compiled map finds no token after the position
+compiled.originalPositionFor({ line: 1, column: 0, bias: LEAST_UPPER_BOUND });
 try { new TraceMap('') } catch (error) { if (error instanceof SourceMapError && error.code === 'BAD_JSON') { error.number } }
 // @ts-expect-error: a bias is 1 or -1
 originalPositionFor(map, { line: 1, column: 0, bias: 2 });

@@ -9,8 +9,8 @@ Lines and columns count from 0. Columns count UTF-16 units. The work is done by 
 `bindings/c`, whose functions are proved. `sourcemap.errors` has a class for each error of the library but out of
 memory, for which `MemoryError` is raised.
 
-Each object may be used by several threads: a lock lets one call at a time use it. Long calls release the
-interpreter's lock.
+Each object may be used by several threads: a lock lets one call at a time use it, but a `CompiledMap` has none and
+needs none. Long calls release the interpreter's lock.
 
 A `str` with one half of a surrogate pair has no UTF-8. A call that passes such a text to the library raises
 `UnicodeEncodeError`.
@@ -18,6 +18,7 @@ A `str` with one half of a surrogate pair has no UTF-8. A call that passes such 
 from . import errors
 from ._builder import Builder, NewToken
 from ._bundle import Bundle, Module, Split
+from ._compiled import CompiledMap
 from ._library import NONE
 from ._map import Map, Section
 from ._tokens import Answers, Token
@@ -25,6 +26,7 @@ from ._view import Reference, View, is_source_map, locate_reference, relative_pa
 from .errors import SourceMapError
 
 __all__ = [
-    'NONE', 'Answers', 'Builder', 'Bundle', 'Map', 'Module', 'NewToken', 'Reference', 'Section', 'SourceMapError',
-    'Split', 'Token', 'View', 'errors', 'is_source_map', 'locate_reference', 'relative_path', 'resolve', 'resolve_path',
+    'NONE', 'Answers', 'Builder', 'Bundle', 'CompiledMap', 'Map', 'Module', 'NewToken', 'Reference', 'Section',
+    'SourceMapError', 'Split', 'Token', 'View', 'errors', 'is_source_map', 'locate_reference', 'relative_path', 'resolve',
+    'resolve_path',
 ]

@@ -188,6 +188,21 @@ write_segment = _call(_short, 'sm_write_segment', CODE, P, c_size_t, P, P)
 debug_id_text = _call(_short, 'sm_debug_id_text', CODE, P, P, P)
 parse_debug_id = _call(_short, 'sm_parse_debug_id', CODE, P, c_size_t, P)
 
+compile_map = _call(_long, 'sm_compile', CODE, P, c_bool, P, P)
+compiled_check = _call(_short, 'sm_compiled_check', CODE, P, c_size_t)
+compiled_verify = _call(_long, 'sm_compiled_verify', CODE, P, c_size_t)
+compiled_count = _call(_short, 'sm_compiled_count', CODE, P, c_size_t, P)
+compiled_debug_id = _call(_short, 'sm_compiled_debug_id', CODE, P, c_size_t, P)
+# for one position, as lookup_one
+compiled_lookup_one = _short['sm_compiled_lookup_many']
+compiled_lookup_one.restype = c_size_t
+compiled_lookup_many = _call(_long, 'sm_compiled_lookup_many', c_size_t, P, c_size_t, P, c_size_t, P, c_size_t)
+compiled_scope = _call(_short, 'sm_compiled_scope', CODE, P, c_size_t, c_uint32, c_uint32, P)
+compiled_source = _call(_short, 'sm_compiled_source', CODE, P, c_size_t, c_uint32, P)
+compiled_name = _call(_short, 'sm_compiled_name', CODE, P, c_size_t, c_uint32, P)
+compiled_contents = _call(_short, 'sm_compiled_contents', CODE, P, c_size_t, c_uint32, P)
+compiled_file = _call(_short, 'sm_compiled_file', CODE, P, c_size_t, P)
+
 bundle_open = _call(_long, 'sm_bundle_open', CODE, P, P, c_size_t, P)
 bundle_count = _call(_short, 'sm_bundle_count', CODE, P, P)
 bundle_startup = _call(_short, 'sm_bundle_startup', CODE, P, P, P)

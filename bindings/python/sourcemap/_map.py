@@ -724,6 +724,21 @@ class Map(HandleOwner):
         with open(path, 'wb') as file:
             file.write(text)
 
+    def compile(self, *, contents: bool = True) -> bytes:
+        """The map as a compiled map, for a file that `CompiledMap` opens without decoding it. It has the tokens, sources,
+        names, `file` and `debug_id`, the contents unless `contents` is false, and the functions of a Hermes map. It has
+        no ignore list, and its sources are resolved. An index map is compiled as `flatten` flattens it, with its errors.
+        Equal maps give equal bytes. Raises `IncompatibleSourceMap` if there would be 2^32 bytes or more.
+
+        >>> import sourcemap
+        >>> map = sourcemap.Map.load('bundle.js.map')
+        >>> str(sourcemap.CompiledMap.from_bytes(map.compile()).lookup(0, 5))
+        'coolstuff.js:0:4 name=x'
+        """
+        with MadeText() as made:
+            self._run(library.compile_map, contents, made._at)
+            return made.read()
+
     def to_data_url(self) -> str:
         """The map as a `data:` URL.
 

@@ -12,6 +12,7 @@ from . import _library as library
 from ._texts import position_in
 
 if TYPE_CHECKING:
+    from ._compiled import _File
     from ._map import Map
 
 Position = Tuple[int, int]
@@ -117,8 +118,8 @@ class Answers(Sequence[Optional[Token]]):
     ([0, 2], [4, 2])
     """
 
-    def __init__(self, map: Map, positions: Optional[bytes], found: memoryview) -> None:
-        """Made by `Map.lookup_many`. `positions` is None except for an index map: its texts are read by position."""
+    def __init__(self, map: Union[Map, _File], positions: Optional[bytes], found: memoryview) -> None:
+        """Made by `lookup_many`. `positions` is None except for an index map: its texts are read by position."""
         self._map = map
         self._positions = positions
         self._found = found.toreadonly()
@@ -192,7 +193,7 @@ class Answers(Sequence[Optional[Token]]):
         found = FOUND.iter_unpack(self._found[first * FOUND.size:end * FOUND.size])
         if self._positions is None:
             return self._map._tokens_of(found)
-        return self._map._section_tokens_of(POSITION.iter_unpack(self._positions[first * POSITION.size:]), found)
+        return cast('Map', self._map)._section_tokens_of(POSITION.iter_unpack(self._positions[first * POSITION.size:]), found)
 
     def __repr__(self) -> str:
         return f'<sourcemap.Answers to {len(self)} positions>'

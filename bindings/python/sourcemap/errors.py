@@ -19,8 +19,9 @@ from . import _library as library
 __all__ = [
     'Absent', 'BadJson', 'BadNameReference', 'BadSegmentSize', 'BadSourceReference', 'CannotFlatten',
     'IncompatibleSourceMap', 'InvalidBase64', 'InvalidDataUrl', 'InvalidRamBundleEntry', 'InvalidRamBundleIndex',
-    'InvalidRamBundleMagic', 'InvalidRangeMappingIndex', 'Io', 'NotARamBundle', 'PastLimit', 'Scroll',
-    'SourceMapError', 'Utf8', 'VlqLeftover', 'VlqNoValues', 'VlqOverflow', 'WrongKind',
+    'InvalidRamBundleMagic', 'InvalidRangeMappingIndex', 'Io', 'NotARamBundle', 'OutOfOrder', 'PastLimit', 'Scroll',
+    'SourceMapError', 'TextOutside', 'Truncated', 'Utf8', 'VlqLeftover', 'VlqNoValues', 'VlqOverflow', 'WrongExtent',
+    'WrongKind', 'WrongMagic', 'WrongVersion',
 ]
 
 
@@ -177,15 +178,65 @@ class PastLimit(SourceMapError, OverflowError):
     code = 34
 
 
+class Truncated(SourceMapError, ValueError):
+    """A compiled map has fewer than 64 bytes, or fewer than its header says."""
+
+    code = 35
+
+
+class WrongMagic(SourceMapError, ValueError):
+    """Bytes do not begin as a compiled map does."""
+
+    code = 36
+
+
+class WrongVersion(SourceMapError, ValueError):
+    """A compiled map has version `number`, which this library does not read."""
+
+    code = 37
+
+
+class WrongExtent(SourceMapError, ValueError):
+    """A compiled map has more bytes than its header says, or its tables pass the end."""
+
+    code = 38
+
+
+class TextOutside(SourceMapError, ValueError):
+    """A text of a compiled map ends before it begins, or past the end of the file."""
+
+    code = 39
+
+
+class OutOfOrder(SourceMapError, ValueError):
+    """A token of a compiled map is before the token ahead of it."""
+
+    code = 40
+
+
 _CLASSES: Dict[int, Type[SourceMapError]] = {each.code: each for each in SourceMapError.__subclasses__()}
 _WITH_NUMBER = (BadJson, BadSegmentSize, BadSourceReference, BadNameReference, InvalidBase64)
 
 
+# the texts of errors for which the library writes none
+_TEXTS = {
+    Utf8.code: 'a text of the compiled map is not UTF-8',
+    WrongKind.code: 'the object is of a kind that has no such call',
+    Truncated.code: 'the compiled map is truncated',
+    WrongMagic.code: 'not a compiled map',
+    WrongVersion.code: 'unknown version of a compiled map',
+    WrongExtent.code: 'a table of the compiled map has a wrong extent',
+    TextOutside.code: 'a text passes the end of the compiled map',
+    OutOfOrder.code: 'the compiled map is out of order',
+}
+
+
 def of_code(code: int) -> Union[SourceMapError, MemoryError]:
-    """The exception for a code without a text: memory ran out, or the object is of the wrong kind."""
+    """The exception for a code without a text: memory ran out, the object is of the wrong kind, or an error of a compiled
+    map."""
     if code == library.OUT_OF_MEMORY:
         return MemoryError('out of memory')
-    return _CLASSES[code]('the object is of a kind that has no such call')
+    return _CLASSES[code](_TEXTS[code])
 
 
 def of_error(error: library.Error) -> Union[SourceMapError, MemoryError]:

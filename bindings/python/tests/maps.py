@@ -24,4 +24,7 @@ def index(*sections, **keys):
 
 TWO_SECTIONS = index(section(0, 0, regular('AAAA', ['a.js'])), section(10, 4, regular('AAAA', ['b.js'])))
 HERMES = regular('AAAA,KACK', x_facebook_sources=[[{'names': ['<global>', 'foo'], 'mappings': 'AAA,KCC'}]])
+# docs/COMPILED.md: where the header of a compiled map says where the tables begin; each block takes 40 bytes of them, then
+# come the offsets of the texts
+TABLES, OF_A_BLOCK = 48, 40
 BUNDLE = bytes.fromhex('e5d10bfb 01000000 02000000 02000000 04000000 6162 78797a 00')

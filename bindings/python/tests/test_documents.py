@@ -26,7 +26,7 @@ import uuid
 from typing import Iterator, List, Optional, Tuple
 
 import sourcemap
-from sourcemap import Answers, Builder, Bundle, Map, Module, Reference, Section, SourceMapError, Token, View, errors
+from sourcemap import Answers, Builder, Bundle, CompiledMap, Map, Module, Reference, Section, SourceMapError, Token, View, errors
 
 def frames(path: str) -> Iterator[Tuple[Optional[str], Optional[int]]]:
     with Map.load(path) as map:
@@ -42,6 +42,14 @@ def frames(path: str) -> Iterator[Tuple[Optional[str], Optional[int]]]:
         id: Optional[uuid.UUID] = map.debug_id
         map.file = None
         yield map.scope_for(0, 1, 2), len(texts) + len(names) + len(contents) + len(sections) + len(paths or ())
+
+def compiled(path: str) -> List[Optional[str]]:
+    with CompiledMap(path) as map:
+        map.verify()
+        found: Optional[Token] = map.lookup(0, 5)
+        answers: Answers = map.lookup_many([(0, 5)])
+        id: Optional[uuid.UUID] = map.debug_id
+        return [map.file, map.scope_at(0, 5), *map.sources, *map.names, *map.contents]
 
 def build() -> bytes:
     with Builder() as builder:
@@ -70,6 +78,8 @@ map.file = 1
 map.split()
 map.scope_for(0, 1)
 sourcemap.Bundle(b'').split('x')
+sourcemap.CompiledMap(b'').lookup('0', 5)
+sourcemap.CompiledMap.from_bytes('text')
 '''
 
 

@@ -1,11 +1,12 @@
 """Each error, raised by a call if any call of this package can raise it."""
+import struct
 import subprocess
 import sys
 import unittest
 
-from sourcemap import Builder, Bundle, Map, SourceMapError, View, _library, errors
+from sourcemap import Builder, Bundle, CompiledMap, Map, SourceMapError, View, _library, errors
 
-from .maps import BUNDLE, README, TWO_SECTIONS, index, regular, section
+from .maps import BUNDLE, OF_A_BLOCK, README, TABLES, TWO_SECTIONS, index, regular, section
 
 NO_MODULE_LENGTH = BUNDLE[:12] + bytes.fromhex('02000000 00000000') + BUNDLE[20:]
 
@@ -15,6 +16,15 @@ def last_column():
     with Builder() as builder:
         builder.add(0, 2**32 - 1, source='a.js', line=0, column=0)
         return builder.finish()
+
+
+COMPILED = Map.loads(README).compile()
+
+
+def damaged(at, byte):
+    """A compiled map with another byte, counted from the tables."""
+    tables, = struct.unpack_from('<I', COMPILED, TABLES)
+    return COMPILED[:tables + at] + bytes([byte]) + COMPILED[tables + at + 1:]
 
 
 def loads(mappings, **keys):
@@ -46,6 +56,16 @@ RAISED = [
     (errors.Absent, 32, None, None, lambda: Map.loads(README).set_source(1, 'a.js')),
     (errors.WrongKind, 33, None, None, lambda: Map.loads(README).flatten()),
     (errors.PastLimit, 34, None, None, lambda: Map.loads(TWO_SECTIONS).shift(2**32 - 1)),
+    (errors.Truncated, 35, None, 'the compiled map is truncated', lambda: CompiledMap.from_bytes(COMPILED[:-1])),
+    (errors.WrongMagic, 36, None, 'not a compiled map', lambda: CompiledMap.from_bytes(bytes(64))),
+    (errors.WrongVersion, 37, 2, 'unknown version of a compiled map',
+     lambda: CompiledMap.from_bytes(COMPILED[:4] + b'\2' + COMPILED[5:])),
+    (errors.WrongExtent, 38, None, 'a table of the compiled map has a wrong extent',
+     lambda: CompiledMap.from_bytes(COMPILED + b'\0')),
+    (errors.TextOutside, 39, None, 'a text passes the end of the compiled map',
+     lambda: CompiledMap.from_bytes(damaged(OF_A_BLOCK + 3, 255)).sources[0]),
+    (errors.OutOfOrder, 40, None, 'the compiled map is out of order',
+     lambda: CompiledMap.from_bytes(damaged(0, 200)).verify()),
 ]
 
 # no call of this package raises these: an empty segment of mappings is skipped, and the other is kept for its code
@@ -81,7 +101,7 @@ class Errors(unittest.TestCase):
 
     def test_codes_differ(self):
         codes = sorted(each.code for each in SourceMapError.__subclasses__())
-        self.assertEqual(codes, [*range(1, 20), 32, 33, 34])
+        self.assertEqual(codes, [*range(1, 20), *range(32, 41)])
 
     def test_all_names(self):
         self.assertEqual(sorted(each.__name__ for each in (SourceMapError, *SourceMapError.__subclasses__())),

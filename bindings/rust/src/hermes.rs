@@ -4,6 +4,7 @@ use std::fmt;
 use std::io::{Read, Write};
 use std::ops::{Deref, DerefMut};
 
+use crate::compiled::WithContents;
 use crate::decoder::{decode, decode_slice};
 use crate::errors::{Error, Result};
 use crate::handle::MapHandle;
@@ -50,6 +51,12 @@ impl SourceMapHermes {
     /// Writes the map as JSON.
     pub fn to_writer<W: Write>(&self, w: W) -> Result<()> {
         self.handle().with_json(|text| write_all(w, text))?
+    }
+
+    /// Returns the bytes of the compiled map, as [`DecodedMap::compile`] does, with the scope of each
+    /// token.
+    pub fn compile(&self, contents: WithContents) -> Result<Vec<u8>> {
+        self.handle().compiled(contents == WithContents::Yes)
     }
 
     /// Returns the name of the function at an offset of the bytecode. The offset is

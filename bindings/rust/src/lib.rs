@@ -15,7 +15,8 @@
 //!
 //! # Threads
 //!
-//! Maps, builders, views and bundles are `Send` and `Sync`; so are tokens and iterators.
+//! Maps, builders, views and bundles are `Send` and `Sync`; so are tokens and iterators. A
+//! [`CompiledMap`] has no handle, so what follows does not concern it.
 //! An `Arc<DecodedMap>` serves a pool of threads. A call takes a handle of the library
 //! that no other call has. Where calls meet, the value gets a further handle: at most
 //! one for each call at a time, which copies nothing and stays until the value is changed
@@ -41,6 +42,7 @@
 #![warn(missing_docs)]
 
 pub use crate::builder::SourceMapBuilder;
+pub use crate::compiled::{CompiledMap, CompiledMapError, CompiledToken, WithContents};
 pub use crate::debug_id::{DebugId, ParseDebugIdError};
 pub use crate::decoder::{decode, decode_data_url, decode_slice};
 pub use crate::detector::{
@@ -57,6 +59,7 @@ pub use crate::types::{
 pub use crate::utils::make_relative_path;
 
 mod builder;
+mod compiled;
 mod debug_id;
 mod decoder;
 mod detector;

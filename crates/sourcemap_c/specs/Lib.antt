@@ -1,4 +1,5 @@
 pub mod Codes
+pub mod Compiling
 pub mod Kinds
 pub mod Opening
 pub mod Lookup

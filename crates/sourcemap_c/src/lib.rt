@@ -7,6 +7,8 @@ pub mod building;
 pub mod bundles;
 pub mod changing;
 mod codes;
+pub mod compiled;
+pub mod compiling;
 pub mod debug_ids;
 pub mod equality;
 pub mod functions;

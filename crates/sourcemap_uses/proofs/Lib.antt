@@ -1,4 +1,5 @@
 pub mod BuildingLemmas
+pub mod CachingLemmas
 pub mod ComposingLemmas
 pub mod DataUrlsLemmas
 pub mod FindingLemmas

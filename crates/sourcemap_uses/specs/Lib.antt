@@ -1,5 +1,6 @@
 pub mod Adjusting
 pub mod Building
+pub mod Caching
 pub mod Composing
 pub mod DataUrls
 pub mod ErrorAdvice

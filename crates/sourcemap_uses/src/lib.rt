@@ -4,6 +4,7 @@
 
 pub mod adjusting;
 pub mod building;
+pub mod caching;
 pub mod composing;
 pub mod data_urls;
 pub mod error_advice;

@@ -10,6 +10,7 @@ use sourcemap_test_support::checks::{Checked, check, check_that};
 use sourcemap_test_support::results::box_result;
 use sourcemap_uses::adjusting::lookup_adjusted;
 use sourcemap_uses::building::lookup_once_written;
+use sourcemap_uses::caching::line_by_compiling;
 use sourcemap_uses::data_urls::inline_map;
 use sourcemap_uses::error_advice::{Advice, advise, exit_status};
 use sourcemap_uses::exporting::export;
@@ -497,6 +498,20 @@ const BUNDLE: &str = concat!(
     r#"{"version":3,"sources":["a.js"],"sourcesContent":["\nfunction foo() {}"],"#,
     r#""names":["foo"],"mappings":"AACA,SAASA"}"#,
 );
+
+// The original line of a position in the compiled map of `text`.
+fn line_once_compiled(alloc: Global, text: &str, line: u32, col: u32) -> Result<String> {
+    let map = box_result(alloc, decode_slice(alloc, text.as_bytes()))?;
+    let found = line_by_compiling(alloc, &map, line, col)?;
+    Ok(format!(in alloc; "{found:?}")?)
+}
+
+#[test]
+fn a_compiled_map_keeps_its_lines(rt: HostRuntime) -> Checked {
+    let alloc = rt.alloc();
+    check("a token", line_once_compiled(alloc, MAP, 0, 18), "Some(2)")?;
+    check("no token", line_once_compiled(alloc, LATE, 0, 0), "None")
+}
 
 fn line_of_function(alloc: Global, text: &str) -> Result<String> {
     let map = map_of(alloc, text.as_bytes())?;

@@ -41,6 +41,13 @@ pub const SM_ABSENT: Code = 32;
 pub const SM_WRONG_KIND: Code = 33;
 pub const SM_PAST_LIMIT: Code = 34;
 
+pub const SM_COMPILED_TRUNCATED: Code = 35;
+pub const SM_COMPILED_MAGIC: Code = 36;
+pub const SM_COMPILED_VERSION: Code = 37;
+pub const SM_COMPILED_EXTENT: Code = 38;
+pub const SM_COMPILED_TEXT: Code = 39;
+pub const SM_COMPILED_ORDER: Code = 40;
+
 pub const SM_KIND_EMPTY: u32 = 0;
 pub const SM_KIND_REGULAR: u32 = 1;
 pub const SM_KIND_INDEX: u32 = 2;
@@ -250,6 +257,19 @@ extern "C" {
     pub fn sm_bundle_module(bundle: *mut Handle, id: usize, bytes: *mut Text, error: *mut Error) -> Code;
     pub fn sm_split_open(split: *mut Handle, index: *mut Handle, error: *mut Error) -> Code;
     pub fn sm_split_map(split: *mut Handle, bundle: *mut Handle, id: usize, map: *mut Handle, error: *mut Error) -> Code;
+
+    pub fn sm_compile(map: *mut Handle, with_contents: bool, bytes: *mut Handle, error: *mut Error) -> Code;
+    pub fn sm_compiled_check(bytes: *const u8, length: usize) -> Code;
+    pub fn sm_compiled_verify(bytes: *const u8, length: usize) -> Code;
+    pub fn sm_compiled_count(bytes: *const u8, length: usize, counts: *mut Counts) -> Code;
+    pub fn sm_compiled_debug_id(bytes: *const u8, length: usize, id: *mut DebugId) -> Code;
+    pub fn sm_compiled_lookup(bytes: *const u8, length: usize, line: u32, column: u32, found: *mut Found) -> Code;
+    pub fn sm_compiled_lookup_many(bytes: *const u8, length: usize, positions: *const Position, count: usize, found: *mut Found, found_length: usize) -> usize;
+    pub fn sm_compiled_scope(bytes: *const u8, length: usize, line: u32, column: u32, text: *mut Text) -> Code;
+    pub fn sm_compiled_source(bytes: *const u8, length: usize, id: u32, text: *mut Text) -> Code;
+    pub fn sm_compiled_name(bytes: *const u8, length: usize, id: u32, text: *mut Text) -> Code;
+    pub fn sm_compiled_contents(bytes: *const u8, length: usize, id: u32, text: *mut Text) -> Code;
+    pub fn sm_compiled_file(bytes: *const u8, length: usize, text: *mut Text) -> Code;
 }
 
 #[cfg(test)]

@@ -336,6 +336,15 @@ impl MapHandle {
         Handle::fill_text(|text, error| unsafe { ffi::sm_write_url(self.take().at(), text, error) })
     }
 
+    /// The bytes of the compiled map.
+    pub fn compiled(&self, with_contents: bool) -> Result<Vec<u8>> {
+        // SAFETY: both are handles, and not the same.
+        let bytes = Handle::fill(|bytes, error| unsafe {
+            ffi::sm_compile(self.take().at(), with_contents, bytes, error)
+        })?;
+        Ok(bytes.made_bytes().to_owned())
+    }
+
     /// A section of an index map, with a copy of its map.
     pub fn section(&self, id: u32) -> Result<Option<Section<'_>>> {
         // The bytes between fields are to be zeros too.

@@ -10,6 +10,7 @@
 mod build;
 mod bundle;
 mod change;
+pub(crate) mod compiled;
 mod debug_id;
 mod map;
 mod reference;
@@ -99,6 +100,16 @@ impl Handle {
         // SAFETY: what this function asks of its caller. The handle does not change while
         // it is borrowed.
         unsafe { lent_text(|text| ask(self.at(), text)) }
+    }
+
+    /// The bytes of a handle that a call filled with some.
+    fn made_bytes(&self) -> &[u8] {
+        let mut bytes = ffi::Text::EMPTY;
+        // SAFETY: it is a handle. It does not change while it is borrowed, so neither do its bytes.
+        unsafe {
+            ffi::sm_bytes_text(self.at(), &mut bytes);
+            bytes.bytes()
+        }
     }
 
     /// The text of a handle that a call filled with one.

@@ -2,6 +2,7 @@
 
 use std::io::{Read, Write};
 
+use crate::compiled::WithContents;
 use crate::debug_id::DebugId;
 use crate::decoder::decode;
 use crate::errors::Result;
@@ -50,6 +51,17 @@ impl DecodedMap {
             DecodedMap::Index(smi) => smi.to_writer(w),
             DecodedMap::Hermes(smh) => smh.to_writer(w),
         }
+    }
+
+    /// Returns the bytes of the compiled map, which [`CompiledMap::parse`](crate::CompiledMap::parse)
+    /// takes. It has the tokens, the resolved sources, the names, the file name, the debug id, the
+    /// contents if they are wanted, and the scopes of a Hermes map. It has no ignore list. An index
+    /// map is compiled as [`SourceMapIndex::flatten`] flattens it, with its errors. Equal maps give
+    /// equal bytes. Fails with
+    /// [`Error::IncompatibleSourceMap`](crate::Error::IncompatibleSourceMap) if there would be 2^32
+    /// bytes or more.
+    pub fn compile(&self, contents: WithContents) -> Result<Vec<u8>> {
+        self.handle().compiled(contents == WithContents::Yes)
     }
 
     /// Returns the closest token to a generated position. In an index map, a section

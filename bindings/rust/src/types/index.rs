@@ -3,6 +3,7 @@
 use std::fmt;
 use std::io::{Read, Write};
 
+use crate::compiled::WithContents;
 use crate::debug_id::DebugId;
 use crate::decoder::{decode, decode_slice};
 use crate::errors::{Error, Result};
@@ -138,6 +139,11 @@ impl SourceMapIndex {
             DecodedMap::Index(smi) => Ok(smi),
             _ => Err(Error::IncompatibleSourceMap),
         }
+    }
+
+    /// Returns the bytes of the compiled map, as [`DecodedMap::compile`] does.
+    pub fn compile(&self, contents: WithContents) -> Result<Vec<u8>> {
+        self.handle().compiled(contents == WithContents::Yes)
     }
 
     /// Writes the map as JSON.

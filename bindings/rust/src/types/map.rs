@@ -5,6 +5,7 @@ use std::io::{Read, Write};
 use std::sync::Arc;
 
 use crate::builder::SourceMapBuilder;
+use crate::compiled::WithContents;
 use crate::debug_id::DebugId;
 use crate::decoder::{decode, decode_slice};
 use crate::errors::{Error, Result};
@@ -91,6 +92,12 @@ impl SourceMap {
     /// Writes the map as JSON.
     pub fn to_writer<W: Write>(&self, w: W) -> Result<()> {
         self.regular_handle().with_json(|text| write_all(w, text))?
+    }
+
+    /// Returns the bytes of the compiled map, as [`DecodedMap::compile`] does.
+    pub fn compile(&self, contents: WithContents) -> Result<Vec<u8>> {
+        self.regular_handle()
+            .compiled(contents == WithContents::Yes)
     }
 
     /// Returns the map as a `data:` URL.

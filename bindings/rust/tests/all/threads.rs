@@ -5,9 +5,9 @@ use sourcemap::ram_bundle::{
     RamBundle, RamBundleModule, RamBundleModuleIter, SplitRamBundleModuleIter,
 };
 use sourcemap::{
-    decode_slice, DecodedMap, Error, NameIter, SourceContentsIter, SourceIter, SourceMap,
-    SourceMapBuilder, SourceMapHermes, SourceMapIndex, SourceMapSectionIter, SourceView, Token,
-    TokenIter,
+    decode_slice, CompiledMap, CompiledToken, DecodedMap, Error, NameIter, SourceContentsIter,
+    SourceIter, SourceMap, SourceMapBuilder, SourceMapHermes, SourceMapIndex, SourceMapSectionIter,
+    SourceView, Token, TokenIter, WithContents,
 };
 
 use crate::{regular, COOLSTUFF};
@@ -33,6 +33,8 @@ fn threads_may_share_all() {
     is_shared::<SourceContentsIter<'static>>();
     is_shared::<NameIter<'static>>();
     is_shared::<SourceMapSectionIter<'static>>();
+    is_shared::<CompiledMap<'static>>();
+    is_shared::<CompiledToken<'static>>();
 }
 
 /// The sum of the source columns that answer.
@@ -51,6 +53,21 @@ fn in_eight(run: impl Fn(usize) + Sync) {
                 start.wait();
                 run(thread);
             });
+        }
+    });
+}
+
+#[test]
+fn threads_ask_one_compiled_map() {
+    let map = regular(COOLSTUFF);
+    let file = map.compile(WithContents::No).expect("a compiled map");
+    let compiled = CompiledMap::parse(&file).expect("a compiled map");
+    in_eight(|_| {
+        for column in (0..30).cycle().take(3000) {
+            let token = map.lookup_token(0, column).expect("a token");
+            let found = compiled.lookup_token(0, column).expect("a token");
+            assert_eq!(found.get_src(), token.get_src());
+            assert_eq!(found.get_name(), Ok(token.get_name()));
         }
     });
 }

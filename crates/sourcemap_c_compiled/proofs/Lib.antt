@@ -1,0 +1,2 @@
+pub mod CodesLemmas
+pub mod LookupsLemmas

@@ -1,0 +1,4 @@
+pub mod Codes
+pub mod Compiling
+pub mod Counts
+pub mod Lookups

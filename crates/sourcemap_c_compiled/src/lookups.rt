@@ -1,0 +1,109 @@
+//! Lookups in compiled maps.
+ghost use Rattle.std.specs.Prelude.{◌≡◌, ◌≤◌, ℕ, Some, cond, is_some, length, min, slice_get};
+ghost use Rattle.sourcemap_compiled.specs.Layout.{refusal};
+ghost use Rattle.sourcemap_compiled.specs.Stored.{bytes_of, token_value};
+ghost use Rattle.sourcemap_c_compiled.specs.Codes.{OnCompiled};
+ghost use Rattle.sourcemap_c_compiled.specs.Lookups.{AreAnswered, IsAnswer, ReturnsClosest, ReturnsScope, found_of};
+
+use crate::codes::{ABSENT, OK, code_of};
+use crate::texts::put_text;
+use sourcemap_c_handles::layout::{Found, MapToken, Position};
+use sourcemap_compiled::map::CompiledMap;
+use sourcemap_compiled::token::CompiledToken;
+
+/// Looks up a generated position, and writes its closest token to `found`.
+pub fn look_up(bytes: &[u8], line: u32, column: u32, found: &mut Found) -> u32
+    ensures { OnCompiled bytes.now
+        (ReturnsClosest bytes.now (line, column) result found.old found.new)
+        result found.old found.new }
+{
+    match CompiledMap::parse(bytes) {
+        Ok(map) => put_closest(&map, line, column, found),
+        Err(error) => code_of(error),
+    }
+}
+
+fn put_closest(map: &CompiledMap<'_>, line: u32, column: u32, found: &mut Found) -> u32
+    ensures { ReturnsClosest (bytes_of map.now) (line, column) result found.old found.new }
+{
+    match map.lookup_token(line, column) {
+        Some(token) => {
+            *found = found_of(&token);
+            OK
+        }
+        None => ABSENT,
+    }
+}
+
+fn found_of(token: &CompiledToken<'_>) -> Found
+    ensures { result ≡ found_of (Some (token_value token.now)) }
+{
+    Found {
+        token: MapToken {
+            original_column: token.get_src_col(),
+            ..MapToken::of_raw(token.get_raw_token())
+        },
+        found: true,
+    }
+}
+
+/// Looks up each generated position `positions[i]`, and writes its closest token to `found[i]`.
+/// Returns how many it answered: 0 if the bytes are no compiled map.
+pub fn look_up_many(bytes: &[u8], positions: &[Position], found: &mut [Found]) -> usize
+    ensures count { result ≡ cond (is_some (refusal bytes.now)) 0
+        (min (length positions.now) (length found.old)) }
+    ensures each { AreAnswered bytes.now positions.now found.new result }
+    ensures rest { (i : ℕ) → result ≤ i → slice_get found.new i ≡ slice_get found.old i }
+{
+    match CompiledMap::parse(bytes) {
+        Ok(map) => look_up_each(&map, positions, found),
+        Err(_) => 0,
+    }
+}
+
+fn look_up_each(map: &CompiledMap<'_>, positions: &[Position], found: &mut [Found]) -> usize
+    ensures count { result ≡ min (length positions.now) (length found.old) }
+    ensures each { AreAnswered (bytes_of map.now) positions.now found.new result }
+    ensures rest { (i : ℕ) → result ≤ i → slice_get found.new i ≡ slice_get found.old i }
+{
+    let count = positions.len().min(found.len());
+    for i in 0..count {
+        found[i] = answer(map, positions[i]);
+    }
+    count
+}
+
+fn answer(map: &CompiledMap<'_>, position: Position) -> Found
+    ensures { IsAnswer (bytes_of map.now) position result }
+{
+    match map.lookup_token(position.line, position.column) {
+        Some(token) => found_of(&token),
+        None => Found::none(),
+    }
+}
+
+/// Borrows the scope of the token closest to a generated position.
+pub fn put_scope<'a>(bytes: &'a [u8], line: u32, column: u32, text: &mut &'a [u8]) -> u32
+    ensures { OnCompiled bytes.now
+        (ReturnsScope bytes.now (line, column) result text.old.now text.new.now)
+        result text.old.now text.new.now }
+{
+    match CompiledMap::parse(bytes) {
+        Ok(map) => put_closest_scope(&map, line, column, text),
+        Err(error) => code_of(error),
+    }
+}
+
+fn put_closest_scope<'a>(
+    map: &CompiledMap<'a>,
+    line: u32,
+    column: u32,
+    text: &mut &'a [u8],
+) -> u32
+    ensures { ReturnsScope (bytes_of map.now) (line, column) result text.old.now text.new.now }
+{
+    match map.lookup_token(line, column) {
+        Some(token) => put_text(token.get_scope(), text),
+        None => ABSENT,
+    }
+}
