@@ -16,7 +16,6 @@ import cProfile
 import hashlib
 import os
 import pstats
-import resource
 import shutil
 import subprocess
 import sys
@@ -33,8 +32,8 @@ from sourcemap._tables.pieces import Table
 
 HEAD = b'file,line,column\n'
 PARTS = [('reading CSV', csv_rows._read), ('lookups', opened.CompiledMap.lookup_many),
-         ('texts', opened.OpenedMap._texts), ('lines of sources', opened.OpenedMap.line_keys),
-         ('lines of sources', opened.OpenedMap.read_lines), ('writing CSV', csv_rows._write)]
+         ('texts', opened.OpenedMap._texts), ('lines of sources', opened.OpenedMap.context),
+         ('writing CSV', csv_rows._write)]
 
 
 def rank(path):
@@ -80,15 +79,20 @@ def write_frames(taken, count, path):
                                    csv_rows._Numbers(columns + 1, False)], size)
 
 
-def own_memory(pid):
-    """The bytes of each process below this one, and of the process itself, that no file backs."""
+TICKS = os.sysconf('SC_CLK_TCK')
+
+
+def look_at(pid):
+    """Of this process and each one below it: the bytes that no file backs, and the seconds of processors."""
     found = {}
     waiting = [pid]
     while waiting:
         each = waiting.pop()
         try:
             text = Path(f'/proc/{each}/smaps_rollup').read_text()
-            found[each] = 1024 * int(next(line.split()[1] for line in text.splitlines() if line.startswith('Anonymous:')))
+            own = 1024 * int(next(line.split()[1] for line in text.splitlines() if line.startswith('Anonymous:')))
+            fields = Path(f'/proc/{each}/stat').read_text().rpartition(')')[2].split()
+            found[each] = own, (int(fields[11]) + int(fields[12])) / TICKS
             for children in Path(f'/proc/{each}/task').glob('*/children'):
                 waiting.extend(map(int, children.read_text().split()))
         except (OSError, StopIteration):
@@ -96,25 +100,20 @@ def own_memory(pid):
     return found
 
 
-def processor_seconds():
-    """Those of all processes that this one started, and that ended."""
-    used = resource.getrusage(resource.RUSAGE_CHILDREN)
-    return used.ru_utime + used.ru_stime
-
-
 def measure(words):
     """Runs the program. Returns the seconds, those of the processor, the most own memory of a process, the last line."""
-    began, used = time.monotonic(), processor_seconds()
+    began = time.monotonic()
     program = subprocess.Popen([sys.executable, '-m', 'sourcemap', 'batch', *words], stderr=subprocess.PIPE, text=True)
-    most = 0
+    most, used = 0, {}
     while program.poll() is None:
-        most = max(most, *own_memory(program.pid).values(), 0)
+        for each, (own, seconds) in look_at(program.pid).items():
+            most, used[each] = max(most, own), seconds
         time.sleep(0.1)
     seconds = time.monotonic() - began
     errors = program.stderr.read()
     if program.returncode:
         sys.exit(errors)
-    return seconds, processor_seconds() - used, most, errors.splitlines()[-1]
+    return seconds, sum(used.values()), most, errors.splitlines()[-1]
 
 
 def profile(frames, release, count):

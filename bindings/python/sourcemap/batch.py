@@ -22,8 +22,8 @@ PARTITION = 8_000_000
 def symbolicate(frames: pandas.DataFrame, release: Release, *, zero_based: bool = False) -> pandas.DataFrame:
     """The table with the original position of each row. Needs pandas and numpy.
 
-    `frames` has the columns `file`, `line` and `column`, and may have `debug_id`; all its columns are kept. `file` is
-    the path or URL of a generated file. Lines and columns count from 1, as stack traces print them; with `zero_based`
+    `frames` has the columns `file`, `line` and `column`, and may have `debug_id`. All its columns are kept, such as
+    `function`. `file` is the path or URL of a generated file. Lines and columns count from 1, as stack traces print them; with `zero_based`
     from 0. They are whole numbers, or texts with the digits of one. These columns are added:
 
     - `source`, `source_line`, `source_column`: the original position. The last two have the type `Int64`, and count

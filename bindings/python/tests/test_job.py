@@ -409,10 +409,24 @@ def descendants(pid: int) -> Set[int]:
     return found
 
 
-def is_worker(pid: int) -> bool:
+def fields_of(pid: int) -> List[str]:
+    """The fields of /proc/PID/stat from the state on; none if the process has ended."""
     with contextlib.suppress(OSError):
-        return b'spawn_main' in Path(f'/proc/{pid}/cmdline').read_bytes()
+        fields = Path(f'/proc/{pid}/stat').read_text().rpartition(')')[2].split()
+        return [] if fields[0] == 'Z' else fields
+    return []
+
+
+def is_forked(pid: int) -> bool:
+    with contextlib.suppress(OSError):
+        return b'forkserver' in Path(f'/proc/{pid}/cmdline').read_bytes()
     return False
+
+
+def workers_of(pid: int) -> List[int]:
+    """The worker processes of a program: they are forked by another one, which is forked for that."""
+    found = [(each, fields_of(each)) for each in descendants(pid)]
+    return [each for each, fields in found if fields and is_forked(each) and is_forked(int(fields[1]))]
 
 
 @needs_distributed
@@ -448,7 +462,7 @@ class Processes(Jobs):
         return False
 
     def test_killed_workers(self) -> None:
-        """Three of four workers are killed, one after another: the same bytes as without."""
+        """Workers are killed three times, one after another: the same bytes as without."""
         wanted = self.output_of(self.frames, '--workers', 1)
         drawn = random.Random()
         self.out.unlink()
@@ -456,8 +470,7 @@ class Processes(Jobs):
             killed = []
             for part in 0.05, 0.25, 0.45:
                 self.assertTrue(self.wait_for(program, int(part * len(wanted))), 'the table was written too early')
-                workers = [pid for pid in descendants(program.pid) if is_worker(pid)]
-                killed.append(drawn.choice(workers))
+                killed.append(drawn.choice(workers_of(program.pid)))
                 os.kill(killed[-1], signal.SIGKILL)
             _, errors = program.communicate(timeout=120)
         self.assertEqual((program.returncode, len(set(killed))), (0, 3), errors)
@@ -468,14 +481,18 @@ class Processes(Jobs):
         old = builds.put(self.top, 'out.csv', b'old')
         with self.started(*more) as program:
             self.assertTrue(self.wait_for(program, 100_000))
-            processes = descendants(program.pid)
+            workers = workers_of(program.pid)
+            self.assertEqual(len(workers), 0 if more[-1] == 1 else more[-1])
             stop(program.pid)
             _, errors = program.communicate(timeout=60)
         self.assertEqual((program.returncode, errors.splitlines()[-1:]),
                          (130, ['sourcemap: interrupted, and no table was written']), errors)
         self.assertEqual((old.read_bytes(), self.leftovers()), (b'old', []))
+        self.check_ended(workers)
+
+    def check_ended(self, workers: List[int]) -> None:
         end = time.monotonic() + 20
-        while any(is_worker(pid) for pid in processes):
+        while any(map(fields_of, workers)):
             self.assertLess(time.monotonic(), end, 'a worker is still there')
             time.sleep(0.05)
 
@@ -490,13 +507,10 @@ class Processes(Jobs):
         old = builds.put(self.top, 'out.csv', b'old')
         with self.started('--workers', 2) as program:
             self.assertTrue(self.wait_for(program, 100_000))
-            processes = descendants(program.pid)
+            workers = workers_of(program.pid)
             program.kill()
             program.wait()
-            end = time.monotonic() + 20
-            while any(is_worker(pid) for pid in processes):
-                self.assertLess(time.monotonic(), end, 'a worker is still there')
-                time.sleep(0.05)
+            self.check_ended(workers)
         self.assertEqual(old.read_bytes(), b'old')
 
 

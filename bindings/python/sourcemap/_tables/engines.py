@@ -78,7 +78,9 @@ def _local(workers: int, folder: Path) -> Iterator[Any]:
     """The client of a cluster of worker processes on this machine. A worker that dies is started again, and its pieces
     are answered by another one."""
     distributed, config = need('distributed'), need('dask').config
-    with config.set({'distributed.scheduler.allowed-failures': MOST_DEATHS}), \
+    # workers are forked from one process that imports what they need, once
+    with config.set({'distributed.scheduler.allowed-failures': MOST_DEATHS,
+                     'distributed.worker.multiprocessing-method': 'forkserver'}), \
             distributed.LocalCluster(n_workers=workers, threads_per_worker=1, processes=True, memory_limit=0,
                                      dashboard_address=None, local_directory=str(folder),
                                      silence_logs=logging.ERROR) as cluster, \
