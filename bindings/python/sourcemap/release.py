@@ -65,7 +65,7 @@ class Problem(NamedTuple):
     why: str
 
 
-class _Compiled(NamedTuple):
+class Compiled(NamedTuple):
     """A compiled map: what it is cached by, and its file."""
 
     key: str
@@ -109,7 +109,7 @@ class Release:
         self._ids: Optional[Dict[uuid.UUID, List[Path]]] = None
         self._keys: Dict[Path, str] = {}
         self._answers: Dict[Tuple[Optional[str], Optional[str]], Match] = {}
-        self._compiled: Dict[str, Union[_Compiled, Problem]] = {}
+        self._compiled: Dict[str, Union[Compiled, Problem]] = {}
         self._opened: 'OrderedDict[str, OpenedMap]' = OrderedDict()
 
     def _check_folder(self) -> None:
@@ -305,7 +305,7 @@ class Release:
             self._keys[path] = _cache.key_of_file(path)
         return self._keys[path]
 
-    def _checked(self, match: Match) -> Union[_Compiled, Problem]:
+    def _checked(self, match: Match) -> Union[Compiled, Problem]:
         """The compiled map, which was checked in this process, or why there is none. Raises `OSError` if the cache cannot
         be written."""
         if match.map is None:
@@ -319,7 +319,7 @@ class Release:
                 self._compiled[key] = self._compile(match.map, match.embedded, key)
             return self._compiled[key]
 
-    def _compile(self, path: Path, embedded: bool, key: str) -> Union[_Compiled, Problem]:
+    def _compile(self, path: Path, embedded: bool, key: str) -> Union[Compiled, Problem]:
         found = self._cache.find(key)
         if found is None:
             try:
@@ -332,7 +332,7 @@ class Release:
                 return Problem(True, f'{path} takes more memory than a map of its size may take')
             except (SourceMapError, UnicodeEncodeError) as error:
                 return Problem(True, f'{path}: {error}')
-        return _Compiled(key, found)
+        return Compiled(key, found)
 
     def open(self, file: Optional[str], debug_id: Optional[str] = None) -> CompiledMap:
         """The compiled map of a generated file. Raises `FileNotFoundError` if there is no map, `ValueError` if it cannot be
@@ -343,26 +343,26 @@ class Release:
         ...     print(compiled.lookup(0, 5))
         coolstuff.js:0:4 name=x
         """
-        found = self._checked(self.find(file, debug_id))
+        found = self.compiled(file, debug_id)
         if isinstance(found, Problem):
             raise ValueError(found.why) if found.is_bad else FileNotFoundError(found.why)
         return CompiledMap(found.path)
 
-    def opened(self, file: Optional[str], debug_id: Optional[str]) -> Union[OpenedMap, Problem]:
-        """The map of a generated file, to be asked by arrays, or why there is none. It stays open for the next time. Needs
-        numpy and pandas."""
+    def compiled(self, file: Optional[str], debug_id: Optional[str]) -> Union[Compiled, Problem]:
+        """The compiled map of a generated file, or why there is none. Raises `OSError` if the cache cannot be written."""
+        return self._checked(self.find(file, debug_id))
+
+    def opened(self, compiled: Compiled) -> OpenedMap:
+        """A compiled map, to be asked by arrays. The last ones stay open for the next time. Needs numpy and pandas."""
         from ._tables.opened import OpenedMap
 
-        found = self._checked(self.find(file, debug_id))
-        if isinstance(found, Problem):
-            return found
         with self._lock:
-            if found.key not in self._opened:
+            if compiled.key not in self._opened:
                 while len(self._opened) >= MOST_MAPS:
                     self._opened.popitem(last=False)
-                self._opened[found.key] = OpenedMap(found.path)
-            self._opened.move_to_end(found.key)
-            return self._opened[found.key]
+                self._opened[compiled.key] = OpenedMap(compiled.path)
+            self._opened.move_to_end(compiled.key)
+            return self._opened[compiled.key]
 
     def __repr__(self) -> str:
         return f'<sourcemap.Release: {self._folder}>'

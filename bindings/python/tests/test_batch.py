@@ -5,6 +5,7 @@ from __future__ import annotations
 import doctest
 import os
 import re
+import resource
 import subprocess
 import sys
 import unittest
@@ -161,12 +162,16 @@ class Rows(Tables):
                 batch.symbolicate(pd.DataFrame([[1] * len(names)], columns=names), release)
 
     def test_more_maps_than_are_kept_open(self) -> None:
-        for number in range(9):
+        """Nor has the process more files open."""
+        for number in range(60):
             self.put_map(f'{number}.js.map', f'{number}.ts')
-        files = [f'{number % 9}.js' for number in range(50)]
-        with mock.patch('sourcemap.release.MOST_MAPS', 2):
+        files = [f'{number % 60}.js' for number in range(130)]
+        before = resource.getrlimit(resource.RLIMIT_NOFILE)
+        self.addCleanup(resource.setrlimit, resource.RLIMIT_NOFILE, before)
+        resource.setrlimit(resource.RLIMIT_NOFILE, (max(map(int, os.listdir('/proc/self/fd'))) + 20, before[1]))
+        with mock.patch('sourcemap.release.MOST_MAPS', 9):
             found = self.symbolicate(1, 1, files)
-        self.assertEqual(found.source.tolist(), [f'{number % 9}.ts' for number in range(50)])
+        self.assertEqual(found.source.tolist(), [f'{number % 60}.ts' for number in range(130)])
 
 
 class AsOneAtATime(Folder):

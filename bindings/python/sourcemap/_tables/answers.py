@@ -7,7 +7,7 @@ import numpy as np
 import pandas as pd
 from numpy.typing import NDArray
 
-from ..release import Problem, Release
+from ..release import Compiled, Problem, Release
 from .columns import Codes, Texts, distinct, positions
 from .opened import Numbers, OpenedMap
 
@@ -102,7 +102,7 @@ class _Maps(NamedTuple):
 
     numbers: Codes
     status: NDArray[np.int8]
-    opened: List[OpenedMap]
+    compiled: List[Compiled]
     problems: Dict[str, str]
 
 
@@ -115,12 +115,12 @@ def answer(frames: pd.DataFrame, release: Release, base: int) -> Answers:
     answering = _Answering(len(frames), base)
     answering.status[have_positions] = maps.status[have_positions]
     numbers = np.where(have_positions, maps.numbers, -1)
-    order = np.argsort(numbers.astype(np.int16) if len(maps.opened) < 1 << 15 else numbers, kind='stable')
-    bounds = np.searchsorted(numbers[order], np.arange(len(maps.opened) + 1))
-    for map, first, end in zip(maps.opened, bounds, bounds[1:]):
+    order = np.argsort(numbers.astype(np.int16) if len(maps.compiled) < 1 << 15 else numbers, kind='stable')
+    bounds = np.searchsorted(numbers[order], np.arange(len(maps.compiled) + 1))
+    for compiled, first, end in zip(maps.compiled, bounds, bounds[1:]):
         if first < end:
             rows = order[first:end]
-            answering.ask(map, rows, lines[rows], columns[rows])
+            answering.ask(release.opened(compiled), rows, lines[rows], columns[rows])
     return answering.answers(maps.problems)
 
 
@@ -128,17 +128,17 @@ def _maps_of(frames: pd.DataFrame, release: Release) -> _Maps:
     codes, files, ids = _files_of(frames)
     numbers = np.full(len(files) + 1, -1, np.int64)
     status = np.full(len(files) + 1, NO_MAP, np.int8)
-    opened: Dict[int, Tuple[int, OpenedMap]] = {}
+    compiled: Dict[str, Tuple[int, Compiled]] = {}
     problems: Dict[str, str] = {}
     for code, (file, debug_id) in enumerate(zip(files, ids)):
-        found = release.opened(file, debug_id)
+        found = release.compiled(file, debug_id)
         if isinstance(found, Problem):
             status[code] = BAD_MAP if found.is_bad else NO_MAP
             if file or debug_id:
                 problems[file or debug_id] = found.why
         else:
-            numbers[code], _ = opened.setdefault(id(found), (len(opened), found))
-    return _Maps(numbers[codes], status[codes], [map for _, map in opened.values()], problems)
+            numbers[code], _ = compiled.setdefault(found.key, (len(compiled), found))
+    return _Maps(numbers[codes], status[codes], [each for _, each in compiled.values()], problems)
 
 
 def _files_of(frames: pd.DataFrame) -> Tuple[Codes, List[Any], List[Any]]:
