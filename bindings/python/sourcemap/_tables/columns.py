@@ -3,7 +3,7 @@ from __future__ import annotations
 
 import numbers
 import re
-from typing import Any, Hashable, List, NamedTuple, Tuple
+from typing import TYPE_CHECKING, Any, Hashable, List, NamedTuple, Tuple
 
 import numpy as np
 import pandas as pd
@@ -11,7 +11,10 @@ from numpy.typing import NDArray
 
 from .. import _library as library
 
-Codes = NDArray[np.int64]
+if TYPE_CHECKING:
+    from typing_extensions import TypeAlias
+
+Codes: TypeAlias = NDArray[np.int64]
 
 # What reading a CSV file takes for a number too. More digits are more than any position has.
 _WHOLE = re.compile(r'[ \t\n\v\f\r]*(?:-0+|\+?0*([0-9]{1,10}))[ \t\n\v\f\r]*')

@@ -3,7 +3,7 @@ from __future__ import annotations
 
 import mmap
 from pathlib import Path
-from typing import Any, List, NamedTuple, Optional, Tuple
+from typing import TYPE_CHECKING, Any, List, NamedTuple, Optional, Tuple
 
 import numpy as np
 import pandas as pd
@@ -11,6 +11,9 @@ from numpy.typing import NDArray
 
 from .. import _library as library
 from .._compiled import CompiledMap
+
+if TYPE_CHECKING:
+    from typing_extensions import TypeAlias
 
 # Of a longer source, name or scope only so many characters are kept. A map can name a source of any length, and each
 # row would repeat it.
@@ -24,9 +27,9 @@ _BUCKET_BITS = 26
 _CHUNK = 4 << 20
 _LINE_FEED, _RETURN = 10, 13
 
-Flags = NDArray[np.bool_]
-Numbers = NDArray[np.uint32]
-Places = NDArray[np.int64]
+Flags: TypeAlias = NDArray[np.bool_]
+Numbers: TypeAlias = NDArray[np.uint32]
+Places: TypeAlias = NDArray[np.int64]
 
 
 # An sm_found of the library.
@@ -34,7 +37,7 @@ FOUND = np.dtype({'names': ['generated_line', 'generated_column', 'line', 'colum
                   'formats': [np.uint32] * 6 + [np.bool_] * 2, 'offsets': range(0, 32, 4), 'itemsize': 32})
 
 # What was found at many positions, with lines and columns counted from 0.
-Found = NDArray[np.void]
+Found: TypeAlias = NDArray[np.void]
 
 
 class _Lines(NamedTuple):
