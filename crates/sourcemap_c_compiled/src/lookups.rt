@@ -94,12 +94,7 @@ pub fn put_scope<'a>(bytes: &'a [u8], line: u32, column: u32, text: &mut &'a [u8
     }
 }
 
-fn put_closest_scope<'a>(
-    map: &CompiledMap<'a>,
-    line: u32,
-    column: u32,
-    text: &mut &'a [u8],
-) -> u32
+fn put_closest_scope<'a>(map: &CompiledMap<'a>, line: u32, column: u32, text: &mut &'a [u8]) -> u32
     ensures { ReturnsScope (bytes_of map.now) (line, column) result text.old.now text.new.now }
 {
     match map.lookup_token(line, column) {

@@ -7,7 +7,7 @@ ghost use Rattle.sourcemap_cache.specs.Compile.{IsCompiled};
 ghost use Rattle.sourcemap_cache.specs.Meaning.{compiled, without_scope};
 ghost use Rattle.sourcemap_cache.specs.Soundness.{IsSound};
 ghost use Rattle.sourcemap_cache.specs.Stored.{meaning_of_token, token_value};
-ghost use Rattle.sourcemap_cache.specs.declared.WithContents.{WithContents};
+ghost use Rattle.sourcemap_cache.specs.declared.parts.WithContents.{WithContents};
 ghost use Rattle.sourcemap_uses.specs.Caching.{IsLineOf, IsOriginOf, origin_value};
 
 use sourcemap::DecodedMap;

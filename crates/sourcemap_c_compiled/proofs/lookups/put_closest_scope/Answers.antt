@@ -12,5 +12,5 @@ returns-in-Some c =
       token,
       one_found (bytes_of c.args.map.now) (c.args.line, c.args.column) c.in-Some.token found.value found.own found.next,
       text_returned (scope_said token) c.put_text.result c.args.text.now.now c.put_text.new.text.now c.get_scope.result
-      c.get_scope.ensures.text c.put_text.ensures,
+          c.get_scope.ensures.text c.put_text.ensures,
     )

@@ -1,5 +1,5 @@
 -- The file of a map is accepted and sound, so the lookup finds what the map means, and its texts are read without error.
-use Rattle.std.proofs.Common.{None, Some, refl}
+use Rattle.std.proofs.Common.{ℕ, None, Some, refl}
 use Rattle.sourcemap_cache.specs.Stored.{bytes_of, meaning_of_token, token_value}
 use Rattle.sourcemap_uses.proofs.CachingLemmas.{no_error, no_origin, of_file, one_origin, origin_found}
 use Rattle.sourcemap_uses.proofs.caching.origin_in.Goals as goal
@@ -21,7 +21,7 @@ pub returns-in_err-origin : goal.returns-in_err-origin
 returns-in_err-origin c = λ choice t is.
     let bytes = c.args.bytes.now in
     let read = bytes_of c.in_ok-map.map in
-    let p = (c.args.line, c.args.col) in
+    let p : ℕ × ℕ = (c.args.line, c.args.col) in
     let same = c.in_ok-map.ensures.map in
     let means = c.compiled_maps_mean_the_same.ensures choice t bytes is in
     let sound = c.compiled_maps_are_read.ensures.sound choice t bytes is in
@@ -36,7 +36,7 @@ pub returns : goal.returns
 returns c = λ choice t is.
     let bytes = c.args.bytes.now in
     let read = bytes_of c.in_ok-map.map in
-    let p = (c.args.line, c.args.col) in
+    let p : ℕ × ℕ = (c.args.line, c.args.col) in
     let same = c.in_ok-map.ensures.map in
     let means = c.compiled_maps_mean_the_same.ensures choice t bytes is in
     let sound = c.compiled_maps_are_read.ensures.sound choice t bytes is in

@@ -15,7 +15,7 @@ returns c = λ says same sound.
     (c.is_range.ensures ∙ ap (λ m. m.is_range) same)
 
 pub returns-in_err-source : goal.returns-in_err-source
-returns-in_err-source c = λ says same sound. absurd (never_fails _ (c.in_err-source.ensures.sound sound))
+returns-in_err-source c = λ says same sound. absurd (never_fails (c.in_err-source.ensures.sound sound))
 
 pub returns-in_err-name : goal.returns-in_err-name
-returns-in_err-name c = λ says same sound. absurd (never_fails _ (c.in_err-name.ensures.sound sound))
+returns-in_err-name c = λ says same sound. absurd (never_fails (c.in_err-name.ensures.sound sound))
