@@ -1,4 +1,4 @@
-"""The package as a program: `python -m sourcemap lookup|tokens|stack|page`."""
+"""The package as a program: `python -m sourcemap lookup|tokens|stack|page|batch`."""
 from __future__ import annotations
 
 import argparse
@@ -6,7 +6,7 @@ import os
 import sys
 from typing import List, Optional
 
-from . import Map, SourceMapError, page, stack
+from . import Map, SourceMapError, batch, page, stack
 from ._generated import reason_of
 
 
@@ -52,6 +52,10 @@ def parser() -> argparse.ArgumentParser:
     word = words.add_parser('page', help='write an HTML page that shows generated text and sources side by side')
     page.add_arguments(word)
     word.set_defaults(run=page.run)
+
+    word = words.add_parser('batch', help='add the original position to each row of a table of frames')
+    batch.add_arguments(word)
+    word.set_defaults(run=batch.run)
     return program
 
 
@@ -69,7 +73,7 @@ def main(words: Optional[List[str]] = None) -> int:
         # the reader closed the pipe: what is still buffered goes to /dev/null at exit
         os.dup2(os.open(os.devnull, os.O_WRONLY), sys.stdout.fileno())
         return 1
-    except (OSError, ValueError, MemoryError, SourceMapError) as error:
+    except (OSError, ValueError, MemoryError, ImportError, SourceMapError) as error:
         print(f'sourcemap: {reason_of(error)}', file=sys.stderr)
         return 1
 

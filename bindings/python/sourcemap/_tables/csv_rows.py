@@ -1,0 +1,157 @@
+"""Rows of CSV files: read by pandas, written by joining texts.
+
+A text is put into quotes once, however many rows have it; so a row costs a few copies of pointers, and none of its
+fields a call of Python.
+"""
+from __future__ import annotations
+
+import io
+import re
+import warnings
+from typing import Any, BinaryIO, Dict, List, NamedTuple, Sequence, Tuple
+
+import numpy as np
+import pandas as pd
+from numpy.typing import NDArray
+
+from ..release import Release
+from .answers import STATUSES, Answers, answer
+from .columns import Codes, Texts, distinct
+from .pieces import SPECIAL, quoted
+
+BLOCK = 8192
+_SMALL = 1 << 16
+_NUMBER = re.compile(r'[ \t\n\v\f\r]*[+-]?[0-9]{1,25}[ \t\n\v\f\r]*')
+_LARGEST = (1 << 63) - 1
+
+
+class _Cells(NamedTuple):
+    """A column that is ready to be written: for each row the number of its bytes, with the comma or newline that
+    follows. Number -1 is the last one."""
+
+    codes: Codes
+    rendered: NDArray[np.object_]
+
+
+def answer_rows(data: bytes, names: Sequence[str], release: Release, base: int, file: BinaryIO) -> Answers:
+    """Answers rows of CSV, and writes them with the answers."""
+    table = _read(data, names)
+    used = [name for name in ('file', 'line', 'column', 'debug_id') if name in names]
+    frames = pd.DataFrame({name: table[names.index(name)] for name in used})
+    answers = answer(frames, release, base)
+    columns = [_of_input(table[place], names[place] in ('line', 'column')) for place in range(len(names))]
+    status = Texts(answers.status.astype(np.int64), list(STATUSES))
+    _write(file, [*columns, answers.source, _Numbers(answers.source_line, True), _Numbers(answers.source_column, True),
+                  answers.name, answers.scope, _Quoted(answers.context_line), status], len(table))
+    return answers
+
+
+class _Numbers(NamedTuple):
+    """A column of numbers. In columns that are `added`, -1 is none."""
+
+    numbers: Codes
+    added: bool
+
+
+class _Quoted(NamedTuple):
+    """A column of texts that are all put into quotes, as most need them. So a line that is empty differs from none."""
+
+    texts: Texts
+
+
+def _read(data: bytes, names: Sequence[str]) -> pd.DataFrame:
+    """The rows of CSV, with numbers for names. Lines and columns are int64 if all rows of the piece have numbers of that
+    type, else texts. All else are texts, also the empty ones."""
+    types = {place: {'file': 'category', 'debug_id': 'category'}.get(name, str) for place, name in enumerate(names)}
+    numbers = [place for place, name in enumerate(names) if name in ('line', 'column')]
+    if not data.strip():
+        return pd.DataFrame({place: pd.Series(dtype=object) for place in types})
+    # pandas tries int64 first. What it takes for floats or truth values is read as texts
+    table = _parse(data, len(names), {place: kind for place, kind in types.items() if place not in numbers})
+    if all(table[place].dtype in (np.int64, object) for place in numbers):
+        return table
+    return _parse(data, len(names), types)
+
+
+def _parse(data: bytes, count: int, types: Dict[int, Any]) -> pd.DataFrame:
+    """Raises `ValueError` if a row has more fields than there are columns. A shorter one has empty texts."""
+    with warnings.catch_warnings():
+        # of a first row that is too long there is only a warning
+        warnings.simplefilter('error', pd.errors.ParserWarning)
+        try:
+            return pd.read_csv(io.BytesIO(data), header=None, names=range(count), dtype=types, na_filter=False,
+                               index_col=False, encoding_errors='surrogateescape', low_memory=False, engine='c')
+        except pd.errors.ParserWarning:
+            raise ValueError(f'the first of them has more than {count} fields') from None
+
+
+def _of_input(column: pd.Series, has_numbers: bool) -> Any:
+    if column.dtype == np.int64:
+        return _Numbers(column.to_numpy(), False)
+    codes, texts = distinct(column)
+    return Texts(codes, [_plain(text) for text in texts] if has_numbers else texts)
+
+
+def _plain(text: str) -> str:
+    """A number as it is written if all rows of its piece have numbers; any other text as it is."""
+    if text.isdigit() and text.isascii() and text[0] != '0' and len(text) < 19:
+        return text
+    if _NUMBER.fullmatch(text) is None or not -_LARGEST <= int(text) <= _LARGEST:
+        return text
+    return str(int(text))
+
+
+def _write(file: BinaryIO, columns: List[Any], count: int) -> None:
+    ends = [b','] * (len(columns) - 1) + [b'\n']
+    cells = [_cells(column, end) for column, end in zip(columns, ends)]
+    block = np.empty((BLOCK, len(cells)), object)
+    for first in range(0, count, BLOCK):
+        rows = block[:min(BLOCK, count - first)]
+        for place, (codes, rendered) in enumerate(cells):
+            rows[:, place] = rendered[codes[first:first + BLOCK]]
+        file.write(b''.join(rows.ravel().tolist()))
+
+
+def _cells(column: Any, end: bytes) -> _Cells:
+    if isinstance(column, _Numbers):
+        return _number_cells(column, end)
+    if isinstance(column, _Quoted):
+        return _text_cells(column.texts, end, True)
+    return _text_cells(column, end, False)
+
+
+def _objects(items: Sequence[bytes]) -> NDArray[np.object_]:
+    array = np.empty(len(items), object)
+    array[:] = items
+    return array
+
+
+def _text_cells(column: Texts, end: bytes, in_quotes: bool) -> _Cells:
+    texts = column.texts
+    joined = '\0'.join(texts)
+    if texts and joined.count('\0') == len(texts) - 1 and (in_quotes or SPECIAL.search(joined) is None):
+        # all at once; the zero character divides them again
+        start, stop = ('"', '"' + end.decode()) if in_quotes else ('', end.decode())
+        whole = joined.replace('"', '""').replace('\0', f'{stop}\0{start}')
+        rendered = f'{start}{whole}{stop}'.encode('utf-8', 'surrogateescape').split(b'\0')
+    else:
+        rendered = [quoted(text, in_quotes).encode('utf-8', 'surrogateescape') + end for text in texts]
+    return _Cells(column.codes, _objects([*rendered, end]))
+
+
+_small_numbers: Dict[bytes, NDArray[np.object_]] = {}
+
+
+def _number_cells(column: _Numbers, end: bytes) -> _Cells:
+    numbers, added = column
+    least, most = _ends(numbers)
+    if least >= (-1 if added else 0) and most < _SMALL:
+        if end not in _small_numbers:
+            _small_numbers[end] = _objects([*(b'%d%s' % (number, end) for number in range(_SMALL)), end])
+        return _Cells(numbers, _small_numbers[end])
+    codes, used = pd.factorize(numbers)
+    return _Cells(codes, _objects([end if added and number < 0 else b'%d%s' % (number, end) for number in used.tolist()]))
+
+
+def _ends(numbers: Codes) -> Tuple[int, int]:
+    return (int(numbers.min()), int(numbers.max())) if len(numbers) else (0, 0)

@@ -1,0 +1,252 @@
+"""Tables of pandas: what `batch.symbolicate` adds to rows, and the same in a Dask table."""
+
+from __future__ import annotations
+
+import doctest
+import os
+import re
+import resource
+import subprocess
+import sys
+import unittest
+from typing import Any, List
+from unittest import mock
+
+try:
+    import numpy as np
+    import pandas as pd
+except ImportError:
+    raise unittest.SkipTest('pandas and numpy are not installed') from None
+
+import sourcemap
+from sourcemap import batch
+
+from . import builds
+from .builds import ID, WRONG, Reference
+from .maps import HERMES, README, index, regular, section
+from .test_program import ENVIRONMENT, FOLDER
+from .test_release import Folder
+
+MISSING = [None, pd.NA, pd.NA, None, None, None]
+
+
+def added(frame: pd.DataFrame) -> List[List[Any]]:
+    return [[None if value is None else value for value in row] for row in frame[list(batch.COLUMNS)].values.tolist()]
+
+
+class Tables(Folder):
+    def setUp(self) -> None:
+        super().setUp()
+        self.put('app.js.map', README)
+
+    def symbolicate(self, lines: Any, columns: Any, files: Any = 'app.js', zero_based: bool = False, **more: Any) -> pd.DataFrame:
+        frames = pd.DataFrame({'file': files, 'line': lines, 'column': columns, **more})
+        return batch.symbolicate(frames, self.release(), zero_based=zero_based)
+
+
+class Rows(Tables):
+    def test_readme_map(self) -> None:
+        found = self.symbolicate([1, 1, 1, 2, 1], [6, 1, 19, 1, 6], ['app.js', 'x/app.js', 'app.js', 'app.js', 'none.js'])
+        self.assertEqual(found.columns.tolist(), ['file', 'line', 'column', *batch.COLUMNS])
+        self.assertEqual(repr(added(found)), repr([
+            ['coolstuff.js', 1, 5, 'x', None, None, 'found'],
+            ['coolstuff.js', 1, 1, None, None, None, 'found'],
+            ['coolstuff.js', 3, 3, 'alert', None, None, 'found'],
+            [*MISSING, 'no token'],  # the map has nothing on the second line
+            [*MISSING, 'no map']]))
+        self.assertEqual(found.dtypes.astype(str).tolist(),
+                         ['object', 'int64', 'int64', 'object', 'Int64', 'Int64', 'object', 'object', 'object', 'object'])
+
+    def test_zero_based(self) -> None:
+        found = self.symbolicate([0, 0, -1], [5, 18, 0], zero_based=True)
+        self.assertEqual(added(found)[:2], [['coolstuff.js', 0, 4, 'x', None, None, 'found'],
+                                            ['coolstuff.js', 2, 2, 'alert', None, None, 'found']])
+        self.assertEqual(found.status[2], 'bad position')
+
+    def test_the_table_stays_as_it_is(self) -> None:
+        frames = pd.DataFrame({'event': ['b', 'a'], 'file': ['app.js'] * 2, 'line': [1, 1], 'column': [6, 19]}, index=[7, 3])
+        before = frames.copy()
+        found = batch.symbolicate(frames, self.release())
+        pd.testing.assert_frame_equal(frames, before)
+        pd.testing.assert_frame_equal(found[before.columns.tolist()], before)
+        self.assertEqual(found.name.to_dict(), {7: 'x', 3: 'alert'})
+
+    def test_bad_positions(self) -> None:
+        values = [*WRONG, None, float('nan'), float('inf'), -1, 0, 2**32 + 1, 10**30, 1.5, [1], {}, 'é', '１', True, 1, 1.0,
+                  '1', '01', np.int8(1), pd.NA]
+        good = [False] * (len(values) - 7) + [True] * 6 + [False]
+        for lines, columns in (values, 1), (1, values):
+            found = self.symbolicate(pd.Series(lines, dtype=object) if lines is values else 1,
+                                     pd.Series(columns, dtype=object) if columns is values else 1, ['app.js'] * len(values))
+            self.assertEqual((found.status == 'found').tolist(), good)
+            self.assertEqual((found.status == 'bad position').tolist(), [not each for each in good])
+
+    def test_types_of_columns(self) -> None:
+        for kind in ('int8', 'uint16', 'int64', 'uint64', 'float32', 'float64', 'object', 'str', 'category', 'Int64', 'string',
+                     'UInt32'):
+            with self.subTest(kind):
+                found = self.symbolicate(pd.Series([1, 1, 0]).astype(kind), pd.Series([6, 19, 1]).astype(kind),
+                                         pd.Series(['app.js'] * 3).astype('category' if kind == 'category' else 'object'))
+                self.assertEqual(found.name.tolist(), ['x', 'alert', None])
+                self.assertEqual(found.status.tolist(), ['found', 'found', 'bad position'])
+
+    def test_ends_of_the_range(self) -> None:
+        self.put('range.js.map', regular('AAAO', rangeMappings='B'))
+        found = self.symbolicate([2**32, 1, 2**32 + 1], [2**32, 2**32, 1], 'range.js')
+        self.assertEqual(found.status.tolist(), ['found', 'found', 'bad position'])
+        self.assertEqual(found.source_column.tolist()[:2], [8, 2**32])
+
+    def test_files_that_are_none(self) -> None:
+        files = ['app.js', None, float('nan'), 3, ['app.js'], '', pd.NA, 'app.js']
+        found = self.symbolicate(1, 6, pd.Series(files, dtype=object))
+        self.assertEqual(found.status.tolist(), ['found', *['no map'] * 6, 'found'])
+
+    def test_debug_ids(self) -> None:
+        self.put_map('1.map', 'one.js', debugId=ID)
+        ids = [ID, ID.upper(), None, 'x', '', 5, float('nan')]
+        found = self.symbolicate(1, 1, 'app.js', debug_id=pd.Series(ids, dtype=object))
+        self.assertEqual(found.source.tolist(), ['one.js'] * 2 + ['coolstuff.js'] * 5)
+        found = self.symbolicate(1, 1, pd.Series([None] * 2, dtype=object), debug_id=[ID, None])
+        self.assertEqual(found.status.tolist(), ['found', 'no map'])
+
+    def test_scopes(self) -> None:
+        self.put('main.jsbundle.map', HERMES)
+        found = self.symbolicate(1, [1, 8, 6, 5], 'main.jsbundle')
+        self.assertEqual(found.scope.tolist(), ['<global>', 'foo', 'foo', '<global>'])
+
+    def test_tokens_at_one_position(self) -> None:
+        """A position on both finds the first one, a position behind them the last one; each has its own function."""
+        self.put('main.jsbundle.map', regular('AAAA,AACK', x_facebook_sources=[[{'names': ['<global>', 'foo'],
+                                                                               'mappings': 'AAA,KCC'}]]))
+        found = self.symbolicate(1, [1, 2, 1, 3], 'main.jsbundle')
+        self.assertEqual(found.source_line.tolist(), [1, 2, 1, 2])
+        self.assertEqual(found.scope.tolist(), ['<global>', 'foo', '<global>', 'foo'])
+
+    def test_tokens_without_a_source_or_on_another_line(self) -> None:
+        self.put('app.js.map', regular('AAAA,IAAI,E;;A', ['a.js']))
+        found = self.symbolicate([1, 1, 1, 2, 3], [1, 5, 7, 1, 1])
+        self.assertEqual(found.status.tolist(), ['found', 'found', 'no token', 'no token', 'no token'])
+
+    def test_contexts(self) -> None:
+        text = 'one\r\ntwo\rthree\n' + 'x' * 300 + '\n' + '\N{GRINNING FACE}' * 150
+        self.put('app.js.map', regular('AAAA,CACA,CACA,CACA,CAAgJ,CACA,CACA', sourcesContent=[text]))
+        found = self.symbolicate(1, [1, 2, 3, 4, 5, 6, 7])
+        smile = '\N{GRINNING FACE}'
+        # column 144 of the long line, whose units from 50 on are kept; column 144 is also one of the wide line
+        self.assertEqual(found.context_line.tolist(), ['one', 'two', 'three', 'x' * 200, 'x' * 200, smile * 100, None])
+        self.assertEqual(found.source_column.tolist(), [1, 1, 1, 1, 145, 145, 145])
+
+    def test_long_texts_are_cut(self) -> None:
+        self.put('app.js.map', regular('AAAAA', ['s' * 5000], names=['n' * 5000]))
+        found = self.symbolicate([1], [1])
+        self.assertEqual((found.source[0], found.name[0]), ('s' * 4096, 'n' * 4096))
+
+    def test_bad_maps(self) -> None:
+        self.put('cut.js.map', README[:50])
+        self.put('flat.js.map', index(section(0, 0, regular('AAAA')), {'offset': {'line': 1, 'column': 0}, 'url': 'x'}))
+        hostile = {'version': 3, 'sourceRoot': 'r' * 128_000, 'sources': [''] * 10_600, 'names': [], 'mappings': 'AAAA'}
+        self.put('hostile.js.map', regular(**{key: value for key, value in hostile.items() if key != 'version'}))
+        found = self.symbolicate(1, 6, ['app.js', 'cut.js', 'flat.js', 'hostile.js', 'none.js', 'app.js'])
+        self.assertEqual(found.status.tolist(), ['found', 'bad map', 'bad map', 'bad map', 'no map', 'found'])
+
+    def test_empty_tables(self) -> None:
+        found = self.symbolicate(pd.Series([], dtype='int64'), pd.Series([], dtype=object), pd.Series([], dtype=object))
+        self.assertEqual((len(found), found.columns.tolist()), (0, ['file', 'line', 'column', *batch.COLUMNS]))
+
+    def test_names_of_columns(self) -> None:
+        release = self.release()
+        for names, message in [(['file', 'line'], "no columns 'column'"), (['line', 'column'], "no columns 'file'"),
+                               (['file', 'line', 'line', 'column'], "2 columns 'line'"),
+                               (['file', 'line', 'column', 'status'], "a column 'status' already")]:
+            with self.assertRaisesRegex(ValueError, message):
+                batch.symbolicate(pd.DataFrame([[1] * len(names)], columns=names), release)
+
+    def test_more_maps_than_are_kept_open(self) -> None:
+        """Nor has the process more files open."""
+        for number in range(60):
+            self.put_map(f'{number}.js.map', f'{number}.ts')
+        files = [f'{number % 60}.js' for number in range(130)]
+        before = resource.getrlimit(resource.RLIMIT_NOFILE)
+        self.addCleanup(resource.setrlimit, resource.RLIMIT_NOFILE, before)
+        resource.setrlimit(resource.RLIMIT_NOFILE, (max(map(int, os.listdir('/proc/self/fd'))) + 20, before[1]))
+        with mock.patch('sourcemap.release.MOST_MAPS', 9):
+            found = self.symbolicate(1, 1, files)
+        self.assertEqual(found.source.tolist(), [f'{number % 60}.ts' for number in range(130)])
+
+
+class AsOneAtATime(Folder):
+    def test_all_kinds_of_maps(self) -> None:
+        """The rows of the table, and those of its parts in any order, are what `Map.lookup` says."""
+        built = builds.write(self.root)
+        rows = list(builds.rows(built, 20_000))
+        reference = Reference(built)
+        wanted = [[field or '' for field in reference.answer(row)] for row in rows]
+        self.assertGreater(min(sum(row[6] == status for row in wanted) for status in ('found', 'no token', 'bad position')), 100)
+        frames = pd.DataFrame(rows, columns=['file', 'debug_id', 'line', 'column'])
+        release = self.release()
+        whole = batch.symbolicate(frames, release)
+        self.assertEqual(whole[list(batch.COLUMNS)].astype(object).fillna('').astype(str).values.tolist(), wanted)
+        parts = [batch.symbolicate(frames[first:first + 999], release) for first in range(0, len(frames), 999)]
+        pd.testing.assert_frame_equal(pd.concat(parts[::-1]).sort_index(), whole)
+
+    def test_in_dask(self) -> None:
+        try:
+            from dask.dataframe import from_pandas
+        except ImportError:
+            self.skipTest('dask is not installed')
+        built = builds.write(self.root)
+        frames = pd.DataFrame(builds.rows(built, 3000), columns=['file', 'debug_id', 'line', 'column'])
+        release = self.release()
+        lazy = sourcemap.dask.symbolicate(from_pandas(frames, npartitions=5), release)
+        expected = batch.symbolicate(frames, release)
+        self.assertEqual(lazy.dtypes.tolist(), expected.dtypes.tolist())
+        for scheduler in 'synchronous', 'threads':
+            pd.testing.assert_frame_equal(lazy.compute(scheduler=scheduler), expected)
+
+
+class Page(Tables):
+    """The examples of BATCH.md."""
+
+    def test_examples(self) -> None:
+        page = (FOLDER / 'BATCH.md').read_text('utf-8')
+        self.put('static/app.js', '//# sourceMappingURL=../app.js.map')
+        frames = pd.DataFrame({'file': ['static/app.js'] * 2000 + ['none.js'] * 500, 'line': 1, 'column': 1})
+        frames.to_csv(self.top / 'frames.csv', index=False)
+        self.addCleanup(os.chdir, os.getcwd())
+        os.chdir(self.top)
+        self.assertEqual(doctest.DocTestRunner().run(doctest.DocTestParser().get_doctest(page, {}, 'BATCH.md', None, 0)), (0, 3))
+        code, printed = re.findall(r'```python\n(.*?)```\n\nprints `(.*?)`', page, flags=re.DOTALL)[0]
+        run = subprocess.run([sys.executable, '-c', code], env={**ENVIRONMENT, 'PYTHONPATH': str(FOLDER)},
+                             capture_output=True, text=True)
+        self.assertEqual((run.stdout, run.stderr), (f'{printed}\n', ''))
+
+
+class Needed(unittest.TestCase):
+    """Packages that are not there."""
+
+    def run_without(self, missing: str, code: str) -> str:
+        block = f'import sys; sys.modules[{missing!r}] = None; import sourcemap; '
+        return subprocess.run([sys.executable, '-c', block + code], cwd=FOLDER, env=ENVIRONMENT, text=True,
+                              stderr=subprocess.PIPE).stderr
+
+    def test_named(self) -> None:
+        for missing, code in [('pandas', 'sourcemap.batch.symbolicate(None, None)'),
+                              ('numpy', 'sourcemap.batch.symbolicate(None, None)'),
+                              ('dask', 'sourcemap.dask.symbolicate(None, None)')]:
+            error = self.run_without(missing, code)
+            self.assertRegex(error, f'ImportError: {missing} is needed and cannot be imported .*Debian has it as python3-{missing}')
+
+    def test_imports_are_lazy(self) -> None:
+        code = 'sys.exit([name for name in ("numpy", "pandas", "dask", "distributed", "tqdm") if name in sys.modules])'
+        self.assertEqual(self.run_without('nothing', code).strip(), '[]')
+
+    def test_program(self) -> None:
+        block = 'import sys; sys.modules["pandas"] = None; from sourcemap.__main__ import main; sys.exit(main(sys.argv[1:]))'
+        run = subprocess.run([sys.executable, '-c', block, 'batch', 'a.csv', '--release', '.'], cwd=FOLDER, env=ENVIRONMENT,
+                             capture_output=True, text=True)
+        self.assertEqual((run.returncode, run.stdout), (1, ''))
+        self.assertIn('sourcemap: pandas is needed', run.stderr)
+
+
+if __name__ == '__main__':
+    unittest.main()

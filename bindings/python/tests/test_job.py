@@ -1,0 +1,518 @@
+"""`python -m sourcemap batch`: tables in files, with processes that die, disks that fill, and maps that are broken."""
+
+from __future__ import annotations
+
+import contextlib
+import csv
+import glob
+import gzip
+import io
+import json
+import os
+import pty
+import random
+import re
+import resource
+import select
+import signal
+import subprocess
+import sys
+import time
+import unittest
+from importlib.util import find_spec
+from pathlib import Path
+from typing import Any, Callable, Dict, Iterator, List, Literal, Optional, Sequence, Set, Tuple
+from unittest import mock
+
+try:
+    import pandas  # noqa: F401
+except ImportError:
+    raise unittest.SkipTest('pandas and numpy are not installed') from None
+
+from sourcemap import batch
+from sourcemap._tables import pieces
+from sourcemap._tables.pieces import Table
+
+from . import builds
+from .builds import Reference, Row
+from .maps import README, regular
+from .test_program import ENVIRONMENT, FOLDER
+from .test_release import Folder
+
+HEAD = ['file', 'debug_id', 'line', 'column']
+COUNTS = re.compile(r'(\d+) rows: (\d+) found, (\d+) no map, (\d+) no token, (\d+) bad position, (\d+) bad map; '
+                    r'\d+ frames a second')
+needs_distributed = unittest.skipUnless(find_spec('distributed'), 'distributed is not installed')
+
+
+def csv_of(rows: Sequence[Sequence[Optional[str]]], quoting: Literal[0, 1] = csv.QUOTE_MINIMAL) -> bytes:
+    text = io.StringIO()
+    csv.writer(text, lineterminator='\n', quoting=quoting).writerows(rows)
+    return text.getvalue().encode()
+
+
+def answered(rows: Sequence[Row], answers: Sequence[Sequence[Optional[str]]]) -> bytes:
+    """The table with the answers. All lines of sources are in quotes."""
+    text = io.StringIO()
+    writer = csv.writer(text, lineterminator='\n')
+    writer.writerow([*HEAD, *batch.COLUMNS])
+    for row, (*answer, context, status) in zip(rows, answers):
+        writer.writerow([*row, *answer])
+        text.seek(text.tell() - 1)
+        in_quotes = '' if context is None else '"' + context.replace('"', '""') + '"'
+        text.write(f',{in_quotes},{status}\n')
+    return text.getvalue().encode()
+
+
+class Jobs(Folder):
+    """A table, a release, and the program."""
+
+    def words(self, frames: Path, *more: object) -> List[str]:
+        return [sys.executable, '-m', 'sourcemap', 'batch', str(frames), '--release', str(self.root), '--cache',
+                str(self.top / 'cache'), *map(str, more)]
+
+    def run_job(self, frames: Path, *more: object, **keys: Any) -> 'subprocess.CompletedProcess[str]':
+        return subprocess.run(self.words(frames, *more), cwd=FOLDER, env=ENVIRONMENT, capture_output=True, text=True, **keys)
+
+    def output_of(self, frames: Path, *more: object, out: str = 'out.csv', **keys: Any) -> bytes:
+        """What the program writes."""
+        path = self.top / out
+        run = self.run_job(frames, '-o', path, *more, **keys)
+        self.assertEqual((run.returncode, run.stdout), (0, ''), run.stderr)
+        self.assertIsNotNone(COUNTS.fullmatch(run.stderr.splitlines()[-1]), run.stderr)
+        self.assertEqual(self.leftovers(), [])
+        return path.read_bytes()
+
+    def leftovers(self) -> List[str]:
+        return glob.glob(str(self.top / '.batch.*'))
+
+    def table(self, name: str, rows: Sequence[Sequence[str]]) -> Path:
+        return builds.put(self.top, name, csv_of(rows))
+
+
+class SameAnswers(Jobs):
+    def build(self, count: int) -> Tuple[List[Row], List[List[Optional[str]]]]:
+        built = builds.write(self.root)
+        rows = list(builds.rows(built, count))
+        reference = Reference(built)
+        return rows, [reference.answer(row) for row in rows]
+
+    @needs_distributed
+    def test_200_000_frames_in_four_ways(self) -> None:
+        """One at a time by `Map.lookup`; by one worker; by four; by a cluster with four workers at an address."""
+        from distributed import LocalCluster
+
+        rows, answers = self.build(200_000)
+        wanted = answered(rows, answers)
+        frames = self.table('frames.csv', [HEAD, *rows])
+        self.assertEqual(self.output_of(frames, '--workers', 1), wanted)
+        self.assertEqual(self.output_of(frames, '--workers', 1, '--partition', 300_001), wanted)
+        self.assertEqual(self.output_of(frames, '--workers', 4, '--partition', 500_000), wanted)
+        with mock.patch.dict(os.environ, ENVIRONMENT), LocalCluster(
+                n_workers=4, threads_per_worker=1, processes=True, dashboard_address=None,
+                local_directory=str(self.top)) as cluster:
+            self.assertEqual(self.output_of(frames, '--dask', cluster.scheduler_address, '--partition', 500_000), wanted)
+
+    def test_formats(self) -> None:
+        rows, answers = self.build(3000)
+        frames = self.table('frames.csv', [HEAD, *rows])
+        wanted = answered(rows, answers)
+        zipped = builds.put(self.top, 'frames.csv.gz', gzip.compress(frames.read_bytes()))
+        self.assertEqual(self.output_of(zipped, '--workers', 1, '--partition', 20_000), wanted)
+        first = self.output_of(frames, '--workers', 1, '--partition', 20_000, out='out.csv.gz')
+        self.assertEqual(gzip.decompress(first), wanted)
+        self.assertEqual(self.output_of(zipped, '--workers', 1, '--partition', 20_000, out='out.csv.gz'), first)
+        printed = subprocess.run(self.words(frames, '--workers', 1), cwd=FOLDER, env=ENVIRONMENT, capture_output=True)
+        self.assertEqual(printed.stdout, wanted)
+
+    def test_json_lines(self) -> None:
+        rows, answers = self.build(3000)
+        records = [{'more': [number, {'x': None}], **dict(zip(HEAD, row))} for number, row in enumerate(rows)]
+        for record in records[::2]:
+            for name in 'line', 'column':
+                if str(record[name]).isdigit():
+                    record[name] = int(str(record[name]))
+        text = '\n'.join(map(json.dumps, records)) + '\n \n'
+        types: Dict[str, Callable[[str], object]] = {'source_line': int, 'source_column': int}
+        wanted = [{**record, **{name: None if text is None else types.get(name, str)(text)
+                                for name, text in zip(batch.COLUMNS, answer)}} for record, answer in zip(records, answers)]
+        for name, data in ('f.jsonl', text.encode()), ('f.ndjson.gz', gzip.compress(text.encode())):
+            frames = builds.put(self.top, name, data)
+            found = self.output_of(frames, '--workers', 1, '--partition', 10_000, out='out.jsonl')
+            self.assertEqual([json.loads(line) for line in found.splitlines()], wanted)
+            self.assertEqual(gzip.decompress(self.output_of(frames, '--workers', 1, out='out.ndjson.gz')), found)
+
+    def test_zero_based(self) -> None:
+        self.put('app.js.map', README)
+        frames = self.table('f.csv', [['line', 'file', 'column'], ['0', 'app.js', '5'], ['-0', 'app.js', '18'],
+                                      ['-1', 'app.js', '0']])
+        self.assertEqual(self.output_of(frames, '--zero-based').decode().splitlines()[1:],
+                         ['0,app.js,5,coolstuff.js,0,4,x,,,found', '0,app.js,18,coolstuff.js,2,2,alert,,,found',
+                          '-1,app.js,0,,,,,,,bad position'])
+
+
+class Texts(Jobs):
+    """Which rows a CSV file has, and what is kept of them."""
+
+    def setUp(self) -> None:
+        super().setUp()
+        self.put('app.js.map', README)
+
+    def symbolicated(self, text: str, *more: object) -> List[List[str]]:
+        frames = builds.put(self.top, 'f.csv', text.encode('utf-8', 'surrogateescape'))
+        found = self.output_of(frames, '--workers', 1, *more).decode('utf-8', 'surrogateescape')
+        return list(csv.reader(io.StringIO(found, newline='')))
+
+    def test_rows_of_bad_positions_wherever_the_file_is_cut(self) -> None:
+        rows = [['id', 'file', 'line', 'column', 'note']]
+        drawn = random.Random(3)
+        notes = ['', 'plain', 'a,b', 'two\nlines', '"', '""', ',"', '",\n"', 'x"y', '\r\n', ' ', '\N{SNOWMAN}', "'", 'NA', 'null', '1e5']
+        for number in range(300):
+            position = ['1', '6']
+            if drawn.random() < 0.4:
+                position[drawn.randrange(2)] = drawn.choice(builds.WRONG)
+            rows.append([str(number), 'app.js', *position, drawn.choice(notes)])
+        text = csv_of(rows).decode()
+        wanted = [[*rows[0], *batch.COLUMNS]]
+        for row in rows[1:]:
+            good = row[2:4] == ['1', '6']
+            wanted.append(row + (['coolstuff.js', '1', '5', 'x', '', '', 'found'] if good else [''] * 6 + ['bad position']))
+        for size in 1, 7, 64, 1000, 4001, 8_000_000:
+            self.assertEqual(self.symbolicated(text, '--partition', size), wanted, size)
+        self.assertEqual(self.symbolicated(text[:-1]), wanted)
+        # fields that have newlines keep them; those that end rows may be pairs
+        self.assertEqual(self.symbolicated(csv_of(rows[:1]).decode().replace('\n', '\r\n') + text[text.index('\n') + 1:],
+                                           '--partition', 100), wanted)
+
+    def test_stray_quotes(self) -> None:
+        """A quote within a field that does not begin with one is a letter, as pandas has it."""
+        text = 'file,line,column,x\napp.js,1,6,5" disk\napp.js,1,6,"a"b\napp.js,1"2",6,"q\n"\napp.js,1,6,z\n'
+        for size in 1, 20, 10_000:
+            found = self.symbolicated(text, '--partition', size)
+            self.assertEqual([(row[3], row[-1]) for row in found[1:]],
+                             [('5" disk', 'found'), ('ab', 'found'), ('q\n', 'bad position'), ('z', 'found')])
+
+    def test_numbers(self) -> None:
+        """They are written alike whether all rows of a piece have numbers or not."""
+        rows = ['1', '007', '+6', ' 6', '6 ', '-0', '-7', '4294967296', '4294967297', '9223372036854775807', '9223372036854775808']
+        plain = ['1', '7', '6', '6', '6', '0', '-7', '4294967296', '4294967297', '9223372036854775807', '9223372036854775808']
+        for more in [], ['x']:
+            for size in 1, 10_000:
+                found = self.symbolicated('file,line,column\n' + ''.join(f'app.js,1,{row}\n' for row in rows + more),
+                                          '--partition', size)
+                self.assertEqual([row[2] for row in found[1:]], plain + more)
+                self.assertEqual([row[-1] for row in found[1:]],
+                                 ['found'] * 5 + ['bad position'] * 2 + ['found'] + ['bad position'] * (3 + len(more)))
+
+    def test_other_columns(self) -> None:
+        text = '\ufefffile,"a ""b"",c",line,column,x,x\napp.js,,1,6,NaN,\udcff\n\n   \napp.js,"",1,19,\N{SNOWMAN},1\n'
+        self.assertEqual(self.symbolicated(text), [
+            ['file', 'a "b",c', 'line', 'column', 'x', 'x', *batch.COLUMNS],
+            ['app.js', '', '1', '6', 'NaN', '\udcff', 'coolstuff.js', '1', '5', 'x', '', '', 'found'],
+            ['app.js', '', '1', '19', '\N{SNOWMAN}', '1', 'coolstuff.js', '3', '3', 'alert', '', '', 'found']])
+
+    def test_no_rows(self) -> None:
+        for text in 'file,line,column', 'file,line,column\n', 'file,line,column\n\n\n':
+            self.assertEqual(self.symbolicated(text), [['file', 'line', 'column', *batch.COLUMNS]])
+
+    def test_short_rows(self) -> None:
+        found = self.symbolicated('file,line,column\napp.js\napp.js,1\napp.js,1,6\n')
+        self.assertEqual([row[-1] for row in found[1:]], ['bad position'] * 2 + ['found'])
+
+
+class Pieces(Folder):
+    def cut(self, text: str, size: int, name: str = 'f.csv') -> List[bytes]:
+        with Table(self.put(name, text), size, self.top) as table:
+            return [piece.read() for piece in table.pieces()]
+
+    def test_random_rows(self) -> None:
+        """Each piece has whole rows: read by itself, it gives those of the whole."""
+        drawn = random.Random(7)
+        for _ in range(300):
+            letters, quoting = drawn.choice([('a",\n', csv.QUOTE_MINIMAL), ('a",\n\r', csv.QUOTE_ALL)])
+            rows = [[''.join(drawn.choices(letters, k=drawn.randrange(5))) for _ in range(3)] for _ in range(12)]
+            text = csv_of([['x', 'y', 'z'], *rows], quoting).decode()
+            found = self.cut(text, drawn.randrange(1, 60))
+            self.assertEqual(b''.join(found).decode(), text.partition('\n')[2])
+            self.assertEqual([row for piece in found for row in csv.reader(io.StringIO(piece.decode(), newline=''))], rows)
+
+    def test_names(self) -> None:
+        for text, names in [('a,b\n', ('a', 'b')), ('\ufeff"a\n""b""",c', ('a\n"b"', 'c')), ('a\r\n1\r\n', ('a',))]:
+            with Table(self.put('f.csv', text), 3, self.top) as table:
+                self.assertEqual(table.names, names)
+        for text in '', '\n', '\ufeff\n1,2\n':
+            with self.assertRaisesRegex(ValueError, 'has no row with the names of columns'):
+                Table(self.put('f.csv', text), 3, self.top)
+
+    def test_rows_that_are_too_long(self) -> None:
+        with mock.patch.object(pieces, 'LONGEST_ROW', 100):
+            with self.assertRaisesRegex(ValueError, 'has a row of more than 100 bytes after byte 2'):
+                self.cut('a\n' + 'x' * 200, 10)
+            with self.assertRaisesRegex(ValueError, 'row of more than 100 bytes'):
+                self.cut('{}\n' + 'x' * 200, 10, 'f.jsonl')
+
+
+class Errors(Jobs):
+    """An error, and no table. The one that was there stays."""
+
+    def check(self, frames: Path, message: str, *more: object, out: str = 'out.csv', **keys: Any) -> None:
+        old = builds.put(self.top, out, b'old')
+        run = self.run_job(frames, '-o', old, *more, **keys)
+        self.assertEqual((run.returncode, run.stdout), (1, ''), run.stderr)
+        self.assertRegex(run.stderr.splitlines()[-1], f'sourcemap: .*{message}')
+        self.assertEqual((old.read_bytes(), self.leftovers()), (b'old', []))
+
+    def test_files(self) -> None:
+        frames = self.table('f.csv', [['file', 'line', 'column'], ['app.js', '1', '6']])
+        self.check(self.top / 'none.csv', 'none.csv: No such file or directory')
+        self.check(builds.put(self.top, 'f.txt', b''), 'a table ends in .csv, .jsonl, .ndjson, or')
+        self.check(frames, 'is to have the format of', out='out.jsonl')
+        self.check(frames, 'out.txt: a table ends in', out='out.txt')
+        self.check(frames, 'none: Not a directory', '--release', self.top / 'none')
+        run = self.run_job(frames, '-o', self.top)
+        self.assertEqual((run.returncode, run.stderr), (1, f'sourcemap: {self.top}: Is a directory\n'))
+        run = self.run_job(frames, '-o', self.top / 'none' / 'out.csv')
+        self.assertEqual((run.returncode, run.stdout), (1, ''))
+
+    def test_texts(self) -> None:
+        for text, message in [
+                ('', 'no row with the names'), ('file,line\n', "no columns 'column'"), ('file,line,column,name\n', "'name' already"),
+                ('file,line,column\na,1,2\na,1,2,3,4\n', 'in the rows after byte 17: .*Expected 3 fields in line 2, saw 5'),
+                ('file,line,column\na,1,2,3,4\na,1,2\n', 'in the rows after byte 17: the first of them has more than 3 fields'),
+                ('file,line,column\na,1,"2\n', 'in the rows after byte 17: .*EOF inside string')]:
+            self.check(builds.put(self.top, 'f.csv', text.encode()), message)
+        for text, message in [('{}\n{"a":\n', r'in the rows after byte 0: a line is no JSON: b\'{"a":\''),
+                              ('{"file":"a"} {}\n', 'a line is no JSON'), ('[1]\n', r"a line is no JSON object: b'\[1\]'"),
+                              ('{"status":1}', "a line has 'status' already"), ('{"a":"\udcff"}', 'a line is no JSON')]:
+            self.check(builds.put(self.top, 'f.jsonl', text.encode('utf-8', 'surrogateescape')), message, out='out.jsonl')
+        zipped = gzip.compress(b'file,line,column\n' * 1000)
+        self.check(builds.put(self.top, 'f.csv.gz', zipped[:-9]), '')
+        self.check(builds.put(self.top, 'f.csv.gz', b'file,line,column\n'), 'Not a gzipped file')
+
+    def test_arguments(self) -> None:
+        for more in ['--workers', 0], ['--workers', 1, '--dask', 'tcp://127.0.0.1:1'], ['--partition', 'x']:
+            run = self.run_job(self.top / 'f.csv', *more)
+            self.assertEqual((run.returncode, run.stdout), (2, ''))
+
+    def test_full_disk(self) -> None:
+        """No file may have more than 100 kB: the pieces of the table, in each worker, or the table."""
+        built = builds.write(self.root)
+        frames = self.table('f.csv', [HEAD, *builds.rows(built, 20_000)])
+        self.output_of(frames, '--workers', 1)
+
+        def limit() -> None:
+            resource.setrlimit(resource.RLIMIT_FSIZE, (100_000, 100_000))
+
+        self.check(frames, 'File too large', '--workers', 1, preexec_fn=limit)
+        self.check(frames, 'File too large', '--workers', 1, '--partition', 10_000, preexec_fn=limit)
+        if find_spec('distributed'):
+            self.check(frames, 'File too large', '--workers', 2, '--partition', 200_000, preexec_fn=limit)
+
+    def test_full_device(self) -> None:
+        self.put('app.js.map', README)
+        frames = self.table('f.csv', [['file', 'line', 'column'], *[['app.js', '1', '6']] * 1000])
+        run = self.run_job(frames, '-o', '/dev/full', '--workers', 1)
+        self.assertEqual((run.returncode, run.stderr), (1, 'sourcemap: [Errno 28] No space left on device\n'))
+
+    @unittest.skipUnless(os.geteuid() == 0, 'only root mounts a small disk')
+    def test_small_disk(self) -> None:
+        built = builds.write(self.root)
+        disk = self.top / 'disk'
+        disk.mkdir()
+        mounted = subprocess.run(['mount', '-t', 'tmpfs', '-o', 'size=400k', 'none', disk], capture_output=True)
+        if mounted.returncode:
+            self.skipTest('nothing can be mounted here')
+        self.addCleanup(subprocess.run, ['umount', disk], check=True)
+        frames = self.table('f.csv', [HEAD, *builds.rows(built, 20_000)])
+        self.check(frames, 'No space left on device', '--workers', 1, '--partition', 50_000, out='disk/out.csv')
+        self.assertEqual(os.listdir(disk), ['out.csv'])
+        # the cache: nothing is left that another run would find
+        small = self.top / 'small'
+        small.mkdir()
+        subprocess.run(['mount', '-t', 'tmpfs', '-o', 'size=64k', 'none', small], check=True)
+        self.addCleanup(subprocess.run, ['umount', small], check=True)
+        self.check(frames, 'No space left on device', '--workers', 1, '--cache', small / 'cache')
+        self.assertEqual([path for path in small.glob('cache/*/.*')], [])
+
+    def test_nobody_reads(self) -> None:
+        built = builds.write(self.root)
+        frames = self.table('f.csv', [HEAD, *builds.rows(built, 20_000)])
+        program = subprocess.Popen(self.words(frames, '--workers', 1), stdout=subprocess.PIPE, stderr=subprocess.PIPE,
+                                   cwd=FOLDER, env=ENVIRONMENT)
+        assert program.stdout is not None and program.stderr is not None
+        program.stdout.readline()
+        program.stdout.close()
+        self.assertEqual((program.stderr.read(), program.wait()), (b'', 1))
+        program.stderr.close()
+
+
+class BadMaps(Jobs):
+    def test_their_rows_say_so(self) -> None:
+        built = builds.write(self.root)
+        hostile = {'version': 3, 'sourceRoot': 'r' * 128_000, 'sources': [''] * 10_600, 'names': [], 'mappings': 'AAAA'}
+        self.put('static/cut.js.map', README[:50])
+        self.put('static/hostile.js.map', json.dumps(hostile, separators=(',', ':')))
+        self.put('client/both.js.map', regular('AAAA'))
+        self.put('server/both.js.map', regular('AAAC'))
+        bad = {'/static/cut.js': 'bad map', '/static/hostile.js': 'bad map', '/both.js': 'no map', '/static/none.js': 'no map'}
+        reference = Reference(built)
+        rows = list(builds.rows(built, 500))
+        answers = [reference.answer(row) for row in rows]
+        for place, (file, status) in enumerate(list(bad.items()) * 3):
+            rows.insert(place * 9, (file, '', '1', '1'))
+            answers.insert(place * 9, [*builds.MISSING, status])
+        frames = self.table('f.csv', [HEAD, *rows])
+        run = self.run_job(frames, '--workers', 1)
+        self.assertEqual(run.stdout.encode(), answered(rows, answers))
+        lines = run.stderr.splitlines()
+        self.assertIn(f'sourcemap: /static/cut.js: {self.root}/static/cut.js.map: bad json: the text is not JSON', lines)
+        self.assertIn(f'sourcemap: /static/hostile.js: {self.root}/static/hostile.js.map takes more memory than a map of its '
+                      'size may take', lines)
+        self.assertIn('sourcemap: /both.js: it is ambiguous, since these fit equally well: client/both.js.map, '
+                      'server/both.js.map', lines)
+        found = COUNTS.fullmatch(lines[-1])
+        assert found is not None
+        names = ('found', 'no map', 'no token', 'bad position', 'bad map')
+        self.assertEqual([int(each) for each in found.groups()],
+                         [len(rows), *(sum(answer[6] == name for answer in answers) for name in names)])
+
+
+class Bar(Jobs):
+    def test_only_on_a_terminal(self) -> None:
+        if find_spec('tqdm') is None:
+            self.skipTest('tqdm is not installed')
+        self.put('app.js.map', README)
+        frames = self.table('f.csv', [['file', 'line', 'column'], ['app.js', '1', '6']])
+        main, terminal = pty.openpty()
+        program = subprocess.Popen(self.words(frames, '-o', self.top / 'out.csv'), stderr=terminal, cwd=FOLDER, env=ENVIRONMENT)
+        os.close(terminal)
+        shown = b''
+        with contextlib.suppress(OSError):  # the end of a terminal that nobody has open any more
+            while select.select([main], [], [], 60)[0]:
+                shown += os.read(main, 1000)
+        os.close(main)
+        self.assertEqual(program.wait(), 0)
+        self.assertIn(b'100%', shown)
+        self.assertIn(b'1 rows: 1 found', shown)
+
+
+def descendants(pid: int) -> Set[int]:
+    """The processes that a process started, and those that these started."""
+    found: Set[int] = set()
+    waiting = [pid]
+    while waiting:
+        with contextlib.suppress(OSError):
+            for children in glob.glob(f'/proc/{waiting.pop()}/task/*/children'):
+                new = {int(each) for each in Path(children).read_text().split()} - found
+                found |= new
+                waiting.extend(new)
+    return found
+
+
+def fields_of(pid: int) -> List[str]:
+    """The fields of /proc/PID/stat from the state on; none if the process has ended."""
+    with contextlib.suppress(OSError):
+        fields = Path(f'/proc/{pid}/stat').read_text().rpartition(')')[2].split()
+        return [] if fields[0] == 'Z' else fields
+    return []
+
+
+def is_forked(pid: int) -> bool:
+    with contextlib.suppress(OSError):
+        return b'forkserver' in Path(f'/proc/{pid}/cmdline').read_bytes()
+    return False
+
+
+def workers_of(pid: int) -> List[int]:
+    """The worker processes of a program: they are forked by another one, which is forked for that."""
+    found = [(each, fields_of(each)) for each in descendants(pid)]
+    return [each for each, fields in found if fields and is_forked(each) and is_forked(int(fields[1]))]
+
+
+@needs_distributed
+@unittest.skipUnless(sys.platform == 'linux', 'processes are found in /proc')
+class Processes(Jobs):
+    """Workers that are killed, and a program that is interrupted."""
+
+    def setUp(self) -> None:
+        super().setUp()
+        self.built = builds.write(self.root)
+        self.frames = self.table('f.csv', [HEAD, *builds.rows(self.built, 60_000)])
+        self.out = self.top / 'out.csv'
+
+    @contextlib.contextmanager
+    def started(self, *more: object) -> Iterator['subprocess.Popen[str]']:
+        words = self.words(self.frames, '-o', self.out, '--partition', 8000, *more)
+        program = subprocess.Popen(words, cwd=FOLDER, env=ENVIRONMENT, stderr=subprocess.PIPE, text=True,
+                                   start_new_session=True)
+        try:
+            yield program
+        finally:
+            if program.poll() is None:
+                os.killpg(program.pid, signal.SIGKILL)
+            program.communicate()
+
+    def wait_for(self, program: 'subprocess.Popen[str]', size: int) -> bool:
+        """Waits until so many bytes of the table are written. Returns false if the program ended before."""
+        while program.poll() is None:
+            whole = [os.path.getsize(path) for path in glob.glob(str(self.top / '.batch.*' / 'whole')) if os.path.exists(path)]
+            if whole and whole[0] >= size:
+                return True
+            time.sleep(0.005)
+        return False
+
+    def test_killed_workers(self) -> None:
+        """Workers are killed three times, one after another: the same bytes as without."""
+        wanted = self.output_of(self.frames, '--workers', 1)
+        drawn = random.Random()
+        self.out.unlink()
+        with self.started('--workers', 4) as program:
+            killed = []
+            for part in 0.05, 0.25, 0.45:
+                self.assertTrue(self.wait_for(program, int(part * len(wanted))), 'the table was written too early')
+                killed.append(drawn.choice(workers_of(program.pid)))
+                os.kill(killed[-1], signal.SIGKILL)
+            _, errors = program.communicate(timeout=120)
+        self.assertEqual((program.returncode, len(set(killed))), (0, 3), errors)
+        self.assertEqual(self.out.read_bytes(), wanted)
+        self.assertEqual(self.leftovers(), [])
+
+    def check_interrupted(self, stop: Callable[[int], None], *more: object) -> None:
+        old = builds.put(self.top, 'out.csv', b'old')
+        with self.started(*more) as program:
+            self.assertTrue(self.wait_for(program, 100_000))
+            workers = workers_of(program.pid)
+            self.assertEqual(len(workers), 0 if more[-1] == 1 else more[-1])
+            stop(program.pid)
+            _, errors = program.communicate(timeout=60)
+        self.assertEqual((program.returncode, errors.splitlines()[-1:]),
+                         (130, ['sourcemap: interrupted, and no table was written']), errors)
+        self.assertEqual((old.read_bytes(), self.leftovers()), (b'old', []))
+        self.check_ended(workers)
+
+    def check_ended(self, workers: List[int]) -> None:
+        end = time.monotonic() + 20
+        while any(map(fields_of, workers)):
+            self.assertLess(time.monotonic(), end, 'a worker is still there')
+            time.sleep(0.05)
+
+    def test_interrupted(self) -> None:
+        """By Ctrl-C in a terminal, which all processes get; by a signal to the program alone."""
+        self.check_interrupted(lambda pid: os.killpg(pid, signal.SIGINT), '--workers', 2)
+        self.check_interrupted(lambda pid: os.kill(pid, signal.SIGTERM), '--workers', 2)
+        self.check_interrupted(lambda pid: os.kill(pid, signal.SIGINT), '--workers', 1)
+
+    def test_killed(self) -> None:
+        """A program that is killed leaves no table, and its workers end."""
+        old = builds.put(self.top, 'out.csv', b'old')
+        with self.started('--workers', 2) as program:
+            self.assertTrue(self.wait_for(program, 100_000))
+            workers = workers_of(program.pid)
+            program.kill()
+            program.wait()
+            self.check_ended(workers)
+        self.assertEqual(old.read_bytes(), b'old')
+
+
+if __name__ == '__main__':
+    unittest.main()
