@@ -4,11 +4,31 @@ use sourcemap_test_support::checks::{Checked, check};
 
 // Name, map, codes.
 static MAPS: [(&str, &str, &str); 28] = [
-    ("a header", ")]}'\n{\"version\":3,\"sources\":[],\"mappings\":\"\"}", "SM101"),
-    ("a byte order mark", "\u{feff}{\"version\":3,\"sources\":[],\"mappings\":\"\"}", "SM101"),
-    ("3 with a fraction", r#"{"version":3.0,"sources":[],"mappings":""}"#, ""),
-    ("3 with an exponent", r#"{"version":30e-1,"sources":[],"mappings":""}"#, ""),
-    ("the last of two keys", r#"{"version":2,"version":3,"sources":[],"mappings":""}"#, ""),
+    (
+        "a header",
+        ")]}'\n{\"version\":3,\"sources\":[],\"mappings\":\"\"}",
+        "SM101",
+    ),
+    (
+        "a byte order mark",
+        "\u{feff}{\"version\":3,\"sources\":[],\"mappings\":\"\"}",
+        "SM101",
+    ),
+    (
+        "3 with a fraction",
+        r#"{"version":3.0,"sources":[],"mappings":""}"#,
+        "",
+    ),
+    (
+        "3 with an exponent",
+        r#"{"version":30e-1,"sources":[],"mappings":""}"#,
+        "",
+    ),
+    (
+        "the last of two keys",
+        r#"{"version":2,"version":3,"sources":[],"mappings":""}"#,
+        "",
+    ),
     (
         "the last of two keys is wrong",
         r#"{"version":3,"version":2,"sources":[],"mappings":""}"#,
@@ -19,7 +39,11 @@ static MAPS: [(&str, &str, &str); 28] = [
         r#"{"version":3,"sources":[],"mappings":"","x_a":{"sections":[{}]},"sectionz":3}"#,
         "",
     ),
-    ("null in sources", r#"{"version":3,"sources":[null],"mappings":"AAAA"}"#, ""),
+    (
+        "null in sources",
+        r#"{"version":3,"sources":[null],"mappings":"AAAA"}"#,
+        "",
+    ),
     (
         "objects in lists",
         r#"{"version":3,"sources":[{"a":1}],"names":[["n"]],"ignoreList":[{}],"mappings":""}"#,
@@ -35,13 +59,41 @@ static MAPS: [(&str, &str, &str); 28] = [
         r#"{"version":3,"sources":"a","ignoreList":[0],"mappings":"AAAA"}"#,
         "SM109 SM114 SM140",
     ),
-    ("a zero of many digits", r#"{"version":3,"sources":[],"mappings":"gggggggggggggggggA"}"#, ""),
-    ("the greatest number", r#"{"version":3,"sources":[],"mappings":"+/////D"}"#, ""),
-    ("the least number", r#"{"version":3,"sources":[],"mappings":"B"}"#, "SM135"),
-    ("an empty segment", r#"{"version":3,"sources":[],"mappings":"A,;"}"#, "SM133"),
-    ("empty lines", r#"{"version":3,"sources":[],"mappings":";;A;"}"#, ""),
-    ("columns begin anew", r#"{"version":3,"sources":[],"mappings":"C;D"}"#, "SM135"),
-    ("a column that goes back", r#"{"version":3,"sources":[],"mappings":"E,D"}"#, ""),
+    (
+        "a zero of many digits",
+        r#"{"version":3,"sources":[],"mappings":"gggggggggggggggggA"}"#,
+        "",
+    ),
+    (
+        "the greatest number",
+        r#"{"version":3,"sources":[],"mappings":"+/////D"}"#,
+        "",
+    ),
+    (
+        "the least number",
+        r#"{"version":3,"sources":[],"mappings":"B"}"#,
+        "SM135",
+    ),
+    (
+        "an empty segment",
+        r#"{"version":3,"sources":[],"mappings":"A,;"}"#,
+        "SM133",
+    ),
+    (
+        "empty lines",
+        r#"{"version":3,"sources":[],"mappings":";;A;"}"#,
+        "",
+    ),
+    (
+        "columns begin anew",
+        r#"{"version":3,"sources":[],"mappings":"C;D"}"#,
+        "SM135",
+    ),
+    (
+        "a column that goes back",
+        r#"{"version":3,"sources":[],"mappings":"E,D"}"#,
+        "",
+    ),
     (
         "sources do not begin anew",
         r#"{"version":3,"sources":["a","b"],"mappings":"AAAA;ACAA"}"#,

@@ -1,4 +1,4 @@
-//! Tests of checks: the codes of maps, and where findings are.
+//! Tests of checks: the codes of maps, where findings are, and tokens that look wrong.
 #![tactic(auto)]
 
 #[cfg(test)]
@@ -7,6 +7,8 @@ mod edges;
 mod places;
 #[cfg(test)]
 mod rules;
+#[cfg(test)]
+mod texts;
 
 use sourcemap_check::check::{Options, check};
 use sourcemap_errors::errors::Result;

@@ -10,7 +10,8 @@ use std::alloc::Global;
 
 // The first map is an index map with a source that is past its list, on line 2 of its section. The
 // second starts within it, and has no version.
-static NESTED: &str = r#"{"version":3,"sections":[{"offset":{"line":0,"column":0},"map":{"version":3,"sections":[{"offset":{"line":0,"column":0},"map":{"version":3,"sources":[],"mappings":"A;;A,AAAA"}}]}},{"offset":{"line":1,"column":0},"map":{"sources":[],"mappings":""}}]}"#;
+static NESTED: &str =
+    r#"{"version":3,"sections":[{"offset":{"line":0,"column":0},"map":{"version":3,"sections":[{"offset":{"line":0,"column":0},"map":{"version":3,"sources":[],"mappings":"A;;A,AAAA"}}]}},{"offset":{"line":1,"column":0},"map":{"sources":[],"mappings":""}}]}"#;
 
 fn places_text(alloc: Global, maps: &[MapPlace]) -> Result<String> {
     let mut text = String::new(alloc);
@@ -53,7 +54,9 @@ fn findings_are_bounded(rt: HostRuntime) -> Checked {
     let checked = check_map(alloc, map.as_bytes(), Options { most: 2 })?;
     let findings = findings_text(alloc, checked.report.findings.as_slice());
     check("two of three are kept", findings, "30@0 0:1 30@0 1:0 ")?;
-    let count = checked.report.count(Rule::Segment(SegmentRule::ForeignByte));
+    let count = checked
+        .report
+        .count(Rule::Segment(SegmentRule::ForeignByte));
     check_that("three are counted", count == 3)
 }
 
