@@ -1,2 +1,4 @@
+pub mod ExactLemmas
+pub mod KeptLemmas
 pub mod LoopLemmas
 pub mod TreeLemmas

@@ -2,7 +2,7 @@
 use Rattle.std.proofs.Common.{◌≡◌, ℕ, ◌+◌, ◌<◌, Bool, true, false, cond, List, [], ◌∷◌, ◌++◌, map, take, length, get_or}
 use Rattle.std.proofs.Common.{sym, ◌∙◌, ap, refl, subst, append_assoc, arith, Option, Some, None}
 use Rattle.std.specs.Prelude.{filter}
-use Rattle.std.proofs.lemmas.List.{append-nil, map-append}
+use Rattle.std.proofs.lemmas.List.{append-nil, map-append, length_push}
 use Rattle.std.proofs.lemmas.List.Elements.{filter_more}
 use Rattle.serde_json.specs.Data.{Data}
 use Rattle.sourcemap_check_report.specs.declared.report.Finding.{Finding}
@@ -11,11 +11,13 @@ use Rattle.sourcemap_check_report.specs.Report.{Reports}
 use Rattle.sourcemap_check_segments.specs.declared.last.Position.{Position}
 use Rattle.sourcemap_check.specs.declared.sections.Previous.{Previous}
 use Rattle.sourcemap_check.specs.declared.tree.Checked.{Checked}
+use Rattle.sourcemap_check.specs.declared.tree.MapPlace.{MapPlace}
 use Rattle.sourcemap_check.specs.Trees.{Tree, tree, Sections, no_sections, with_section, tree_of}
 use Rattle.sourcemap_check.specs.Positions.{start_of, moved_by, later_of, last_of, last_in, text_last}
-use Rattle.sourcemap_check.specs.Findings.{section_findings, sections_findings, tree_findings, none_before, map_count}
-use Rattle.sourcemap_check.specs.Findings.{section_count, key_findings, text_findings}
-use Rattle.sourcemap_check.specs.Steps.{ChecksTree, ChecksInner, ChecksSections}
+use Rattle.sourcemap_check.specs.Maps.{map_count, section_count}
+use Rattle.sourcemap_check.specs.Findings.{section_findings, sections_findings, tree_findings, none_before}
+use Rattle.sourcemap_check.specs.Findings.{key_findings, text_findings}
+use Rattle.sourcemap_check.specs.Steps.{ChecksTree, ChecksInner, ChecksSections, places, places_below}
 
 -- Rules one after another.
 
@@ -61,13 +63,15 @@ pub record SectionsSoFar (most : ℕ) (all : List Finding) (own : ℕ) (old : Ch
   pub reports : Reports most found checked.report
   pub rest : found ++ sections_findings own index previous (length checked.maps.items) left
       ≡ all ++ sections_findings own 0 none_before (length old.maps.items) ss
+  pub places_are : checked.maps.items ++ places_below own index (length checked.maps.items) left
+      ≡ old.maps.items ++ places_below own 0 (length old.maps.items) ss
   pub counted : length checked.maps.items + section_count left ≡ length old.maps.items + section_count ss
   pub last_is : last_in last left ≡ last_in None ss
 
 pub SectionsSoFar-none : (most : ℕ) (all : List Finding) (own : ℕ) (old : Checked) (ss : Sections)
     → Reports most all old.report → SectionsSoFar most all own old ss 0 none_before ss old None
 SectionsSoFar-none most all own old ss reports =
-    record { found = all; reports = reports; rest = refl; counted = refl; last_is = refl }
+    record { found = all; reports = reports; rest = refl; places_are = refl; counted = refl; last_is = refl }
 
 pub SectionsSoFar-all : (most : ℕ) (all : List Finding) (own : ℕ) (old : Checked) (ss : Sections) (index : ℕ)
     (previous : Previous) (checked : Checked) (last : Option Position)
@@ -75,6 +79,7 @@ pub SectionsSoFar-all : (most : ℕ) (all : List Finding) (own : ℕ) (old : Che
     → ChecksSections most all own old checked ss last
 SectionsSoFar-all most all own old ss index previous checked last so_far = record {
   reports = subst (λ fs. Reports most fs checked.report) (sym (append-nil so_far.found) ∙ so_far.rest) so_far.reports;
+  places_are = sym (append-nil checked.maps.items) ∙ so_far.places_are;
   counted = let e = so_far.counted in omega (arith, e);
   last_is = so_far.last_is;
 }
@@ -95,16 +100,19 @@ pub SectionsSoFar-more : (most : ℕ) (all : List Finding) (own : ℕ) (old : Ch
     (last inner : Option Position)
     → (so_far : SectionsSoFar most all own old ss index previous (with_section s o left) checked last)
     → mid.maps.items ≡ checked.maps.items
-    → ChecksInner most (so_far.found ++ section_findings own index previous s) mid next o inner
+    → ChecksInner most (so_far.found ++ section_findings own index previous s) mid next
+    (record { map = own; section = index }) o inner
     → SectionsSoFar most all own old ss (index + 1)
     (record { start = start_of s; last = moved_by (start_of s) inner }) left next
     (later_of last (moved_by (start_of s) inner))
 SectionsSoFar-more most all own old ss index previous s None left checked mid next last inner so_far same checks =
     let end : moved_by (start_of s) inner ≡ None = ap (moved_by (start_of s)) checks.last_is ∙ moved_by-none (start_of s) in
-    let count : length next.maps.items ≡ length checked.maps.items = checks.counted ∙ ap length same in
+    let kept : next.maps.items ≡ checked.maps.items = checks.places_are ∙ same in
+    let count : length next.maps.items ≡ length checked.maps.items = ap length kept in
     record {
       found = so_far.found ++ section_findings own index previous s;
       reports = checks.reports;
+      places_are = ap (λ ms. ms ++ places_below own (index + 1) (length ms) left) kept ∙ so_far.places_are;
       rest = ap (λ n. (so_far.found ++ section_findings own index previous s)
           ++ sections_findings own (index + 1) (record { start = start_of s; last = moved_by (start_of s) inner }) n left) count
           ∙ (ap (λ e. (so_far.found ++ section_findings own index previous s)
@@ -120,7 +128,14 @@ SectionsSoFar-more most all own old ss index previous s (Some t) left checked mi
     let mid_is : length mid.maps.items ≡ length checked.maps.items = ap length same in
     let count : length next.maps.items ≡ length checked.maps.items + map_count t =
     checks.counted ∙ ap (λ k. k + map_count t) mid_is in
+    let there : MapPlace = record { map = own; section = index } in
+    let added : next.maps.items ≡ checked.maps.items ++ places (length checked.maps.items) there t =
+    checks.places_are ∙ ap (λ ms. ms ++ places (length ms) there t) same in
     record {
+      places_are = ap (λ k. next.maps.items ++ places_below own (index + 1) k left) count
+          ∙ (ap (λ ms. ms ++ places_below own (index + 1) (length checked.maps.items + map_count t) left) added
+          ∙ (append_assoc checked.maps.items (places (length checked.maps.items) there t)
+          (places_below own (index + 1) (length checked.maps.items + map_count t) left) ∙ so_far.places_are));
       found = (so_far.found ++ section_findings own index previous s) ++ tree_findings (length checked.maps.items) t;
       reports = subst (λ k. Reports most ((so_far.found ++ section_findings own index previous s) ++ tree_findings k t)
           next.report) mid_is checks.reports;
@@ -144,36 +159,45 @@ pub sections_none : (most : ℕ) (all : List Finding) (own : ℕ) (mid : Checked
     → ChecksSections most all own mid mid no_sections None
 sections_none most all own mid reports = record {
   reports = Reports-none most all mid.report reports;
+  places_are = sym (append-nil mid.maps.items);
   counted = omega arith;
   last_is = refl;
 }
 
-tree_of_parts : (most : ℕ) (all : List Finding) (d : Data) (own : ℕ) (old mid new : Checked) (ss : Sections)
-    (last : Option Position) → own ≡ length old.maps.items → length mid.maps.items ≡ length old.maps.items + 1
+tree_of_parts : (most : ℕ) (all : List Finding) (d : Data) (own : ℕ) (old mid new : Checked) (place : MapPlace)
+    (ss : Sections) (last : Option Position) → own ≡ length old.maps.items
+    → mid.maps.items ≡ old.maps.items ++ place ∷ []
     → ChecksSections most ((all ++ key_findings own d) ++ text_findings own d) own mid new ss last
-    → ChecksTree most all old new (tree d ss) (later_of last (text_last d))
-tree_of_parts most all d own old mid new ss last own_is pushed checks =
+    → ChecksTree most all old new place (tree d ss) (later_of last (text_last d))
+tree_of_parts most all d own old mid new place ss last own_is pushed checks =
+    let one_more : length mid.maps.items ≡ length old.maps.items + 1 =
+    ap length pushed ∙ length_push old.maps.items place in
     let P : ℕ → ℕ → Type 0 = λ k next. Reports most (((all ++ key_findings k d) ++ text_findings k d)
     ++ sections_findings k 0 none_before next ss) new.report in
     let at_own : P (length old.maps.items) (length mid.maps.items) =
     subst (λ k. P k (length mid.maps.items)) own_is checks.reports in
     let at_next : P (length old.maps.items) (length old.maps.items + 1) =
-    subst (λ next. P (length old.maps.items) next) pushed at_own in
+    subst (λ next. P (length old.maps.items) next) one_more at_own in
     record {
       reports = subst (λ fs. Reports most fs new.report)
           (ap (λ fs. fs ++ sections_findings (length old.maps.items) 0 none_before (length old.maps.items + 1) ss)
           (append_assoc all (key_findings (length old.maps.items) d) (text_findings (length old.maps.items) d))
           ∙ append_assoc all (key_findings (length old.maps.items) d ++ text_findings (length old.maps.items) d)
           (sections_findings (length old.maps.items) 0 none_before (length old.maps.items + 1) ss)) at_next;
-      counted = let e = checks.counted in omega (arith, e, pushed);
+      places_are = checks.places_are
+          ∙ (ap (λ ms. ms ++ places_below own 0 (length mid.maps.items) ss) pushed
+          ∙ (append_assoc old.maps.items (place ∷ []) (places_below own 0 (length mid.maps.items) ss)
+          ∙ (ap (λ k. old.maps.items ++ place ∷ places_below k 0 (length mid.maps.items) ss) own_is
+          ∙ ap (λ k. old.maps.items ++ place ∷ places_below (length old.maps.items) 0 k ss) one_more)));
+      counted = let e = checks.counted in omega (arith, e, one_more);
       last_is = ap (λ l. later_of l (text_last d)) checks.last_is;
     }
 
-pub tree_checked : (most : ℕ) (all : List Finding) (d : Data) (own : ℕ) (old mid new : Checked) (ss : Sections)
-    (last : Option Position) → own ≡ length old.maps.items → length mid.maps.items ≡ length old.maps.items + 1
-    → tree_of d ≡ tree d ss
+pub tree_checked : (most : ℕ) (all : List Finding) (d : Data) (own : ℕ) (old mid new : Checked) (place : MapPlace)
+    (ss : Sections) (last : Option Position) → own ≡ length old.maps.items
+    → mid.maps.items ≡ old.maps.items ++ place ∷ [] → tree_of d ≡ tree d ss
     → ChecksSections most ((all ++ key_findings own d) ++ text_findings own d) own mid new ss last
-    → ChecksTree most all old new (tree_of d) (later_of last (text_last d))
-tree_checked most all d own old mid new ss last own_is pushed is checks =
-    subst (λ t. ChecksTree most all old new t (later_of last (text_last d))) (sym is)
-    (tree_of_parts most all d own old mid new ss last own_is pushed checks)
+    → ChecksTree most all old new place (tree_of d) (later_of last (text_last d))
+tree_checked most all d own old mid new place ss last own_is pushed is checks =
+    subst (λ t. ChecksTree most all old new place t (later_of last (text_last d))) (sym is)
+    (tree_of_parts most all d own old mid new place ss last own_is pushed checks)

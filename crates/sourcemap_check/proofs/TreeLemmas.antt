@@ -17,7 +17,7 @@ use Rattle.sourcemap_check.specs.Trees.{inner_of, inner_in, map_tree, with_secti
 
 -- The sections of a map.
 
-abbrev sections_at : Option Data → Sections
+abbrev pub sections_at : Option Data → Sections
 sections_at None = no_sections
 sections_at (Some d) = sections_of d
 
@@ -27,7 +27,7 @@ sections_found Less r d rest e = e
 sections_found Equal r d rest e = refl
 sections_found Greater r d rest e = e
 
-sections_in-get : (ms : Members) → sections_in ms ≡ sections_at (get_member (codes "sections") ms)
+pub sections_in-get : (ms : Members) → sections_in ms ≡ sections_at (get_member (codes "sections") ms)
 sections_in-get no_members = refl
 sections_in-get (member k d ms) =
     sections_found (slice_cmp nat_cmp (codes "sections") k) (get_member (codes "sections") ms) d (sections_in ms)
@@ -60,7 +60,7 @@ tree_of-list (object ms) =
 
 -- The map in a section.
 
-abbrev inner_at : Option Data → Option Tree
+abbrev pub inner_at : Option Data → Option Tree
 inner_at None = None
 inner_at (Some d) = map_tree d
 
@@ -70,7 +70,7 @@ inner_found Less r d rest e = e
 inner_found Equal r d rest e = refl
 inner_found Greater r d rest e = e
 
-inner_in-get : (ms : Members) → inner_in ms ≡ inner_at (get_member (codes "map") ms)
+pub inner_in-get : (ms : Members) → inner_in ms ≡ inner_at (get_member (codes "map") ms)
 inner_in-get no_members = refl
 inner_in-get (member k d ms) =
     inner_found (slice_cmp nat_cmp (codes "map") k) (get_member (codes "map") ms) d (inner_in ms) (inner_in-get ms)

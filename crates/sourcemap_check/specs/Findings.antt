@@ -1,5 +1,5 @@
--- All findings of a map, in the order in which they are reported. A map is numbered before the maps in its sections.
-use Rattle.std.specs.Prelude.{ℕ, suc, ◌+◌, ◌&&◌, ◌||◌, Bool, not, false, List, [], ◌∷◌, ◌++◌, map, filter, codes}
+-- All findings of a map, in the order in which they are reported.
+use Rattle.std.specs.Prelude.{ℕ, ◌+◌, ◌&&◌, ◌||◌, Bool, not, false, List, [], ◌∷◌, ◌++◌, map, filter, codes}
 use Rattle.std.specs.Prelude.{Option, Some}
 use Rattle.std.specs.Prelude.{None, option_and_then, if◌then◌else◌}
 use Rattle.std.specs.Option.{option_map_or}
@@ -15,8 +15,10 @@ use Rattle.sourcemap_check_keys.specs.Values.{count_at}
 use Rattle.sourcemap_check_segments.specs.declared.last.Position.{Position}
 use Rattle.sourcemap_check.specs.declared.sections.Previous.{Previous}
 use Rattle.sourcemap_check_segments.specs.Findings.{findings_of}
+use Rattle.sourcemap_check_segments.specs.Rules.{Counts}
 use Rattle.sourcemap_check.specs.Trees.{Tree, tree, Sections, no_sections, bare, mapped}
 use Rattle.sourcemap_check.specs.Positions.{is_before, start_of, last_of, moved_by}
+use Rattle.sourcemap_check.specs.Maps.{map_count}
 
 abbrev pub at : (own index : ℕ) → Rule → Finding
 at own index rule = record { rule = rule; map = own; line = 0; index = index }
@@ -24,13 +26,18 @@ at own index rule = record { rule = rule; map = own; line = 0; index = index }
 abbrev pub key_findings : ℕ → Data → List Finding
 key_findings own m = map (λ rule. at own 0 (Map rule)) (filter (λ rule. breaks_map rule m) MAP_RULES)
 
--- the findings of the text `mappings`. A list that is missing has no items
+-- how many sources and names a map has. A list that is missing has no items
+abbrev pub counts_at : Data → Counts
+counts_at m = record { sources = count_at (codes "sources") m; names = count_at (codes "names") m }
+
+-- the text `mappings`, if it is one
+abbrev pub text_at : Data → Option (List ℕ)
+text_at m = option_and_then as_str (get (codes "mappings") m)
+
+-- the findings of the text `mappings`, which an index map has not
 abbrev pub text_findings : ℕ → Data → List Finding
 text_findings own m =
-    if is_index m then []
-    else option_map_or
-    (findings_of (record { sources = count_at (codes "sources") m; names = count_at (codes "names") m }) own)
-    (option_and_then as_str (get (codes "mappings") m)) []
+    if is_index m then [] else option_map_or (findings_of (counts_at m) own) (text_at m) []
 
 -- no section is before the first
 abbrev pub none_before : Previous
@@ -64,16 +71,6 @@ section_key_findings own index s =
 abbrev pub section_findings : (own index : ℕ) → Previous → Data → List Finding
 section_findings own index previous s =
     section_key_findings own index s ++ order_findings own index previous (start_of s)
-
--- how many maps a map has, with itself
-abbrev mutual
-  pub map_count : Tree → ℕ
-  map_count (tree m sections) = suc (section_count sections)
-
-  pub section_count : Sections → ℕ
-  section_count no_sections = 0
-  section_count (bare s later) = section_count later
-  section_count (mapped s inner later) = map_count inner + section_count later
 
 -- the findings of the map with this number; of the section with this index and later ones of map `own`, where `next` is
 -- the number of the next map

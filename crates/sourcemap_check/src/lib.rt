@@ -4,5 +4,6 @@
 pub mod check;
 mod keys;
 pub mod laws;
+mod levels;
 mod sections;
 pub mod tree;

@@ -15,8 +15,8 @@ use sourcemap_check_report::report::Report;
 use sourcemap_check_segments::last::Position;
 use sourcemap_errors::errors::Result;
 
-/// Where a map is: in the section with this index of the map with this number. Of the map itself
-/// both are 0.
+/// Where a map is: in the section with this index of the map with this number. Of the whole both
+/// are 0.
 #[derive(Clone, Copy, Debug, PartialEq, Eq)]
 pub struct MapPlace {
     /// The number of the map that has the section.
@@ -43,7 +43,7 @@ pub(crate) fn check_map(
     place: MapPlace,
 ) -> Result<Option<Position>>
     ensures tree { (all : List Finding) → Reports most all checked.old.report
-        → IfOk result (ChecksTree most all checked.old checked.new (tree_of (view map.now))) }
+        → IfOk result (ChecksTree most all checked.old checked.new place (tree_of (view map.now))) }
     ensures memory { IfErr result (λ e. e ≡ OutOfMemory) }
 {
     let own = checked.maps.len();
@@ -104,7 +104,8 @@ fn check_inner(
     place: SectionPlace,
 ) -> Result<Option<Position>>
     ensures inner { (all : List Finding) → Reports most all checked.old.report
-        → IfOk result (ChecksInner most all checked.old checked.new (inner_of (view section.now))) }
+        → IfOk result (ChecksInner most all checked.old checked.new
+        (record { map = place.map; section = place.index }) (inner_of (view section.now))) }
     ensures memory { IfErr result (λ e. e ≡ OutOfMemory) }
 {
     match section.get("map") {

@@ -1,9 +1,9 @@
 -- The findings of a text are exactly the broken rules.
-use Rattle.std.proofs.Common.{◌≡◌, ℕ, zero, suc, ◌+◌, ◌<◌, Bool, true, List, [], ◌∷◌, ◌++◌, map, take, length}
-use Rattle.std.proofs.Common.{get_or, sym, ◌∙◌, ap, refl, subst, append_assoc, arith, inl, inr, Some, ◌⊎◌, add-one}
+use Rattle.std.proofs.Common.{◌≡◌, ℕ, zero, suc, ◌+◌, Bool, true, List, [], ◌∷◌, ◌++◌, map, take, length}
+use Rattle.std.proofs.Common.{lit<, sym, ◌∙◌, ap, refl, subst, append_assoc, arith, inl, inr, Some, ◌⊎◌, add-one}
 use Rattle.std.specs.Prelude.{filter, Contains, slice_get}
 use Rattle.std.proofs.lemmas.List.{append-nil}
-use Rattle.std.proofs.lemmas.Bool.{cases_Bool, cond-true, cond-false}
+use Rattle.std.proofs.lemmas.List.Elements.{Contains-append_left, Contains-append_right, Contains-append_cases}
 use Rattle.sourcemap_check_report.specs.declared.rules.SegmentRule.{SegmentRule}
 use Rattle.sourcemap_check_report.specs.declared.rules.SegmentRule.TheVariants.{ForeignByte, CutNumber, FieldCount}
 use Rattle.sourcemap_check_report.specs.declared.rules.SegmentRule.TheVariants.{LargeNumber, ColumnBelowZero}
@@ -11,62 +11,28 @@ use Rattle.sourcemap_check_report.specs.declared.rules.SegmentRule.TheVariants.{
 use Rattle.sourcemap_check_report.specs.declared.rules.SegmentRule.TheVariants.{SourceColumnBelowZero, NameBelowZero}
 use Rattle.sourcemap_check_report.specs.declared.rules.SegmentRule.TheVariants.{SourcePastList, NamePastList}
 use Rattle.sourcemap_check_report.specs.declared.rules.TheConstants.{SEGMENT_RULES}
-use Rattle.sourcemap_check_report.specs.declared.rules.Rule.{Rule}
 use Rattle.sourcemap_check_report.specs.declared.rules.Rule.TheVariants.{Segment}
 use Rattle.sourcemap_check_report.specs.declared.report.Finding.{Finding}
+use Rattle.sourcemap_check_report.proofs.ElementLemmas.{Contains-none, filtered_from, filtered_to}
+use Rattle.sourcemap_check_report.proofs.ReportLemmas.{finding_is}
 use Rattle.sourcemap_check_segments.specs.Rules.{Counts, breaks, IsBrokenRule}
 use Rattle.sourcemap_check_segments.specs.Segments.{page_of, joined}
 use Rattle.sourcemap_check_segments.specs.Findings.{segment_findings, line_findings, page_findings, findings_of}
 
--- Elements of a list, by recursion on it.
-
-abbrev Has : {X : Type 0} → X → List X → Type 0
-Has y [] = ⊥
-Has y (x ∷ xs) = (x ≡ y) ⊎ Has y xs
-
-Has-from : {X : Type 0} (xs : List X) (y : X) (k : ℕ) → k < length xs → get_or xs k y ≡ y → Has y xs
-Has-from [] y k h e = absurd (omega arith)
-Has-from (x ∷ xs) y zero h e = inl e
-Has-from (x ∷ xs) y (suc k) h e = inr (Has-from xs y k (omega arith) e)
-
-Has-contained : {X : Type 0} (xs : List X) (y : X) → Contains xs y → Has y xs
-Has-contained xs y (k, h, e) = Has-from xs y k h e
-
-Contains-has : {X : Type 0} (xs : List X) (y : X) → Has y xs → Contains xs y
-Contains-has [] y h = absurd h
-Contains-has (x ∷ xs) y (inl e) = (0, omega arith, e)
-Contains-has (x ∷ xs) y (inr h) =
-    let rest = Contains-has xs y h in
-    (suc rest.0, (let lt = rest.1 in omega arith), rest.2)
-
-Has-left : {X : Type 0} (xs ys : List X) (y : X) → Has y xs → Has y (xs ++ ys)
-Has-left [] ys y h = absurd h
-Has-left (x ∷ xs) ys y (inl e) = inl e
-Has-left (x ∷ xs) ys y (inr h) = inr (Has-left xs ys y h)
-
-Has-right : {X : Type 0} (xs ys : List X) (y : X) → Has y ys → Has y (xs ++ ys)
-Has-right [] ys y h = h
-Has-right (x ∷ xs) ys y h = inr (Has-right xs ys y h)
-
-Has-cases : {X : Type 0} (xs ys : List X) (y : X) → Has y (xs ++ ys) → Has y xs ⊎ Has y ys
-Has-cases [] ys y h = inr h
-Has-cases (x ∷ xs) ys y (inl e) = inl (inl e)
-Has-cases (x ∷ xs) ys y (inr h) = elim (Has-cases xs ys y h) [ inl a ↦ inl (inr a) | inr b ↦ inr b ]
-
 -- One segment.
 
-has_rule : (rule : SegmentRule) → Has rule SEGMENT_RULES
-has_rule ForeignByte = inl refl
-has_rule CutNumber = inr (inl refl)
-has_rule FieldCount = inr (inr (inl refl))
-has_rule LargeNumber = inr (inr (inr (inl refl)))
-has_rule ColumnBelowZero = inr (inr (inr (inr (inl refl))))
-has_rule SourceBelowZero = inr (inr (inr (inr (inr (inl refl)))))
-has_rule LineBelowZero = inr (inr (inr (inr (inr (inr (inl refl))))))
-has_rule SourceColumnBelowZero = inr (inr (inr (inr (inr (inr (inr (inl refl)))))))
-has_rule NameBelowZero = inr (inr (inr (inr (inr (inr (inr (inr (inl refl))))))))
-has_rule SourcePastList = inr (inr (inr (inr (inr (inr (inr (inr (inr (inl refl)))))))))
-has_rule NamePastList = inr (inr (inr (inr (inr (inr (inr (inr (inr (inr (inl refl))))))))))
+has_rule : (rule : SegmentRule) → Contains SEGMENT_RULES rule
+has_rule ForeignByte = (0, lit< tt, refl)
+has_rule CutNumber = (1, lit< tt, refl)
+has_rule FieldCount = (2, lit< tt, refl)
+has_rule LargeNumber = (3, lit< tt, refl)
+has_rule ColumnBelowZero = (4, lit< tt, refl)
+has_rule SourceBelowZero = (5, lit< tt, refl)
+has_rule LineBelowZero = (6, lit< tt, refl)
+has_rule SourceColumnBelowZero = (7, lit< tt, refl)
+has_rule NameBelowZero = (8, lit< tt, refl)
+has_rule SourcePastList = (9, lit< tt, refl)
+has_rule NamePastList = (10, lit< tt, refl)
 
 abbrev finding_at : (own n index : ℕ) → SegmentRule → Finding
 finding_at own n index rule = record { rule = Segment rule; map = own; line = n; index = index }
@@ -91,47 +57,18 @@ passes_here own n index test r f holds e = record {
   passed = holds;
 }
 
-passes_found : (own n index : ℕ) (test : SegmentRule → Bool) (rules : List SegmentRule) (f : Finding)
-    → Has f (map (finding_at own n index) (filter test rules)) → Passes own n index test f
-passes_found own n index test [] f h = absurd h
-passes_found own n index test (r ∷ rules) f h = elim (cases_Bool (test r)) [
-  | inl holds ↦
-      let P : List SegmentRule → Type 0 = λ rs. Has f (map (finding_at own n index) rs) in
-      let here : P (r ∷ filter test rules) = subst P (cond-true (test r) _ _ holds) h in
-      elim here [ inl e ↦ passes_here own n index test r f holds e | inr later ↦ passes_found own n index test rules f later ]
-  | inr lacks ↦
-      let P : List SegmentRule → Type 0 = λ rs. Has f (map (finding_at own n index) rs) in
-      let here : P (filter test rules) = subst P (cond-false (test r) _ _ lacks) h in
-      passes_found own n index test rules f here
-]
-
-found_passed : (own n index : ℕ) (test : SegmentRule → Bool) (rules : List SegmentRule) (r : SegmentRule)
-    → test r ≡ true → Has r rules → Has (finding_at own n index r) (map (finding_at own n index) (filter test rules))
-found_passed own n index test [] r holds h = absurd h
-found_passed own n index test (q ∷ rules) r holds (inl e) =
-    let first : test q ≡ true = ap test e ∙ holds in
-    let P : List SegmentRule → Type 0 = λ rs. Has (finding_at own n index r) (map (finding_at own n index) rs) in
-    subst P (sym (cond-true (test q) _ _ first)) (inl (ap (finding_at own n index) e))
-found_passed own n index test (q ∷ rules) r holds (inr h) =
-    let later = found_passed own n index test rules r holds h in
-    let P : List SegmentRule → Type 0 = λ rs. Has (finding_at own n index r) (map (finding_at own n index) rs) in
-    elim (cases_Bool (test q)) [
-      | inl first ↦ subst P (sym (cond-true (test q) _ _ first)) (inr later)
-      | inr lacks ↦ subst P (sym (cond-false (test q) _ _ lacks)) later
-    ]
-
-with_rule : (rule : SegmentRule) (f : Finding) → f.rule ≡ Segment rule → finding_at f.map f.line f.index rule ≡ f
-with_rule rule f e = let P : Rule → Finding = λ r. record { rule = r; map = f.map; line = f.line; index = f.index } in
-    ap P (sym e)
+passes_found : (own n index : ℕ) (test : SegmentRule → Bool) (f : Finding)
+    → Contains (map (finding_at own n index) (filter test SEGMENT_RULES)) f → Passes own n index test f
+passes_found own n index test f h =
+    let found = filtered_from test (finding_at own n index) SEGMENT_RULES f h in
+    passes_here own n index test found.0 f found.1 found.2
 
 found_all : (own n index : ℕ) (test : SegmentRule → Bool) (f : Finding) → Passes own n index test f
-    → Has f (map (finding_at own n index) (filter test SEGMENT_RULES))
+    → Contains (map (finding_at own n index) (filter test SEGMENT_RULES)) f
 found_all own n index test f h =
-    let same : finding_at own n index h.rule ≡ f =
-    ap (λ m. finding_at m n index h.rule) (sym h.map_is) ∙ (ap (λ l. finding_at f.map l index h.rule) (sym h.line)
-    ∙ (ap (λ i. finding_at f.map f.line i h.rule) (sym h.index) ∙ with_rule h.rule f h.rule_is)) in
-    subst (λ g. Has g (map (finding_at own n index) (filter test SEGMENT_RULES))) same
-    (found_passed own n index test SEGMENT_RULES h.rule h.passed (has_rule h.rule))
+    subst (Contains (map (finding_at own n index) (filter test SEGMENT_RULES)))
+    (finding_is f (Segment h.rule) own n index h.rule_is h.map_is h.line h.index)
+    (filtered_to test (finding_at own n index) SEGMENT_RULES h.rule h.passed (has_rule h.rule))
 
 -- One line.
 
@@ -148,13 +85,13 @@ record InLine (counts : Counts) (own n first : ℕ) (before here segments : List
   broken : breaks counts rule (before ++ (here ++ take (suc k) segments)) (here ++ take (suc k) segments) segment ≡ true
 
 InLine-from : (counts : Counts) (own n index : ℕ) (before here segments : List (List ℕ)) (f : Finding)
-    → Has f (line_findings counts own n index before here segments) → InLine counts own n index before here segments f
-InLine-from counts own n index before here [] f h = absurd h
+    → Contains (line_findings counts own n index before here segments) f → InLine counts own n index before here segments f
+InLine-from counts own n index before here [] f h = absurd (Contains-none f h)
 InLine-from counts own n index before here (s ∷ later) f h =
-    elim (Has-cases (segment_findings counts own n index before here s)
+    elim (Contains-append_cases (segment_findings counts own n index before here s)
     (line_findings counts own n (index + 1) before (here ++ s ∷ []) later) f h) [
       | inl here_it_is ↦
-          let p = passes_found own n index (λ r. breaks counts r (before ++ (here ++ s ∷ [])) (here ++ s ∷ []) s) SEGMENT_RULES f here_it_is in
+          let p = passes_found own n index (λ r. breaks counts r (before ++ (here ++ s ∷ [])) (here ++ s ∷ []) s) f here_it_is in
           record { k = 0; segment = s; at = refl; rule = p.rule; rule_is = p.rule_is; map_is = p.map_is; line = p.line; place = (let e = p.index in omega arith); broken = p.passed }
       | inr rest ↦
           let p = InLine-from counts own n (index + 1) before (here ++ s ∷ []) later f rest in
@@ -172,15 +109,15 @@ InLine-from counts own n index before here (s ∷ later) f h =
           }
     ]
 
-Has-line : (counts : Counts) (own n index : ℕ) (before here segments : List (List ℕ)) (f : Finding)
+found_line : (counts : Counts) (own n index : ℕ) (before here segments : List (List ℕ)) (f : Finding)
     (rule : SegmentRule) → f.rule ≡ Segment rule → f.map ≡ own
     → (k : ℕ) (segment : List ℕ) → slice_get segments k ≡ Some segment → f.line ≡ n → f.index ≡ index + k
     → breaks counts rule (before ++ (here ++ take (suc k) segments)) (here ++ take (suc k) segments) segment ≡ true
-    → Has f (line_findings counts own n index before here segments)
-Has-line counts own n index before here [] f rule is of k segment at line place broken = absurd (let e = at in cc)
-Has-line counts own n index before here (s ∷ later) f rule is of zero segment at line place broken =
+    → Contains (line_findings counts own n index before here segments) f
+found_line counts own n index before here [] f rule is of k segment at line place broken = absurd (let e = at in cc)
+found_line counts own n index before here (s ∷ later) f rule is of zero segment at line place broken =
     let same : s ≡ segment = let e = at in cc in
-    Has-left (segment_findings counts own n index before here s)
+    Contains-append_left (segment_findings counts own n index before here s)
     (line_findings counts own n (index + 1) before (here ++ s ∷ []) later) f
     (found_all own n index (λ r. breaks counts r (before ++ (here ++ s ∷ [])) (here ++ s ∷ []) s) f
     (record {
@@ -191,10 +128,10 @@ Has-line counts own n index before here (s ∷ later) f rule is of zero segment 
       index = (let e = place in omega arith);
       passed = subst (λ t. breaks counts rule (before ++ (here ++ s ∷ [])) (here ++ s ∷ []) t ≡ true) (sym same) broken;
     }))
-Has-line counts own n index before here (s ∷ later) f rule is of (suc k) segment at line place broken =
-    Has-right (segment_findings counts own n index before here s)
+found_line counts own n index before here (s ∷ later) f rule is of (suc k) segment at line place broken =
+    Contains-append_right (segment_findings counts own n index before here s)
     (line_findings counts own n (index + 1) before (here ++ s ∷ []) later) f
-    (Has-line counts own n (index + 1) before (here ++ s ∷ []) later f rule is of k segment at line (omega arith)
+    (found_line counts own n (index + 1) before (here ++ s ∷ []) later f rule is of k segment at line (omega arith)
     (subst (λ hs. breaks counts rule (before ++ hs) hs segment ≡ true)
     (sym (append_assoc here (s ∷ []) (take (suc k) later))) broken))
 
@@ -208,10 +145,10 @@ record InPage (counts : Counts) (own n : ℕ) (before : List (List ℕ)) (lines 
   in_line : InLine counts own (n + j) 0 (before ++ joined (take j lines)) [] line f
 
 InPage-from : (counts : Counts) (own n : ℕ) (before : List (List ℕ)) (lines : List (List (List ℕ))) (f : Finding)
-    → Has f (page_findings counts own n before lines) → InPage counts own n before lines f
-InPage-from counts own n before [] f h = absurd h
+    → Contains (page_findings counts own n before lines) f → InPage counts own n before lines f
+InPage-from counts own n before [] f h = absurd (Contains-none f h)
 InPage-from counts own n before (line ∷ lines) f h =
-    elim (Has-cases (line_findings counts own n 0 before [] line) (page_findings counts own (n + 1) (before ++ line) lines) f h) [
+    elim (Contains-append_cases (line_findings counts own n 0 before [] line) (page_findings counts own (n + 1) (before ++ line) lines) f h) [
       | inl here_it_is ↦
           let p = InLine-from counts own n 0 before [] line f here_it_is in
           let zero_more : n ≡ n + 0 = omega arith in
@@ -235,25 +172,25 @@ InPage-from counts own n before (line ∷ lines) f h =
           }
     ]
 
-Has-page : (counts : Counts) (own n : ℕ) (before : List (List ℕ)) (lines : List (List (List ℕ))) (f : Finding)
+found_page : (counts : Counts) (own n : ℕ) (before : List (List ℕ)) (lines : List (List (List ℕ))) (f : Finding)
     (j : ℕ) (line : List (List ℕ)) → slice_get lines j ≡ Some line
-    → Has f (line_findings counts own (n + j) 0 (before ++ joined (take j lines)) [] line)
-    → Has f (page_findings counts own n before lines)
-Has-page counts own n before [] f j line at h = absurd (let e = at in cc)
-Has-page counts own n before (first ∷ lines) f zero line at h =
+    → Contains (line_findings counts own (n + j) 0 (before ++ joined (take j lines)) [] line) f
+    → Contains (page_findings counts own n before lines) f
+found_page counts own n before [] f j line at h = absurd (let e = at in cc)
+found_page counts own n before (first ∷ lines) f zero line at h =
     let same : first ≡ line = let e = at in cc in
     let n_is : n + 0 ≡ n = omega arith in
-    Has-left (line_findings counts own n 0 before [] first) (page_findings counts own (n + 1) (before ++ first) lines) f
-    (subst (λ l. Has f (line_findings counts own n 0 before [] l)) (sym same)
-    (subst (λ b. Has f (line_findings counts own n 0 b [] line)) (append-nil before)
-    (subst (λ m. Has f (line_findings counts own m 0 (before ++ []) [] line)) n_is h)))
-Has-page counts own n before (first ∷ lines) f (suc j) line at h =
+    Contains-append_left (line_findings counts own n 0 before [] first) (page_findings counts own (n + 1) (before ++ first) lines) f
+    (subst (λ l. Contains (line_findings counts own n 0 before [] l) f) (sym same)
+    (subst (λ b. Contains (line_findings counts own n 0 b [] line) f) (append-nil before)
+    (subst (λ m. Contains (line_findings counts own m 0 (before ++ []) [] line) f) n_is h)))
+found_page counts own n before (first ∷ lines) f (suc j) line at h =
     let n_is : n + suc j ≡ (n + 1) + j = omega arith in
-    Has-right (line_findings counts own n 0 before [] first) (page_findings counts own (n + 1) (before ++ first) lines) f
-    (Has-page counts own (n + 1) (before ++ first) lines f j line at
-    (subst (λ b. Has f (line_findings counts own ((n + 1) + j) 0 b [] line))
+    Contains-append_right (line_findings counts own n 0 before [] first) (page_findings counts own (n + 1) (before ++ first) lines) f
+    (found_page counts own (n + 1) (before ++ first) lines f j line at
+    (subst (λ b. Contains (line_findings counts own ((n + 1) + j) 0 b [] line) f)
     (sym (append_assoc before first (joined (take j lines))))
-    (subst (λ m. Has f (line_findings counts own m 0 (before ++ (first ++ joined (take j lines))) [] line)) n_is h)))
+    (subst (λ m. Contains (line_findings counts own m 0 (before ++ (first ++ joined (take j lines))) [] line) f) n_is h)))
 
 -- A text.
 
@@ -266,7 +203,7 @@ breaks_at counts page line segment rule l j i k e f h = rw (e, f, add-one) h
 pub IsBrokenRule-found : (counts : Counts) (own : ℕ) (text : List ℕ) (f : Finding)
     → Contains (findings_of counts own text) f → IsBrokenRule counts own text f
 IsBrokenRule-found counts own text f h =
-    let p = InPage-from counts own 0 [] (page_of text) f (Has-contained (findings_of counts own text) f h) in
+    let p = InPage-from counts own 0 [] (page_of text) f h in
     let line_is : f.line ≡ p.j = let e = p.in_line.line in omega arith in
     let index_is : f.index ≡ p.in_line.k = let e = p.in_line.place in omega arith in
     record {
@@ -286,10 +223,9 @@ IsBrokenRule-found counts own text f h =
 pub found_broken : (counts : Counts) (own : ℕ) (text : List ℕ) (f : Finding) → IsBrokenRule counts own text f
     → Contains (findings_of counts own text) f
 found_broken counts own text f b =
-    Contains-has (findings_of counts own text) f
-    (Has-page counts own 0 [] (page_of text) f f.line b.broken.line b.broken.line_at
-    (Has-line counts own (0 + f.line) 0 (joined (take f.line (page_of text))) [] b.broken.line f b.rule b.rule_is
+    found_page counts own 0 [] (page_of text) f f.line b.broken.line b.broken.line_at
+    (found_line counts own (0 + f.line) 0 (joined (take f.line (page_of text))) [] b.broken.line f b.rule b.rule_is
     b.map_is f.index b.broken.segment b.broken.segment_at
     (omega arith) (omega arith) (let P : ℕ → Type 0 = λ m. breaks counts b.rule
     (joined (take f.line (page_of text)) ++ take m b.broken.line) (take m b.broken.line) b.broken.segment ≡ true in
-    subst P (add-one f.index) b.broken.broken)))
+    subst P (add-one f.index) b.broken.broken))

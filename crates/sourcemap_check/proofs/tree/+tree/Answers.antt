@@ -1,5 +1,4 @@
-use Rattle.std.proofs.Common.{◌∙◌, ap, sym, arith, length, codes, option_map, refl}
-use Rattle.std.proofs.lemmas.List.{length_push}
+use Rattle.std.proofs.Common.{◌∙◌, ap, sym, arith, codes, option_map, refl}
 use Rattle.serde_json.specs.Data.{items_depth}
 use Rattle.serde_json.specs.View.{view, items_view}
 use Rattle.sourcemap_check.proofs.LoopLemmas.{SectionsSoFar-none, SectionsSoFar-more, tree_checked}
@@ -32,11 +31,11 @@ check_inner-returns-in_default-clause-inner t c = λ all reports.
       | check_inner-in_default-via-in-Some+else-is_object w ↦
           rw (inner_of-other (view c.args.section.now) (view w.in-Some.map.now) (sym w.in-Some.ensures)
           (sym w.is_object.ensures ∙ w.if-is_object.false))
-          (record { reports = reports; counted = refl; last_is = refl })
+          (record { reports = reports; places_are = refl; last_is = refl })
       | check_inner-in_default-via-in_default w ↦
           rw (inner_of-missing (view c.args.section.now)
           (sym c.get.ensures ∙ ap (option_map (λ v. view v.now)) w.in_default.is))
-          (record { reports = reports; counted = refl; last_is = refl })
+          (record { reports = reports; places_are = refl; last_is = refl })
     ]
 
 pub check_map-check_sections-requires : goal.check_map-check_sections-requires
@@ -51,7 +50,7 @@ check_map-check_sections-requires t c = (
 pub check_map-returns-clause-tree : goal.check_map-returns-clause-tree
 check_map-returns-clause-tree t c = λ all reports.
     let own = c.len-own.ensures ∙ c.args.checked.now.maps.ok.0 in
-    let pushed = ap length c.in_ok-push.ensures.items ∙ length_push c.args.checked.now.maps.items c.args.place in
+    let pushed = c.in_ok-push.ensures.items in
     let keys = c.in_ok-add_keys.ensures.added all reports in
     let text = c.in_ok-add_text.ensures.added _ keys in
     elim c.match-list_of_sections.branch [
@@ -59,13 +58,13 @@ check_map-returns-clause-tree t c = λ all reports.
           let items = tree_of-sections (view c.args.map.now) (items_view w.in-Some.sections.now.items)
           (sym w.in-Some.ensures) in
           rw (w.checked-is, c.later_of.ensures, w.last-is, c.text_last.ensures)
-          (tree_checked _ all (view c.args.map.now) _ _ _ _ _ _ own pushed items
+          (tree_checked _ all (view c.args.map.now) _ _ _ _ _ _ _ own pushed items
           (rw w.as_slice.ensures.value at (w.in_ok-last-in-Some.ensures.sections _ text)))
       | check_map-in-None w ↦
           let bare = tree_of-bare (view c.args.map.now)
           (sym c.list_of_sections.ensures ∙ ap (option_map (λ v. items_view v.now.items)) w.in-None.is) in
           rw (w.checked-is, c.later_of.ensures, w.last-is, c.text_last.ensures)
-          (tree_checked _ all (view c.args.map.now) _ _ _ _ _ _ own pushed bare (sections_none _ _ _ _ text))
+          (tree_checked _ all (view c.args.map.now) _ _ _ _ _ _ _ own pushed bare (sections_none _ _ _ _ text))
     ]
 
 pub check_sections-check_inner-requires : goal.check_sections-check_inner-requires
