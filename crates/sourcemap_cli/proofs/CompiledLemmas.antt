@@ -20,6 +20,10 @@ plain_compiled (Some says) = refl
 pub printed_alike : (t : MapTree) (bytes : List ℕ) → MeansTheSame t bytes
     → (m : MapValue) × (flat t ≡ Ok m)
     × ((p : ℕ × ℕ) → compiled_says bytes p ≡ meaning (leaf (regular m)) p)
-printed_alike t bytes (m, is, means) = (m, is, λ p.
-    plain_without_scope (compiled_meaning bytes p) ∙ ap (option_map plain) (means.meaning p)
-    ∙ plain_compiled (meaning (leaf (regular m)) p))
+printed_alike t bytes (m, is, means) = (
+  m,
+  is,
+  λ p.
+      plain_without_scope (compiled_meaning bytes p) ∙ ap (option_map plain) (means.meaning p)
+      ∙ plain_compiled (meaning (leaf (regular m)) p),
+)

@@ -4,7 +4,6 @@ use Rattle.std.specs.IoError.{error_kind}
 use Rattle.std.specs.declared.io.Error.{Error as IoError}
 use Rattle.std.specs.declared.io.ErrorKind.TheVariants.{OutOfMemory as NoMemory}
 use Rattle.sourcemap.specs.Answer.{UnlessMemory, Gives, IsAnswer}
-use Rattle.sourcemap.specs.AnyMap.{map_tree}
 use Rattle.sourcemap.specs.Decoder.{AreSame, BytesDecode, Reading, UnlessReadFails}
 use Rattle.sourcemap.specs.Jsontypes.{Tree, record_of}
 use Rattle.sourcemap.specs.Reading.{IsSameError}
@@ -17,7 +16,6 @@ use Rattle.sourcemap.specs.Trees.{LeafMap, regular, hermes, MapTree, leaf, index
 use Rattle.sourcemap.specs.Types.{MapValue}
 use Rattle.sourcemap.specs.declared.errors.Error.{Error}
 use Rattle.sourcemap.specs.declared.errors.Error.TheVariants.{BadJson, CannotFlatten, IncompatibleSourceMap, Io, OutOfMemory}
-use Rattle.sourcemap.specs.declared.types.DecodedMap.{DecodedMap}
 use Rattle.sourcemap_trace.specs.Positions.{first_of}
 use Rattle.sourcemap_trace.specs.Trace.{meaning_text}
 use Rattle.sourcemap_trace.specs.declared.positions.Counting.{Counting}

@@ -25,13 +25,7 @@ fn run_on(rt: &HostRuntime, line: &str, input: &[u8]) -> Result<(u8, Vec<u8>), F
 }
 
 // Checks that a run on these bytes prints this text and a newline, and ends with this status.
-fn check_run(
-    rt: &HostRuntime,
-    line: &str,
-    input: &[u8],
-    status: u8,
-    text: &str,
-) -> Checked {
+fn check_run(rt: &HostRuntime, line: &str, input: &[u8], status: u8, text: &str) -> Checked {
     let (ended, output) = run_on(rt, line, input)?;
     let is_text = output.as_slice().strip_suffix(b"\n") == Some(text.as_bytes());
     check_that(line, ended == status && is_text)
@@ -90,9 +84,9 @@ fn compiled_maps_are_traced(rt: HostRuntime) -> Checked {
 // The file of a map without tokens and texts: a header of 64 bytes, and where the one text, the name
 // of the generated file, starts and ends.
 const EMPTY: [u8; 72] = [
-    0x8f, b'S', b'M', b'C', 1, 0, 0, 0, 72, 0, 0, 0, 0, 0, 0, 0, 0, 0, 0, 0, 0, 0, 0, 0, 0, 0, 0, 0,
-    0, 0, 0, 0, 0, 0, 0, 0, 0, 0, 0, 0, 0, 0, 0, 0, 0, 0, 0, 0, 64, 0, 0, 0, 0, 0, 0, 0, 0, 0, 0, 0,
-    0, 0, 0, 0, 72, 0, 0, 0, 72, 0, 0, 0,
+    0x8f, b'S', b'M', b'C', 1, 0, 0, 0, 72, 0, 0, 0, 0, 0, 0, 0, 0, 0, 0, 0, 0, 0, 0, 0, 0, 0, 0,
+    0, 0, 0, 0, 0, 0, 0, 0, 0, 0, 0, 0, 0, 0, 0, 0, 0, 0, 0, 0, 0, 64, 0, 0, 0, 0, 0, 0, 0, 0, 0,
+    0, 0, 0, 0, 0, 0, 72, 0, 0, 0, 72, 0, 0, 0,
 ];
 
 // What is compiled, and what is printed instead of a file.
@@ -160,7 +154,13 @@ fn damaged_files_are_refused(rt: HostRuntime) -> Checked {
     let short = EMPTY.get(..4).unwrap_or(&[]);
     check_run(&rt, "lookup 0 0", short, 1, "the compiled map is truncated")?;
     let shorter = EMPTY.get(..3).unwrap_or(&[]);
-    check_run(&rt, "lookup 0 0", shorter, 1, "bad json: the text is not JSON")
+    check_run(
+        &rt,
+        "lookup 0 0",
+        shorter,
+        1,
+        "bad json: the text is not JSON",
+    )
 }
 
 // The last text is the name `alert`, with a zero byte after it.
@@ -184,6 +184,9 @@ fn compiling_is_not_applied(rt: HostRuntime) -> Checked {
     let command = Command::Compile(WithContents::Yes);
     match apply(&rt, rt.alloc(), &command, map, None) {
         Err(Error::OutOfMemory) => Err(Error::OutOfMemory.into()),
-        answer => check_that("compile", matches!(answer, Err(Error::IncompatibleSourceMap))),
+        answer => check_that(
+            "compile",
+            matches!(answer, Err(Error::IncompatibleSourceMap)),
+        ),
     }
 }

@@ -148,9 +148,7 @@ fn trace(
 ) -> Result<String, Error> {
     match counting {
         Counting::From0 => trace_text(alloc, map, positions),
-        Counting::From1 => {
-            trace_text_from(alloc, AskedMap::Decoded(map), positions, counting)
-        }
+        Counting::From1 => { trace_text_from(alloc, AskedMap::Decoded(map), positions, counting) }
     }
 }
 
