@@ -17,6 +17,8 @@ read. If a write fails or moves nothing, the status must be 1, and standard outp
 Standard error must have the error, if it can be written.
 """
 import argparse, collections, concurrent.futures, os, pathlib, re, resource, subprocess, sys, tempfile
+sys.path.insert(0, str(pathlib.Path(__file__).resolve().parent.parent / 'compare'))
+import compiled_map
 
 CRATES = pathlib.Path(__file__).resolve().parent.parent / 'crates'
 TOOL = 'sourcemap_tool'
@@ -52,12 +54,14 @@ LATER = '{"sources":["t.js"],"mappings":"EAAA,EAAI"}'
 POSITIONS = '0:5\n0:18\nx\n1:0\n\n0:4294967296\n7:7'
 POSITIONS_FROM_1 = '1:6\n1:19\nx\n2:1\n\n0:1\n8:8'
 
+COMPILED = compiled_map.write(compiled_map.tokens_of('AAAA,GAAIA,GAAI;IAAIA'), ['a.js'], ['x'], 'out.js', ['y'])
+
 # the texts of the errors EIO and ENOSPC
 READ_ERROR = b'Input/output error (os error 5)\n'
 WRITE_ERROR = b'No space left on device (os error 28)\n'
 
 Case = collections.namedtuple('Case', 'words input file', defaults=('',))
-# the arguments of a run, its input, and the text of the file that the argument FILE stands for
+# the arguments of a run, its input, a text or bytes, and the text of the file that the argument FILE stands for
 CASES = [
     Case('lookup 0 5', MAP), Case('lookup 9 9', FULL), Case('lookup 10 9', INDEX), Case('lookup 0 1', HERMES),
     Case('tokens', MAP), Case('tokens', FULL), Case('tokens', INDEX),
@@ -67,6 +71,9 @@ CASES = [
     Case('compose FILE', MAP, LATER), Case('compose FILE', FULL, MAP), Case('compose FILE', MAP, INDEX),
     Case('trace FILE', MAP, POSITIONS), Case('trace FILE', INDEX, POSITIONS),
     Case('lookup --from-1 1 6', MAP), Case('trace --from-1 FILE', INDEX, POSITIONS_FROM_1),
+    Case('compile', FULL), Case('compile', HERMES), Case('compile --without-contents', INDEX), Case('compile', LINKED),
+    Case('lookup 0 4', COMPILED), Case('trace --from-1 FILE', COMPILED, POSITIONS_FROM_1),
+    Case('lookup 0 4', COMPILED[:-1]), Case('trace FILE', COMPILED[:140] + b'\x01' + COMPILED[141:], POSITIONS),
     Case('lookup 0 0', ")]}'\r\n" + MAP), Case('lookup 0 0', ")]}'\r" + MAP), Case('lookup 0 0', '[]'),
     Case('lookup 0 0', '{"mappings":"A!"}'), Case('lookup 0', MAP), Case('compose gone.map', MAP),
 ]
@@ -143,7 +150,8 @@ class Runs:
     def __init__(self, program, folder, case, at):
         self.program, self.folder, self.case = program, folder, case
         self.input, self.file = f'{folder}/{at}.input', f'{folder}/{at}.file'
-        self.input_bytes, self.file_bytes = case.input.encode(), case.file.encode()
+        self.input_bytes = case.input if isinstance(case.input, bytes) else case.input.encode()
+        self.file_bytes = case.file.encode()
         pathlib.Path(self.input).write_bytes(self.input_bytes)
         pathlib.Path(self.file).write_bytes(self.file_bytes)
         self.usual = run(self.command(self.file), folder, self.input)

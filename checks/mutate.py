@@ -14,7 +14,7 @@ the status is 0 or 1. One reason is an output with too many lines for `rules.py`
 `out of memory` and end with status 1, because a run has 256 MB of memory.
 
 With --reference, each case of a command also runs on PROGRAM, a built program over the crate (`reference/`). The script
-compares no case of `trace` and of `--from-1`, which the reference does not have, and no run whose status is not 0 or 1.
+compares no case of `trace`, `compile`, `--from-1` and compiled maps, which the reference does not have, and no run whose status is not 0 or 1.
 Each difference must have a reason among those of `docs/DIFFERENCES.md`. Without a reason it is printed as UNEXPLAINED,
 and the case fails.
 
@@ -30,7 +30,7 @@ programs than those in `crates`.
 """
 import argparse, collections, json, multiprocessing, os, pathlib, random, shutil, struct, subprocess, sys, tempfile, time
 sys.path.insert(0, str(pathlib.Path(__file__).resolve().parent.parent / 'compare'))
-import calls, rules
+import calls, compiled_map, rules
 from comparing import BENCH, BENCH_CALLS, TOOL, build_missing
 from composing import DIGITS, Token, mappings_of
 from drawn_bundles import TEXTS as MODULES, bundle_bytes
@@ -235,6 +235,16 @@ def map_bytes(chance, verb):
     return chance.choice(JUNK) + data if chance.random() < 0.05 else data
 
 
+def compiled_bytes(chance):
+    """The bytes of a compiled map, mutated or not. In some cases those of a map that cannot be compiled."""
+    data = text_of(chance, whole(chance))
+    try:
+        data = rules.compiled(rules.decode_map(data), chance.random() < 0.5)
+    except (rules.Refusal, rules.TooLong):
+        pass
+    return changed_bytes(chance, data, TEXT) if chance.random() < 0.5 else data
+
+
 def number(chance):
     return str(chance.choice([edge(chance), edge(chance), '00007', '+1', 'x', '', '5 ', '٣', '9' * 30]
                              if chance.random() < 0.05 else [edge(chance)]))
@@ -263,9 +273,11 @@ def words_of(chance, path):
         return ['shift', number(chance)]
     if kind < 0.88:
         return ['compose', path]
-    if kind < 0.98:
+    if kind < 0.95:
         return ['trace', *from_1, path]
-    words = [chance.choice(['lookup', 'tokens', 'trace', 'Shift', '', 'é', rules.FROM_1])
+    if kind < 0.98:
+        return ['compile', *[rules.WITHOUT_CONTENTS] * (chance.random() < 0.5)]
+    words = [chance.choice(['lookup', 'tokens', 'trace', 'compile', 'Shift', '', 'é', rules.FROM_1])
              for _ in range(chance.choice([1, 2, 3]))]
     # `trace` with one or two more words may be a valid command that would open a missing file. With twice the words it
     # is invalid.
@@ -282,7 +294,8 @@ def case_of(seed, at, path):
         return Case([*words], data, b'', BENCH if words == calls.SPLIT else BENCH_CALLS)
     chance = random.Random(f'{seed} {at}')
     words = words_of(chance, path)
-    data = map_bytes(chance, words[0])
+    is_compiled = words[0] in ('lookup', 'trace') and chance.random() < 0.2
+    data = compiled_bytes(chance) if is_compiled else map_bytes(chance, words[0])
     file = b''
     if words[0] == 'compose':
         file = map_bytes(chance, words[0])
@@ -380,7 +393,8 @@ class Job:
         return failures, kinds
 
     def compare_with_reference(self, case, ended):
-        if case.words[0] == 'trace' or rules.FROM_1 in case.words:
+        is_compiled = case.data.startswith(compiled_map.MAGIC_BYTES)
+        if case.words[0] in ('trace', 'compile') or rules.FROM_1 in case.words or is_compiled:
             return 'no such word'
         self.asked = self.run(self.reference, case)
         return agreement(case, ended, self.asked)

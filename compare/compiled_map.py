@@ -11,6 +11,7 @@ import struct
 import sys
 
 MAGIC, VERSION, BLOCK, NO_ID = 0x434D538F, 1, 64, 0xFFFFFFFF
+MAGIC_BYTES = MAGIC.to_bytes(4, 'little')
 DIGITS = {c: i for i, c in enumerate('ABCDEFGHIJKLMNOPQRSTUVWXYZabcdefghijklmnopqrstuvwxyz0123456789+/')}
 
 
@@ -102,6 +103,39 @@ def text(data, index):
     at = number(data, 48) + 40 * ((number(data, 12) + 63) // 64) + 4 * index
     start, end = number(data, at), number(data, at + 4)
     return None if start == end else data[start:end - 1].decode()
+
+
+def extent_fault(data):
+    """Why `parse` refuses bytes that begin with the magic number, or None."""
+    if len(data) < 64:
+        return 'the compiled map is truncated'
+    if number(data, 4) != VERSION:
+        return f'unknown version of a compiled map: {number(data, 4)}'
+    if len(data) < number(data, 8):
+        return 'the compiled map is truncated'
+    texts = sum(number(data, at) for at in (16, 20, 24, 52)) + 1
+    tables_end = number(data, 48) + 40 * ((number(data, 12) + 63) // 64) + 4 * (texts + 1)
+    return 'a table of the compiled map has a wrong extent' if len(data) != number(data, 8) or len(data) < tables_end else None
+
+
+def fault_of(data):
+    """Why `parse` or `verify` refuses bytes that begin with the magic number, or None."""
+    if extent_fault(data):
+        return extent_fault(data)
+    positions = [token(data, index)[:2] for index in range(number(data, 12))]
+    for index, (before, position) in enumerate(zip(positions, positions[1:])):
+        if position < before:
+            return f'the compiled map is out of order at token {index + 1}'
+    table = number(data, 48) + 40 * ((number(data, 12) + 63) // 64)
+    for index in range(sum(number(data, at) for at in (16, 20, 24, 52)) + 1):
+        start, end = number(data, table + 4 * index), number(data, table + 4 * index + 4)
+        if end < start or len(data) < end:
+            return 'a text passes the end of the compiled map'
+        try:
+            data[start:max(end - 1, start)].decode()
+        except UnicodeDecodeError:
+            return 'a text of the compiled map is not UTF-8'
+    return None
 
 
 def lookup(data, line, column):

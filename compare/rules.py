@@ -1,13 +1,15 @@
 """The rules of each command of `sourcemap_tool`: the exit status and the output, for the bytes of a map and of the file
 that the command names. The code follows the rules of the formats, and takes nothing from the compared programs."""
 import json, re
+import compiled_map
 from composing import DIGITS, Token, compose_tokens, digits_of, without_repeats
 from hermes_maps import closest
 from index_maps import LAST, in_order, offset_of, absolute_position
 
 USAGE = ('usage: lookup [--from-1] LINE COL | tokens | rewrite | flatten | compose FILE | shift ROWS'
-         ' | trace [--from-1] FILE\n')
+         ' | trace [--from-1] FILE | compile [--without-contents]\n')
 FROM_1 = '--from-1'
+WITHOUT_CONTENTS = '--without-contents'
 NUMBER = re.compile(rb'[0-9]+\Z')
 HYPHENATED = re.compile(r'[0-9a-fA-F]{8}(-[0-9a-fA-F]{4}){3}-[0-9a-fA-F]{12}\Z')
 PLAIN = re.compile(r'[0-9a-fA-F]{32}\Z')
@@ -33,7 +35,7 @@ def incompatible():
 
 
 class TooLong(Exception):
-    """The mappings of an answer have more lines than this module writes."""
+    """The mappings of an answer have more lines than this module writes, or scopes are compiled."""
 
 
 class Fraction:
@@ -222,7 +224,9 @@ class Map:
         self.root, self.debug_id = found['sourceRoot'], found['debugId']
         self.texts = [it or '' for it in found['sources'] or []]
         self.names = [name_text(it) for it in found['names'] or []]
-        self.contents = ((found['sourcesContent'] or []) + [None] * len(self.texts))[:len(self.texts)]
+        # as many as the text has, and one for each source
+        self.given = found['sourcesContent'] or []
+        self.contents = (self.given + [None] * len(self.texts))[:len(self.texts)]
         self.ignored = sorted(set(found['ignoreList'] or []))
         self.scopes = found['x_facebook_sources']
         self.tokens = self.read(found['mappings'] or '', found['rangeMappings'] or '')
@@ -374,7 +378,7 @@ class Index:
                     ignored.add(source)
                 tokens.append(token._replace(line=line, column=column, source=source, name=name))
         made.texts, made.names, made.ignored = list(sources), list(names), sorted(ignored)
-        made.contents = [contents.get(source) for source in range(len(sources))]
+        made.contents = made.given = [contents.get(source) for source in range(len(sources))]
         made.tokens = sorted(tokens, key=lambda token: token[:2])
         return made
 
@@ -391,6 +395,37 @@ class Index:
         sections = [{'offset': it['offset'], 'url': it['url'], 'map': it['map'] and it['map'].value()}
                     for it in self.sections]
         return {**parts, 'sources': None, 'sections': sections}
+
+
+class Compiled:
+    """A compiled map."""
+
+    def __init__(self, data):
+        fault = compiled_map.fault_of(data)
+        if fault:
+            raise Refusal(fault)
+        self.data = data
+
+    def lookup(self, line, column, first=0):
+        found = compiled_map.lookup(self.data, line, column)
+        if found is None:
+            return 'none'
+        source, source_line, source_column, name, _scope = found
+        return (f'{"<unknown>" if source is None else source}:{source_line + first}:{source_column + first}'
+                + ('' if name is None else f' name={name}'))
+
+
+def compiled(found, with_contents):
+    """The compiled map of a map, or of the flat map of an index map."""
+    if isinstance(found, Index):
+        found = found.flat()
+    if found.scopes is not None:
+        raise TooLong()
+    tokens = [(token.line, token.column, token.source, token.source_line, token.source_column, token.name,
+               int(token.is_range), 0) for token in found.tokens]
+    sources = [found.resolved_source(source) for source in range(len(found.texts))]
+    debug_id = None if found.debug_id is None else bytes.fromhex(found.debug_id.replace('-', ''))
+    return compiled_map.write(tokens, sources, found.names, found.file, found.given if with_contents else None, debug_id)
 
 
 def map_of(found):
@@ -450,16 +485,19 @@ def without_from_1(words):
 
 
 def output_of(words, data, file):
-    """The output of a command, or None if its words are not valid. Raises `Refusal` if the command fails."""
+    """The output of a command, a text or bytes, or None if its words are not valid. Raises `Refusal` if it fails."""
     words, first = without_from_1(words)
     numbers = [number_of(word.encode('utf-8', 'surrogateescape'), first) for word in words[1:]]
     verb = words[0] if words else None
+    if words in (['compile'], ['compile', WITHOUT_CONTENTS]):
+        return compiled(decode_map(data), len(words) == 1)
     known = {'lookup': 2, 'tokens': 0, 'rewrite': 0, 'flatten': 0, 'compose': 1, 'shift': 1, 'trace': 1}
     if known.get(verb) != len(numbers) or verb in ('lookup', 'shift') and None in numbers:
         return None
     if verb == 'trace' and words[1] == FROM_1:
         return None
-    found = decode_map(data)
+    is_compiled = verb in ('lookup', 'trace') and data.startswith(compiled_map.MAGIC_BYTES)
+    found = Compiled(data) if is_compiled else decode_map(data)
     if verb == 'lookup':
         return found.lookup(*numbers, first) + '\n'
     if verb == 'tokens':
@@ -482,4 +520,6 @@ def outcome_of(words, data, file=b''):
         output = output_of(words, data, file)
     except Refusal as refused:
         return 1, f'{refused}\n'.encode()
-    return (2, USAGE.encode()) if output is None else (0, output.encode())
+    if output is None:
+        return 2, USAGE.encode()
+    return 0, output if isinstance(output, bytes) else output.encode()

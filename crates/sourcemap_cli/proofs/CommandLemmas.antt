@@ -4,9 +4,11 @@ use Rattle.std.specs.Str.Parse.{digits_value}
 use Rattle.sourcemap_trace.specs.Positions.{first_of}
 use Rattle.sourcemap_trace.specs.declared.positions.Counting.{Counting}
 use Rattle.sourcemap_trace.specs.declared.positions.Counting.TheVariants.{From0, From1}
-use Rattle.sourcemap_cli.specs.Command.{AskFor, IsNumber, IsSameCommand, counted_words, from_1}
+use Rattle.sourcemap_cache.specs.declared.parts.WithContents.{WithContents}
+use Rattle.sourcemap_cache.specs.declared.parts.WithContents.TheVariants.{Yes, No}
+use Rattle.sourcemap_cli.specs.Command.{AskFor, IsNumber, IsSameCommand, counted_words, from_1, without_contents}
 use Rattle.sourcemap_cli.specs.declared.command.Command.{Command}
-use Rattle.sourcemap_cli.specs.declared.command.Command.TheVariants.{Lookup, Tokens, Rewrite, Flatten, Compose, Shift, Trace}
+use Rattle.sourcemap_cli.specs.declared.command.Command.TheVariants.{Lookup, Tokens, Rewrite, Flatten, Compose, Shift, Trace, Compile}
 
 -- equal words give the same number
 number_once : (first : ℕ) (a b : List ℕ) (m n : ℕ) → a ≡ b → IsNumber first a m → IsNumber first b n → m ≡ n
@@ -19,7 +21,8 @@ abbrev verb_number : List ℕ → ℕ
 verb_number verb =
     if bytes_eq verb (codes "lookup") then 1 else if bytes_eq verb (codes "tokens") then 2
     else if bytes_eq verb (codes "rewrite") then 3 else if bytes_eq verb (codes "flatten") then 4
-    else if bytes_eq verb (codes "compose") then 5 else if bytes_eq verb (codes "shift") then 6 else 7
+    else if bytes_eq verb (codes "compose") then 5 else if bytes_eq verb (codes "shift") then 6
+    else if bytes_eq verb (codes "trace") then 7 else 8
 
 -- the number of the first word, and the number of words
 abbrev kind_of_words : List (List ℕ) → ℕ × ℕ
@@ -30,6 +33,11 @@ abbrev with_flag : Counting → ℕ → ℕ
 with_flag From0 words = words
 with_flag From1 words = words + 1
 
+-- the number of words of `compile`
+abbrev compile_count : WithContents → ℕ
+compile_count Yes = 1
+compile_count No = 2
+
 abbrev kind_of : Command → ℕ × ℕ
 kind_of (Lookup counting _ _) = (1, with_flag counting 3)
 kind_of Tokens = (2, 1)
@@ -38,6 +46,7 @@ kind_of Flatten = (4, 1)
 kind_of (Compose _) = (5, 2)
 kind_of (Shift _) = (6, 2)
 kind_of (Trace counting _) = (7, with_flag counting 2)
+kind_of (Compile contents) = (8, compile_count contents)
 
 words_of_kind : (words : List (List ℕ)) (c : Command) → AskFor words c → kind_of_words words ≡ kind_of c
 words_of_kind words (Lookup From0 line col) (l, c, is, at_line, at_col) = ap kind_of_words is
@@ -49,6 +58,8 @@ words_of_kind words (Compose path) is = ap kind_of_words is
 words_of_kind words (Shift rows) (r, is, number) = ap kind_of_words is
 words_of_kind words (Trace From0 path) (is, other) = ap kind_of_words is
 words_of_kind words (Trace From1 path) (is, other) = ap kind_of_words is
+words_of_kind words (Compile Yes) is = ap kind_of_words is
+words_of_kind words (Compile No) is = ap kind_of_words is
 
 -- as `words_of_kind`, for each of the two numbers
 kind_is : (words : List (List ℕ)) (c : Command) → AskFor words c
@@ -91,6 +102,14 @@ no_shift rows none (Shift n) (r, is, number) =
 no_shift rows none command asked =
     absurd (let no : (6 ≡ (kind_of command).0) × (2 ≡ (kind_of command).1) =
     kind_is (codes "shift" ∷ rows ∷ []) command asked in cc)
+
+pub no_compile : (word : List ℕ) → word ≢ without_contents → (command : Command)
+    → ¬ AskFor (codes "compile" ∷ word ∷ []) command
+no_compile word other (Compile No) is =
+    other (same_word 1 (codes "compile" ∷ word ∷ []) (codes "compile" ∷ without_contents ∷ []) is)
+no_compile word other command asked =
+    absurd (let no : (8 ≡ (kind_of command).0) × (2 ≡ (kind_of command).1) =
+    kind_is (codes "compile" ∷ word ∷ []) command asked in cc)
 
 -- `--from-1` is no file of `trace`
 pub no_trace : (file : List ℕ) (counting : Counting) → file ≡ from_1 → (command : Command)
@@ -140,6 +159,8 @@ command_once words (Trace From1 path) (Trace From1 other) (p, r) (q, s) = (
 command_once words Tokens Tokens p q = refl
 command_once words Rewrite Rewrite p q = refl
 command_once words Flatten Flatten p q = refl
+command_once words (Compile Yes) (Compile Yes) p q = refl
+command_once words (Compile No) (Compile No) p q = refl
 command_once words a b p q =
     let of_a = kind_is words a p in
     let of_b = kind_is words b q in

@@ -1,3 +1,4 @@
 pub mod CommandLemmas
-pub mod ProgramLemmas
+pub mod CompiledLemmas
 pub mod MapsLemmas
+pub mod ProgramLemmas

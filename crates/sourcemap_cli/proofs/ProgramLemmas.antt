@@ -1,10 +1,9 @@
 -- If the results of calls are as specified, so is the reply. If the reply is as specified, so is the output of a run.
-use Rattle.std.proofs.Common.{◌≡◌, ◌≢◌, ◌⊎◌, inl, inr, refl, sym, ap, subst, ◌∙◌, ℕ, List, [], ◌++◌, codes, Option, Some, None, option_map, Result, Ok, Err, IfSome, IsOkAnd, MatchOption, MatchResult, IfOk, string_bytes, String, Global, Vec}
+use Rattle.std.proofs.Common.{◌≡◌, ◌≢◌, ◌⊎◌, inl, inr, refl, sym, ap, subst, ◌∙◌, ℕ, List, [], ◌++◌, codes, Bool, true, false, Option, Some, None, option_map, Result, Ok, Err, IfSome, IsOkAnd, MatchOption, MatchResult, IfOk, string_bytes, String, Global, Vec}
 use Rattle.std.specs.IoError.{error_kind}
 use Rattle.std.specs.declared.io.Error.{Error as IoError}
 use Rattle.std.specs.declared.io.ErrorKind.TheVariants.{OutOfMemory as NoMemory}
 use Rattle.sourcemap.specs.Answer.{UnlessMemory, Gives, IsAnswer}
-use Rattle.sourcemap.specs.AnyMap.{map_tree}
 use Rattle.sourcemap.specs.Decoder.{AreSame, BytesDecode, Reading, UnlessReadFails}
 use Rattle.sourcemap.specs.Jsontypes.{Tree, record_of}
 use Rattle.sourcemap.specs.Reading.{IsSameError}
@@ -17,14 +16,23 @@ use Rattle.sourcemap.specs.Trees.{LeafMap, regular, hermes, MapTree, leaf, index
 use Rattle.sourcemap.specs.Types.{MapValue}
 use Rattle.sourcemap.specs.declared.errors.Error.{Error}
 use Rattle.sourcemap.specs.declared.errors.Error.TheVariants.{BadJson, CannotFlatten, IncompatibleSourceMap, Io, OutOfMemory}
-use Rattle.sourcemap.specs.declared.types.DecodedMap.{DecodedMap}
 use Rattle.sourcemap_trace.specs.Positions.{first_of}
 use Rattle.sourcemap_trace.specs.Trace.{meaning_text}
 use Rattle.sourcemap_trace.specs.declared.positions.Counting.{Counting}
-use Rattle.sourcemap_cli.specs.Command.{AskFor, IsOfMaps, IsSameCommand, TakesAdjustment}
-use Rattle.sourcemap_cli.specs.Program.{AskForNone, ReturnsOnBytes, Ending, answered, misused, Ends, FileDecodes, MayBeRead, MayEnd, IsCutShort, IsReply, IsReplyOf, IsReplyTo, IsPrinted, IsRefusal, IsWriteError, IsLookupLine, IsJsonLine, IsNotIndex, PrintsMap, Runs, Returns, ReturnsWithFile, ShiftAnswer, WithFile, adjusted_by, file_read, found_text, newline, rewritten_leaf, traced}
+use Rattle.sourcemap_compiled.specs.Errors.{error_text as fault_text}
+use Rattle.sourcemap_compiled.specs.Soundness.{IsSound}
+use Rattle.sourcemap_compiled.specs.declared.errors.CompiledMapError.{CompiledMapError}
+use Rattle.sourcemap_cache.specs.Compile.{CompileAnswer}
+use Rattle.sourcemap_cache.specs.declared.errors.CompileError.{CompileError}
+use Rattle.sourcemap_cache.specs.declared.errors.CompileError.TheVariants.{Map, TooLarge}
+use Rattle.sourcemap_cache.specs.declared.parts.WithContents.{WithContents}
+use Rattle.sourcemap_trace.specs.Asked.{compiled_says}
+use Rattle.sourcemap_cli.specs.Command.{AskFor, IsOfMaps, IsQuestion, IsSameCommand, TakesAdjustment}
+use Rattle.sourcemap_cli.specs.Compiled.{IsFaultOf, compiled_line}
+use Rattle.sourcemap_cli.specs.Lines.{newline}
+use Rattle.sourcemap_cli.specs.Program.{AreApplied, AskForNone, ReturnsBy, ReturnsElse, ReturnsOnBytes, Ending, answered, rejected, misused, Ends, EndsOn, is_applied, IsCompileReply, IsRefusedReply, RepliesOn, FileDecodes, MayBeRead, MayEnd, IsCutShort, IsReply, IsReplyOf, IsReplyTo, IsPrinted, IsRefusal, IsWriteError, IsLookupLine, IsJsonLine, IsNotIndex, PrintsMap, Runs, Returns, ReturnsWithFile, ShiftAnswer, WithFile, adjusted_by, file_read, found_text, rewritten_leaf, traced}
 use Rattle.sourcemap_cli.specs.declared.command.Command.{Command}
-use Rattle.sourcemap_cli.specs.declared.command.Command.TheVariants.{Compose, Flatten, Lookup, Rewrite, Shift, Tokens, Trace}
+use Rattle.sourcemap_cli.specs.declared.command.Command.TheVariants.{Compile, Compose, Flatten, Lookup, Rewrite, Shift, Tokens, Trace}
 use Rattle.sourcemap_cli.specs.declared.program.Reply.{Reply}
 use Rattle.sourcemap_errors.proofs.AnswerLemmas.{UnlessMemory-weaker, UnlessMemory-from}
 use Rattle.sourcemap_index.proofs.DecodeLemmas.{bytes_decode_once}
@@ -238,27 +246,135 @@ returns_on_no_map_unread command bytes e h =
     any_file (λ file. UnlessMemory e (ReturnsOnBytes command bytes file (Err e)))
     (λ file. returns_on_no_map file command bytes e h)
 
--- the reply for the answer to a command
-pub reply_of_command : (words : List (List ℕ)) (bytes : List ℕ) (file : Result (List ℕ) Error) (command : Command)
-    (answer : Result (String Global) Error) (r : Result Reply Error)
-    → AskFor words command → IsAnswer string_bytes (ReturnsOnBytes command bytes file) answer
-    → MatchResult r (IsReplyOf answer) (λ e. e ≡ OutOfMemory)
-    → MatchResult r (IsReplyTo words bytes file) (λ e. e ≡ OutOfMemory)
-reply_of_command words bytes file command answer (Err e) asked given is = is
-reply_of_command words bytes file command (Ok text) (Ok reply) asked given is =
-    (answered (Ok (string_bytes text)), (command, asked, given), is)
-reply_of_command words bytes file command (Err e) (Ok reply) asked given is =
-    (answered (Err e), (command, asked, with_memory e (ReturnsOnBytes command bytes file (Err e)) is.0 given), is.1)
+-- the answer of a command that is applied to a decoded map
+by_map : (applied : Bool) (command : Command) (bytes : List ℕ) (file : Result (List ℕ) Error)
+    (answer : Result (String Global) Error) → applied ≡ true
+    → IsAnswer string_bytes (ReturnsOnBytes command bytes file) answer
+    → IsAnswer string_bytes (ReturnsBy applied command bytes file) answer
+by_map true command bytes file answer is h = h
+by_map false command bytes file answer is h = absurd cc
 
-pub reply_of_read_command : (words : List (List ℕ)) (bytes : List ℕ) (command : Command)
+-- the answer of any other command
+pub by_else : (applied : Bool) (command : Command) (bytes : List ℕ) (file : Result (List ℕ) Error)
+    (answer : Result (String Global) Error) → applied ≡ false
+    → IsAnswer string_bytes (ReturnsElse command bytes file) answer
+    → IsAnswer string_bytes (ReturnsBy applied command bytes file) answer
+by_else true command bytes file answer is h = absurd cc
+by_else false command bytes file answer is h = h
+
+-- the reply for the answer to a command
+pub reply_of_answer : (command : Command) (bytes : List ℕ) (file : Result (List ℕ) Error)
     (answer : Result (String Global) Error) (r : Result Reply Error)
-    → AskFor words command → WithFile (λ file. IsAnswer string_bytes (ReturnsOnBytes command bytes file) answer)
+    → IsAnswer string_bytes (ReturnsBy (is_applied command bytes) command bytes file) answer
     → MatchResult r (IsReplyOf answer) (λ e. e ≡ OutOfMemory)
-    → WithFile (λ file. MatchResult r (IsReplyTo words bytes file) (λ e. e ≡ OutOfMemory))
-reply_of_read_command words bytes command answer r asked given is =
+    → MatchResult r (RepliesOn command bytes file) (λ e. e ≡ OutOfMemory)
+reply_of_answer command bytes file answer (Err e) given is = is
+reply_of_answer command bytes file (Ok text) (Ok reply) given is = (answered (Ok (string_bytes text)), given, is)
+reply_of_answer command bytes file (Err e) (Ok reply) given is =
+    (answered (Err e), with_memory e (EndsOn command bytes file (answered (Err e))) is.0 given, is.1)
+
+pub reply_of_map : (command : Command) (bytes : List ℕ) (file : Result (List ℕ) Error)
+    (answer : Result (String Global) Error) (r : Result Reply Error) → is_applied command bytes ≡ true
+    → IsAnswer string_bytes (ReturnsOnBytes command bytes file) answer
+    → MatchResult r (IsReplyOf answer) (λ e. e ≡ OutOfMemory)
+    → MatchResult r (RepliesOn command bytes file) (λ e. e ≡ OutOfMemory)
+reply_of_map command bytes file answer r applied given is =
+    reply_of_answer command bytes file answer r
+    (by_map (is_applied command bytes) command bytes file answer applied given) is
+
+pub reply_of_read_map : (command : Command) (bytes : List ℕ) (answer : Result (String Global) Error)
+    (r : Result Reply Error) → is_applied command bytes ≡ true
+    → WithFile (λ file. IsAnswer string_bytes (ReturnsOnBytes command bytes file) answer)
+    → MatchResult r (IsReplyOf answer) (λ e. e ≡ OutOfMemory)
+    → WithFile (λ file. MatchResult r (RepliesOn command bytes file) (λ e. e ≡ OutOfMemory))
+reply_of_read_map command bytes answer r applied given is =
     with_file (λ file. IsAnswer string_bytes (ReturnsOnBytes command bytes file) answer)
+    (λ file. MatchResult r (RepliesOn command bytes file) (λ e. e ≡ OutOfMemory))
+    (λ file says. reply_of_map command bytes file answer r applied says is) given
+
+-- the answers of a compiled map
+pub asked_line : (counting : Counting) (line col : ℕ) (bytes : List ℕ) (file : Result (List ℕ) Error)
+    (r : Result (String Global) Error) → IsSound bytes
+    → Gives string_bytes r (Ok (compiled_line (first_of counting) bytes (line, col)))
+    → IsAnswer string_bytes (ReturnsElse (Lookup counting line col) bytes file) r
+asked_line counting line col bytes file (Ok text) sound is = (sound, sym is)
+asked_line counting line col bytes file (Err e) sound is = UnlessMemory-weaker e (λ wrong. (sound, sym wrong)) is
+
+pub asked_trace : (counting : Counting) (path : String Global) (bytes : List ℕ) (file : Result (List ℕ) Error)
+    (r : Result (String Global) Error) → IsSound bytes
+    → IsAnswer string_bytes (λ a. a ≡ traced (first_of counting) (compiled_says bytes) file) r
+    → IsAnswer string_bytes (ReturnsElse (Trace counting path) bytes file) r
+asked_trace counting path bytes file (Ok text) sound is = (sound, is)
+asked_trace counting path bytes file (Err e) sound is = UnlessMemory-weaker e (λ is. (sound, is)) is
+
+pub no_question : (command : Command) → ((counting : Counting) (line col : ℕ) → command ≢ Lookup counting line col)
+    → ((counting : Counting) (path : String Global) → command ≢ Trace counting path) → ¬ IsQuestion command
+no_question (Lookup counting line col) no_lookup no_trace h = no_lookup counting line col refl
+no_question (Trace counting path) no_lookup no_trace h = no_trace counting path refl
+no_question command no_lookup no_trace h = h
+
+-- a command that is not applied to a decoded map compiles or asks
+pub questions_left : (command : Command) (bytes : List ℕ) → is_applied command bytes ≡ false
+    → ((contents : WithContents) → command ≢ Compile contents) → IsQuestion command
+questions_left (Lookup counting line col) bytes is other = tt
+questions_left (Trace counting path) bytes is other = tt
+questions_left (Compile contents) bytes is other = absurd (other contents refl)
+questions_left command bytes is other = absurd cc
+
+-- a damaged compiled map is refused
+pub reply_of_fault : (command : Command) (bytes : List ℕ) (file : Result (List ℕ) Error) (e : CompiledMapError)
+    (r : Result Reply Error) → IsQuestion command → is_applied command bytes ≡ false → IsFaultOf bytes e
+    → MatchResult r (IsRefusedReply (Some (fault_text e))) (λ e. e ≡ OutOfMemory)
+    → MatchResult r (RepliesOn command bytes file) (λ e. e ≡ OutOfMemory)
+reply_of_fault command bytes file e (Err f) asks unapplied fault is = is
+reply_of_fault (Lookup counting line col) bytes file e (Ok reply) asks unapplied fault ((text, known, is), status) =
+    (rejected reply.output.items, (unapplied, (e, fault, is ∙ ap (λ t. t ++ newline) known)), (refl, status))
+reply_of_fault (Trace counting path) bytes file e (Ok reply) asks unapplied fault ((text, known, is), status) =
+    (rejected reply.output.items, (unapplied, (e, fault, is ∙ ap (λ t. t ++ newline) known)), (refl, status))
+reply_of_fault command bytes file e (Ok reply) asks unapplied fault is = absurd asks
+
+-- `compile` replies with the file, or with the error of `sourcemap_cache::compile`
+pub reply_of_compilation : (contents : WithContents) (bytes : List ℕ) (file : Result (List ℕ) Error) (t : MapTree)
+    (compiled : Result (List ℕ) CompileError) (r : Result Reply Error) → BytesDecode bytes (Ok t)
+    → CompileAnswer contents t compiled → MatchResult r (IsCompileReply compiled) (λ e. e ≡ OutOfMemory)
+    → MatchResult r (RepliesOn (Compile contents) bytes file) (λ e. e ≡ OutOfMemory)
+reply_of_compilation contents bytes file t compiled (Err e) decodes made is = is
+reply_of_compilation contents bytes file t (Ok out) (Ok reply) decodes made is =
+    (answered (Ok out), inl (t, decodes, made), is)
+reply_of_compilation contents bytes file t (Err TooLarge) (Ok reply) decodes made is =
+    (rejected reply.output.items, (refl, (t, decodes, made, is.0)), (refl, is.1))
+reply_of_compilation contents bytes file t (Err (Map OutOfMemory)) (Ok reply) decodes made is = absurd (is.0 refl)
+reply_of_compilation contents bytes file t (Err (Map (CannotFlatten reason))) (Ok reply) decodes made is =
+    (answered (Err (CannotFlatten reason)), inl (t, decodes, made), is.1)
+reply_of_compilation contents bytes file t (Err (Map e)) (Ok reply) decodes made is = absurd made
+
+pub reply_of_no_map : (contents : WithContents) (bytes : List ℕ) (file : Result (List ℕ) Error) (e : Error)
+    (r : Result Reply Error) → UnlessMemory e (BytesDecode bytes (Err e))
+    → MatchResult r (IsReplyOf (Err e)) (λ e. e ≡ OutOfMemory)
+    → MatchResult r (RepliesOn (Compile contents) bytes file) (λ e. e ≡ OutOfMemory)
+reply_of_no_map contents bytes file e (Err f) h is = is
+reply_of_no_map contents bytes file e (Ok reply) h is =
+    (answered (Err e), inr (with_memory e (BytesDecode bytes (Err e)) is.0 h), is.1)
+
+-- words that ask for a command have its reply
+pub reply_of_command : (words : List (List ℕ)) (bytes : List ℕ) (file : Result (List ℕ) Error) (command : Command)
+    (r : Result Reply Error) → AskFor words command
+    → MatchResult r (RepliesOn command bytes file) (λ e. e ≡ OutOfMemory)
+    → MatchResult r (IsReplyTo words bytes file) (λ e. e ≡ OutOfMemory)
+reply_of_command words bytes file command (Err e) asked is = is
+reply_of_command words bytes file command (Ok reply) asked (answered a, ends, is) =
+    (answered a, (command, asked, ends), is)
+reply_of_command words bytes file command (Ok reply) asked (rejected text, ends, is) =
+    (rejected text, (command, asked, ends), is)
+reply_of_command words bytes file command (Ok reply) asked (misused, ends, is) = absurd ends
+
+pub reply_of_read_command : (words : List (List ℕ)) (bytes : List ℕ) (command : Command) (r : Result Reply Error)
+    → AskFor words command → WithFile (λ file. MatchResult r (RepliesOn command bytes file) (λ e. e ≡ OutOfMemory))
+    → WithFile (λ file. MatchResult r (IsReplyTo words bytes file) (λ e. e ≡ OutOfMemory))
+reply_of_read_command words bytes command r asked given =
+    with_file (λ file. MatchResult r (RepliesOn command bytes file) (λ e. e ≡ OutOfMemory))
     (λ file. MatchResult r (IsReplyTo words bytes file) (λ e. e ≡ OutOfMemory))
-    (λ file says. reply_of_command words bytes file command answer r asked says is) given
+    (λ file is. reply_of_command words bytes file command r asked is) given
 
 -- the reply to words that are no command is the usage
 pub reply_to_others : (file : Result (List ℕ) Error) (words : List (List ℕ)) (bytes : List ℕ) (r : Result Reply Error)
@@ -372,11 +488,12 @@ returns_alike (Compose path) t other a b ordered p q =
 returns_alike (Shift rows) (leaf l) other a b ordered p q = equal_alike a b (p ∙ sym q)
 returns_alike (Shift rows) (index parts ss) other a b ordered p q = shift_alike rows parts (section_list ss) a b p q
 returns_alike (Trace counting path) t other a b ordered p q = absurd p
+returns_alike (Compile contents) t other a b ordered p q = equal_alike a b (p ∙ sym q)
 
 reply_alike : (a b : Result (List ℕ) Error) → PrintAlike a b → (reply : Reply) → IsReply (answered a) reply
     → IsReply (answered b) reply
 reply_alike (Ok a) (Ok b) same reply is = (is.0 ∙ same, is.1)
-reply_alike (Err e) (Err f) same reply (refused, status) = (same (string_bytes reply.text) refused, status)
+reply_alike (Err e) (Err f) same reply (refusal, status) = (same reply.output.items refusal, status)
 reply_alike (Ok a) (Err f) same reply is = absurd same
 reply_alike (Err e) (Ok b) same reply is = absurd same
 
@@ -427,24 +544,43 @@ same_command (Trace counting path) (Trace counting' other) bytes file a (same, p
     subst (λ x. ReturnsOnBytes (Trace x path) bytes file a) same h
 same_command c d bytes file a same h = subst (λ x. ReturnsOnBytes x bytes file a) same h
 
+-- a command that is applied to a decoded map has its output for the map
+applied_says : (command : Command) (bytes : List ℕ) (file answer : Result (List ℕ) Error)
+    → is_applied command bytes ≡ true → EndsOn command bytes file (answered answer)
+    → ReturnsOnBytes command bytes file answer
+applied_says command bytes file answer is says = subst (λ applied. ReturnsBy applied command bytes file answer) is says
+
+applied_refuses_none : (command : Command) (bytes : List ℕ) (file : Result (List ℕ) Error) (text : List ℕ)
+    → is_applied command bytes ≡ true → ¬ EndsOn command bytes file (rejected text)
+applied_refuses_none command bytes file text is (unapplied, says) = let both : true ≡ false = sym is ∙ unapplied in cc
+
 pub replies_alike : (words : List (List ℕ)) (bytes : List ℕ) (file : Result (List ℕ) Error) (a b : Ending)
-    → Ends words bytes file a → Ends words bytes file b → (reply : Reply) → IsReply a reply → IsReply b reply
-replies_alike words bytes file (answered a) (answered b) (c, asked, says) (d, asked', says') reply is =
+    → AreApplied words bytes → Ends words bytes file a → Ends words bytes file b
+    → (reply : Reply) → IsReply a reply → IsReply b reply
+replies_alike words bytes file (answered a) (answered b) applied (c, asked, ends) (d, asked', ends') reply is =
+    let says = applied_says c bytes file a (applied c asked) ends in
+    let says' = applied_says d bytes file b (applied d asked') ends' in
     let due = same_command d c bytes file b (command_once words d c asked' asked) says' in
     let both = then_alike (BytesDecode bytes) (λ t a. ReturnsWithFile file c t a) (bytes_alike bytes)
     (λ t a b held p q. returns_with_alike file c t a b (bytes_in_order bytes t held) p q) a b says due in
     reply_alike a b both reply is
-replies_alike words bytes file (answered a) misused p none reply is = absurd (none p.0 p.1)
-replies_alike words bytes file misused (answered b) none q reply is = absurd (none q.0 q.1)
-replies_alike words bytes file misused misused p q reply is = is
+replies_alike words bytes file (rejected text) b applied (c, asked, ends) q reply is =
+    absurd (applied_refuses_none c bytes file text (applied c asked) ends)
+replies_alike words bytes file (answered a) (rejected text) applied p (d, asked, ends) reply is =
+    absurd (applied_refuses_none d bytes file text (applied d asked) ends)
+replies_alike words bytes file misused (rejected text) applied p (d, asked, ends) reply is =
+    absurd (applied_refuses_none d bytes file text (applied d asked) ends)
+replies_alike words bytes file (answered a) misused applied p none reply is = absurd (none p.0 p.1)
+replies_alike words bytes file misused (answered b) applied none q reply is = absurd (none q.0 q.1)
+replies_alike words bytes file misused misused applied p q reply is = is
 
 -- if a reply is correct for one ending that `Ends` allows for `words`, `bytes` and `file`, the reply is correct for
 -- every such ending
 pub only_reply : (words : List (List ℕ)) (bytes : List ℕ) (file : Result (List ℕ) Error) (r : Result Reply Error)
     → MatchResult r (IsReplyTo words bytes file) (λ e. e ≡ OutOfMemory)
-    → IfOk r (λ reply. (due : Ending) → Ends words bytes file due → IsReply due reply)
+    → IfOk r (λ reply. (due : Ending) → AreApplied words bytes → Ends words bytes file due → IsReply due reply)
 only_reply words bytes file (Ok reply) (ending, ends, is) =
-    λ due right. replies_alike words bytes file ending due ends right reply is
+    λ due applied right. replies_alike words bytes file ending due applied ends right reply is
 only_reply words bytes file (Err e) h = tt
 
 -- From a reader's bytes to the output.
@@ -466,6 +602,7 @@ reading_failed words command e asked h = UnlessMemory-from e (command, asked, h)
 any_bytes : (words : List (List ℕ)) (a b : List ℕ) (file : Result (List ℕ) Error) (reply : Reply) → AskForNone words
     → IsReplyTo words a file reply → IsReplyTo words b file reply
 any_bytes words a b file reply none (answered answer, ends, is) = absurd (none ends.0 ends.1)
+any_bytes words a b file reply none (rejected text, ends, is) = absurd (none ends.0 ends.1)
 any_bytes words a b file reply none (misused, ends, is) = (misused, ends, is)
 
 reply_for_bytes : (words : List (List ℕ)) (a b : List ℕ) (r : Result Reply Error)
@@ -497,6 +634,7 @@ may_end : (words : List (List ℕ)) (bytes : List ℕ) (file : Result (List ℕ)
     → Ends words bytes file ending → MayEnd words bytes file ending
 may_end words bytes file (answered (Ok text)) h = h
 may_end words bytes file (answered (Err e)) h = inl h
+may_end words bytes file (rejected text) h = h
 may_end words bytes file misused h = h
 
 reported_is_cut_short : (words : List (List ℕ)) (e reported : Error) → (reported ≡ e) ⊎ (reported ≡ OutOfMemory)
@@ -512,7 +650,7 @@ pub runs : (words : List (List ℕ)) (input : Option (List ℕ)) (made : Result 
     → MatchResult result (λ status. IsPrinted made status old new) IsWriteError
     → IfOk result (λ status. Runs words input status old new)
 runs words input (Ok reply) old new (Ok status) (bytes, of_input, (file, may, (ending, ends, is))) output =
-    (bytes, of_input, (file, may, (ending, may_end words bytes file ending ends, output.0 ∙ is.1, (string_bytes reply.text, is.0, output.1))))
+    (bytes, of_input, (file, may, (ending, may_end words bytes file ending ends, output.0 ∙ is.1, (reply.output.items, is.0, output.1))))
 runs words input (Err e) old new (Ok status) (bytes, of_input, (file, may, short)) (is, (reported, same, printed)) =
     (bytes, of_input, (file, may, (answered (Err reported), inr (reported_is_cut_short words e reported same short), is, printed)))
 runs words input made old new (Err e) h output = tt

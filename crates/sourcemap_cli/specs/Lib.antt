@@ -1,3 +1,5 @@
 pub mod Command
+pub mod Compiled
+pub mod Lines
 pub mod Program
 pub mod System

@@ -1,5 +1,5 @@
 -- The output and the exit status of a run.
-use Rattle.std.specs.Prelude.{◌≡◌, ◌≢◌, ℕ, List, [], ◌∷◌, ◌++◌, codes, flat_map, if◌then◌else◌, Option, Some, None, option_map, IfSome, Result, Ok, Err, IsOkAnd, String, Vec, string_bytes, ◌⊎◌}
+use Rattle.std.specs.Prelude.{◌≡◌, ◌≢◌, ℕ, List, [], ◌++◌, codes, flat_map, if◌then◌else◌, Option, Some, None, option_map, Result, Ok, Err, IsOkAnd, Bool, true, false, not, String, Vec, string_bytes, ◌⊎◌}
 use Rattle.std.specs.Fmt.{decimal}
 use Rattle.std.specs.Io.KnownBytes.{Appends}
 use Rattle.sourcemap.specs.Adjust.{adjusted}
@@ -14,25 +14,29 @@ use Rattle.sourcemap.specs.Shift.{HaveRowsLeft, shifted}
 use Rattle.sourcemap.specs.Token.{token_text, tokens_from, says, TokenValue}
 use Rattle.sourcemap.specs.TreeDecoder.{Then}
 use Rattle.sourcemap.specs.Trees.{LeafMap, regular, hermes, held, MapTree, leaf, index, MapSection, IndexParts, section_list, sections_from, lookup, meaning, IsInOrder}
-use Rattle.sourcemap.specs.Types.{MapValue}
+use Rattle.sourcemap.specs.Types.{MapValue, Meaning}
 use Rattle.sourcemap.specs.declared.errors.Error.{Error}
 use Rattle.sourcemap.specs.declared.errors.Error.TheVariants.{IncompatibleSourceMap, OutOfMemory}
 use Rattle.std.specs.declared.alloc.Global.{Global}
 use Rattle.std.specs.declared.io.Error.{Error as IoError}
+use Rattle.sourcemap_compiled.specs.Soundness.{IsSound}
+use Rattle.sourcemap_cache.specs.Errors.{error_text as compile_error_text}
+use Rattle.sourcemap_cache.specs.declared.errors.CompileError.{CompileError}
+use Rattle.sourcemap_cache.specs.declared.errors.CompileError.TheVariants.{Map, TooLarge}
+use Rattle.sourcemap_trace.specs.Asked.{compiled_says}
 use Rattle.sourcemap_trace.specs.Positions.{first_of}
 use Rattle.sourcemap_trace.specs.Trace.{meaning_text, trace_from}
 use Rattle.sourcemap_cli.specs.Command.{AskFor}
+use Rattle.sourcemap_cli.specs.Compiled.{CompilesTo, IsRefusedCompiled, IsTooLarge, compiled_line, is_compiled}
+use Rattle.sourcemap_cli.specs.Lines.{IsLineOf, newline}
 use Rattle.sourcemap_cli.specs.declared.command.Command.{Command}
-use Rattle.sourcemap_cli.specs.declared.command.Command.TheVariants.{Lookup, Tokens, Rewrite, Flatten, Compose, Shift, Trace}
+use Rattle.sourcemap_cli.specs.declared.command.Command.TheVariants.{Lookup, Tokens, Rewrite, Flatten, Compose, Shift, Trace, Compile}
 use Rattle.sourcemap_cli.specs.declared.program.Reply.{Reply}
-
-abbrev pub newline : List ℕ
-newline = 10 ∷ []
 
 abbrev pub usage_text : List ℕ
 usage_text =
     codes "usage: lookup [--from-1] LINE COL | tokens | rewrite | flatten | compose FILE | shift ROWS"
-    ++ codes " | trace [--from-1] FILE" ++ newline
+    ++ codes " | trace [--from-1] FILE | compile [--without-contents]" ++ newline
 
 -- the text of a token, with its original line and column counted from `first`; `none` if there is no token
 abbrev pub found_text : (first : ℕ) → Option TokenValue → List ℕ
@@ -89,15 +93,16 @@ abbrev pub rewritten_leaf : LeafMap → LeafMap
 rewritten_leaf (regular m) = regular (rewritten no_removal m)
 rewritten_leaf (hermes h) = hermes (hermes_rewritten no_removal h)
 
--- the answers to the positions in a file, counted from `first`. If the file could not be read, the result is the read
--- error
-abbrev pub traced : (first : ℕ) → MapTree → (file : Result (List ℕ) Error) → Result (List ℕ) Error
-traced first t (Ok positions) = Ok (trace_from first (meaning t) positions)
-traced first t (Err e) = Err e
+-- the answers to the positions in a file, counted from `first`, where `says` gives the meaning of a position. If the
+-- file could not be read, the result is the read error
+abbrev pub traced : (first : ℕ) → (says : ℕ × ℕ → Option Meaning) → (file : Result (List ℕ) Error)
+    → Result (List ℕ) Error
+traced first says (Ok positions) = Ok (trace_from first says positions)
+traced first says (Err e) = Err e
 
 -- the output of a command for a map, or the error of the command; `compose` also takes an adjustment. A map of the
 -- wrong kind is reported before other errors. `Returns` is false for `trace`, which also needs positions (see
--- `ReturnsWithFile`)
+-- `ReturnsWithFile`). `compile` prints no text (see `ReturnsElse`), and is refused
 abbrev pub Returns : Command → MapTree → Option MapTree → Result (List ℕ) Error → Type 0
 Returns (Lookup counting line col) t _ answer = IsOkAnd answer (IsLookupLine (first_of counting) t (line, col))
 Returns Tokens (leaf l) _ answer = answer ≡ Ok (flat_map token_line (tokens_from (held l) 0))
@@ -112,6 +117,7 @@ Returns (Compose _) t adjustment answer =
 Returns (Shift _) (leaf _) _ answer = answer ≡ Err IncompatibleSourceMap
 Returns (Shift rows) (index parts ss) _ answer = ShiftAnswer rows parts (section_list ss) answer
 Returns (Trace _ _) _ _ _ = ⊥
+Returns (Compile _) _ _ answer = answer ≡ Err IncompatibleSourceMap
 
 -- a file decodes to this map or to this error; the file is given as its bytes, or as the error of reading it
 abbrev pub FileDecodes : Result (List ℕ) Error → Result MapTree Error → Type 0
@@ -123,13 +129,44 @@ FileDecodes (Err e) decoded = decoded ≡ Err e
 abbrev pub ReturnsWithFile : Result (List ℕ) Error → Command → MapTree → Result (List ℕ) Error → Type 0
 ReturnsWithFile file (Compose path) t answer =
     Then (FileDecodes file) (λ other a. Returns (Compose path) t (Some other) a) answer
-ReturnsWithFile file (Trace counting _) t answer = answer ≡ traced (first_of counting) t file
+ReturnsWithFile file (Trace counting _) t answer = answer ≡ traced (first_of counting) (meaning t) file
 ReturnsWithFile file command t answer = Returns command t None answer
 
 -- the output of a command for the map in `bytes`, or the first error. Errors are checked in this order: decoding
 -- `bytes`; reading the file; decoding the file of `compose`; the command. Only `compose` and `trace` use the file
 abbrev pub ReturnsOnBytes : Command → (bytes : List ℕ) → (file : Result (List ℕ) Error) → Result (List ℕ) Error → Type 0
 ReturnsOnBytes command bytes file answer = Then (BytesDecode bytes) (λ t a. ReturnsWithFile file command t a) answer
+
+-- whether a command is applied to the map that the bytes decode to. `compile` is not, and neither is a lookup or a trace
+-- of bytes that begin as a compiled map
+abbrev pub is_applied : Command → (bytes : List ℕ) → Bool
+is_applied (Lookup _ _ _) bytes = not (is_compiled bytes)
+is_applied (Trace _ _) bytes = not (is_compiled bytes)
+is_applied (Compile _) bytes = false
+is_applied _ bytes = true
+
+-- the output of a command that is not applied to a decoded map. A compiled map is looked up only if it is sound
+abbrev pub ReturnsElse : Command → (bytes : List ℕ) → (file : Result (List ℕ) Error) → Result (List ℕ) Error → Type 0
+ReturnsElse (Lookup counting line col) bytes file answer =
+    IsSound bytes × (answer ≡ Ok (compiled_line (first_of counting) bytes (line, col)))
+ReturnsElse (Trace counting _) bytes file answer =
+    IsSound bytes × (answer ≡ traced (first_of counting) (compiled_says bytes) file)
+ReturnsElse (Compile contents) bytes file answer = Then (BytesDecode bytes) (λ t a. CompilesTo contents t a) answer
+ReturnsElse _ bytes file answer = ⊥
+
+-- the output of a command, or the first error
+abbrev pub ReturnsBy : (applied : Bool) → Command → (bytes : List ℕ) → (file : Result (List ℕ) Error)
+    → Result (List ℕ) Error → Type 0
+ReturnsBy true command bytes file answer = ReturnsOnBytes command bytes file answer
+ReturnsBy false command bytes file answer = ReturnsElse command bytes file answer
+
+-- a command that is not applied to a decoded map is refused with this text: the compiled map is damaged, or the map is
+-- too large to be compiled
+abbrev pub Refuses : Command → (bytes : List ℕ) → (text : List ℕ) → Type 0
+Refuses (Lookup _ _ _) bytes text = IsRefusedCompiled bytes text
+Refuses (Trace _ _) bytes text = IsRefusedCompiled bytes text
+Refuses (Compile contents) bytes text = IsTooLarge contents bytes text
+Refuses _ bytes text = ⊥
 
 -- Definitions for runs that are given words and the bytes of a map. For `compose` and `trace`, a run is also given the
 -- bytes of a file, or the error of reading it.
@@ -138,40 +175,65 @@ ReturnsOnBytes command bytes file answer = Then (BytesDecode bytes) (λ t a. Ret
 abbrev pub AskForNone : List (List ℕ) → Type 0
 AskForNone words = (command : Command) → ¬ AskFor words command
 
--- how a run ends: with the answer to a command, or with the usage
+-- how a run ends: with the answer to a command, with a refusal of this text, or with the usage
 pub data Ending : Type 0 where
   answered : Result (List ℕ) Error → Ending
+  rejected : List ℕ → Ending
   misused : Ending
+
+-- a command on these bytes and this file has this ending
+abbrev pub EndsOn : Command → (bytes : List ℕ) → (file : Result (List ℕ) Error) → Ending → Type 0
+EndsOn command bytes file (answered answer) = ReturnsBy (is_applied command bytes) command bytes file answer
+EndsOn command bytes file (rejected text) = (is_applied command bytes ≡ false) × Refuses command bytes text
+EndsOn command bytes file misused = ⊥
 
 -- a run with these words, these bytes and this file has this ending
 abbrev pub Ends : List (List ℕ) → (bytes : List ℕ) → (file : Result (List ℕ) Error) → Ending → Type 0
-Ends words bytes file (answered answer) =
-    (command : Command) × AskFor words command × ReturnsOnBytes command bytes file answer
 Ends words bytes file misused = AskForNone words
+Ends words bytes file ending = (command : Command) × AskFor words command × EndsOn command bytes file ending
+
+-- the words ask for no command but one that is applied to the map that the bytes decode to
+abbrev pub AreApplied : List (List ℕ) → (bytes : List ℕ) → Type 0
+AreApplied words bytes = (command : Command) → AskFor words command → is_applied command bytes ≡ true
 
 -- the text of an error and a newline. For an error of std (`Io`, `Utf8`), any text is allowed, because std specifies
 -- no text
 abbrev pub IsRefusal : Error → List ℕ → Type 0
-IsRefusal e text =
-    (line : List ℕ) × IfSome (error_text e) (λ known. line ≡ known) × (text ≡ line ++ newline)
+IsRefusal e text = IsLineOf (error_text e) text
 
 abbrev pub status_of : Ending → ℕ
 status_of (answered (Ok _)) = 0
 status_of (answered (Err _)) = 1
+status_of (rejected _) = 1
 status_of misused = 2
 
 abbrev pub Prints : Ending → List ℕ → Type 0
 Prints (answered (Ok text)) printed = printed ≡ text
 Prints (answered (Err e)) printed = IsRefusal e printed
+Prints (rejected text) printed = printed ≡ text
 Prints misused printed = printed ≡ usage_text
 
--- the reply has the text and the status of the ending
+-- the reply has the output and the status of the ending
 abbrev pub IsReply : Ending → Reply → Type 0
-IsReply ending reply = Prints ending (string_bytes reply.text) × (reply.status ≡ status_of ending)
+IsReply ending reply = Prints ending reply.output.items × (reply.status ≡ status_of ending)
 
--- the reply has the text and the status of an ending that `Ends` allows for these words, these bytes and this file
+-- the reply has the output and the status of an ending of the command on these bytes and this file
+abbrev pub RepliesOn : Command → (bytes : List ℕ) → (file : Result (List ℕ) Error) → Reply → Type 0
+RepliesOn command bytes file reply = (ending : Ending) × EndsOn command bytes file ending × IsReply ending reply
+
+-- the reply has the output and the status of an ending that `Ends` allows for these words, these bytes and this file
 abbrev pub IsReplyTo : List (List ℕ) → (bytes : List ℕ) → (file : Result (List ℕ) Error) → Reply → Type 0
 IsReplyTo words bytes file reply = (ending : Ending) × Ends words bytes file ending × IsReply ending reply
+
+-- a reply with the displayed text of an error, and status 1
+abbrev pub IsRefusedReply : (known : Option (List ℕ)) → Reply → Type 0
+IsRefusedReply known reply = IsLineOf known reply.output.items × (reply.status ≡ 1)
+
+-- the reply for what `compile` returned; there is no reply for `OutOfMemory`
+abbrev pub IsCompileReply : Result (List ℕ) CompileError → Reply → Type 0
+IsCompileReply (Ok bytes) reply = IsReply (answered (Ok bytes)) reply
+IsCompileReply (Err TooLarge) reply = IsRefusedReply (compile_error_text TooLarge) reply
+IsCompileReply (Err (Map e)) reply = (e ≢ OutOfMemory) × IsReply (answered (Err e)) reply
 
 -- the reply for the answer to a command; there is no reply for `OutOfMemory`
 abbrev pub IsReplyOf : Result (String Global) Error → Reply → Type 0
@@ -214,12 +276,12 @@ abbrev pub PrintsRefusal : Error → Option (List ℕ) → Option (List ℕ) →
 PrintsRefusal e old new = (reported : Error) × ((reported ≡ e) ⊎ (reported ≡ OutOfMemory))
     × ((printed : List ℕ) × IsRefusal reported printed × Appends old new printed)
 
--- `Ok reply`: the text of the reply was printed, and the run ended with the status of the reply. `Err e`: the error was
+-- `Ok reply`: the output of the reply was printed, and the run ended with the status of the reply. `Err e`: the error was
 -- printed as `PrintsRefusal` states, and the run ended with status 1. `old` and `new` are the contents of standard
 -- output before and after the run.
 abbrev pub IsPrinted : Result Reply Error → ℕ → Option (List ℕ) → Option (List ℕ) → Type 0
 IsPrinted (Ok reply) status old new =
-    (status ≡ reply.status) × Appends old new (string_bytes reply.text)
+    (status ≡ reply.status) × Appends old new reply.output.items
 IsPrinted (Err e) status old new = (status ≡ 1) × PrintsRefusal e old new
 
 -- an error of a writer

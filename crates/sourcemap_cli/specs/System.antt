@@ -6,7 +6,7 @@ use Rattle.std.specs.declared.io.ErrorKind.TheVariants.{BrokenPipe}
 use Rattle.sourcemap.specs.Errors.{error_text}
 use Rattle.sourcemap.specs.declared.errors.Error.{Error}
 use Rattle.sourcemap.specs.declared.errors.Error.TheVariants.{Io}
-use Rattle.sourcemap_cli.specs.Program.{newline}
+use Rattle.sourcemap_cli.specs.Lines.{newline}
 
 -- an error of writing to a closed pipe
 abbrev pub IsReaderGone : Error → Type 0

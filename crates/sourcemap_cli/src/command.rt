@@ -5,11 +5,15 @@ ghost use Rattle.sourcemap_trace.specs.Positions.{first_of};
 ghost use Rattle.sourcemap_cli.specs.Command.{AskFor, IsNumber, IsSameCommand, counted_words};
 
 use sourcemap::Result;
+use sourcemap_cache::parts::WithContents;
 use sourcemap_trace::Counting;
 use std::alloc::Global;
 
 // The word that says that lines and columns count from 1.
 const FROM_1: &str = "--from-1";
+
+// The word that leaves the contents of sources out of a compiled map.
+const WITHOUT_CONTENTS: &str = "--without-contents";
 
 /// A command of the program, with its arguments. Positions are kept counted from 0.
 #[derive(Debug, PartialEq, Eq, Drop)]
@@ -29,6 +33,9 @@ pub enum Command {
     /// `trace FILE`, `trace --from-1 FILE`: the closest token to each generated position that this
     /// file lists.
     Trace(Counting, String),
+    /// `compile`, `compile --without-contents`: the compiled map, with or without the contents of
+    /// its sources.
+    Compile(WithContents),
 }
 
 // Accepts only decimal digits. `parse` alone would also accept a `+` before them.
@@ -79,6 +86,17 @@ fn trace_command(alloc: Global, counting: Counting, file: &str) -> Result<Option
     Ok(Some(Command::Trace(counting, path)))
 }
 
+fn compile_command(word: &str) -> Option<Command>
+    ensures { MatchOption result
+        ((command : _) → ¬ AskFor (codes "compile" ∷ word.now ∷ []) command)
+        (AskFor (codes "compile" ∷ word.now ∷ [])) }
+{
+    if word != WITHOUT_CONTENTS {
+        return None;
+    }
+    Some(Command::Compile(WithContents::No))
+}
+
 fn parse_verb(verb: &str) -> Option<Command>
     ensures { MatchOption result
         ((command : _) → ¬ AskFor (verb.now ∷ []) command)
@@ -88,6 +106,7 @@ fn parse_verb(verb: &str) -> Option<Command>
         "tokens" => Some(Command::Tokens),
         "rewrite" => Some(Command::Rewrite),
         "flatten" => Some(Command::Flatten),
+        "compile" => Some(Command::Compile(WithContents::Yes)),
         _ => None,
     }
 }
@@ -103,6 +122,7 @@ fn parse_verb_and_argument(alloc: Global, verb: &str, argument: &str) -> Result<
         "compose" => Ok(Some(Command::Compose(String::from_str(alloc, argument)?))),
         "shift" => Ok(shift_command(argument)),
         "trace" => trace_command(alloc, Counting::From0, argument),
+        "compile" => Ok(compile_command(argument)),
         _ => Ok(None),
     }
 }

@@ -3,6 +3,7 @@
 #![tactic(auto)]
 
 pub mod command;
+pub mod compiled;
 mod files;
 pub mod maps;
 pub mod output;

@@ -9,7 +9,8 @@ ghost use Rattle.sourcemap.specs.declared.errors.Error.TheVariants.{OutOfMemory}
 ghost use Rattle.sourcemap_cli.specs.Command.{IsOfMaps, TakesAdjustment};
 ghost use Rattle.sourcemap_trace.specs.Positions.{first_of};
 ghost use Rattle.sourcemap_trace.specs.Trace.{meaning_text};
-ghost use Rattle.sourcemap_cli.specs.Program.{IsJsonLine, Returns, newline, range_mark, token_line};
+ghost use Rattle.sourcemap_cli.specs.Lines.{newline};
+ghost use Rattle.sourcemap_cli.specs.Program.{IsJsonLine, Returns, range_mark, token_line};
 ghost use Rattle.sourcemap_cli.specs.declared.command.Command.TheVariants.{Compose, Flatten, Lookup, Rewrite, Shift, Tokens};
 
 use crate::command::Command;
@@ -175,6 +176,7 @@ pub(crate) fn adjusted_json(
 /// - `IncompatibleSourceMap` if `Tokens` or `Rewrite` gets an index map.
 /// - `IncompatibleSourceMap` if `Flatten` or `Shift` gets a map that is not an index map.
 /// - `IncompatibleSourceMap` if `Compose` gets a map or an adjustment that is not regular.
+/// - `IncompatibleSourceMap` for `Compile`, whose output is no text; use `sourcemap_cache::compile`.
 /// - `IncompatibleSourceMap` if `Compose` would move a token past column 4294967295.
 /// - `IncompatibleSourceMap` if `Shift` would move a section past row 4294967295.
 /// - `CannotFlatten` if `SourceMapIndex::flatten` returns it for the map that `Flatten` gets.
@@ -204,5 +206,6 @@ pub fn apply<F: Files>(
         },
         Command::Shift(rows) => shifted_json(alloc, map, *rows),
         Command::Trace(_, _) => Err(Error::IncompatibleSourceMap),
+        Command::Compile(_) => Err(Error::IncompatibleSourceMap),
     }
 }

@@ -65,7 +65,7 @@ fn replies_with(rt: &HostRuntime, words: &[String], row: &Row<'_>) -> Result<boo
     let bytes = Vec::from_slice(rt.alloc(), row.input.as_bytes())?;
     let file = Vec::from_slice(rt.alloc(), row.file.as_bytes())?;
     let reply = reply_to(rt, rt.alloc(), words, bytes, Ok(file))?;
-    Ok(reply.status == row.status && is_line(reply.text.as_bytes(), row.text))
+    Ok(reply.status == row.status && is_line(reply.output.as_slice(), row.text))
 }
 
 // Whether a run with these files prints this line and ends with this status.
@@ -150,7 +150,7 @@ fn read_errors_of_files_are_reported(rt: HostRuntime) -> Result<(), Fail> {
     let bytes = Vec::from_slice(rt.alloc(), MAP.as_bytes())?;
     let cause = io::Error::from(ErrorKind::NotFound);
     let reply = reply_to(&rt, rt.alloc(), words.as_slice(), bytes, Err(cause.into()))?;
-    assert!(rt; reply.status == 1 && is_line(reply.text.as_bytes(), "entity not found"));
+    assert!(rt; reply.status == 1 && is_line(reply.output.as_slice(), "entity not found"));
     Ok(())
 }
 

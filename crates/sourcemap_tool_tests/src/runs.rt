@@ -1,6 +1,7 @@
 // Tests of `run`, `reply_to`, `parse_words` and `apply`.
 use crate::memory::unless_out;
 use sourcemap::decode_slice;
+use sourcemap_cache::WithContents;
 use sourcemap_cli::command::{Command, parse_words};
 use sourcemap_cli::output::apply;
 use sourcemap_cli::program::{reply_to, run};
@@ -12,10 +13,10 @@ pub const MAP: &str =
     r#"{"version":3,"sources":["coolstuff.js"],"names":["x","alert"],"mappings":"AAAA,GAAIA,GAAI,EACR,IAAIA,GAAK,EAAG,CACVC,MAAM"}"#;
 
 pub const USAGE: &str =
-    "usage: lookup [--from-1] LINE COL | tokens | rewrite | flatten | compose FILE | shift ROWS | trace [--from-1] FILE\n";
+    "usage: lookup [--from-1] LINE COL | tokens | rewrite | flatten | compose FILE | shift ROWS | trace [--from-1] FILE | compile [--without-contents]\n";
 
 // Words, a map, and the status and output of the run.
-const RUNS: &str = r#"lookup 0 5|MAP|0 coolstuff.js:0:4 name=x
+pub const RUNS: &str = r#"lookup 0 5|MAP|0 coolstuff.js:0:4 name=x
 lookup 0 0|MAP|0 coolstuff.js:0:0
 lookup 0 18|MAP|0 coolstuff.js:2:2 name=alert
 lookup 1 0|MAP|0 coolstuff.js:2:8
@@ -160,7 +161,11 @@ trace a.txt --from-1
 trace --from-1 a.txt b.txt
 trace --from-0 a.txt
 --from-1 trace a.txt
-Trace a.txt";
+Trace a.txt
+compile --with-contents
+compile --without-contents --without-contents
+--without-contents compile
+Compile";
 
 pub fn words_of(alloc: Global, line: &str) -> Result<Vec<String>, AllocError> {
     let mut words = Vec::new(alloc);
@@ -197,7 +202,7 @@ fn is_reply(
 ) -> Result<bool, Fail> {
     let bytes = Vec::from_slice(rt.alloc(), input.as_bytes())?;
     let reply = reply_to(rt, rt.alloc(), words, bytes, Ok(Vec::new(rt.alloc())))?;
-    Ok(reply.status == status && reply.text.as_str() == text)
+    Ok(reply.status == status && reply.output.as_slice() == text.as_bytes())
 }
 
 // Whether `reply_to` returns this status and text, and `run` returns this status and prints this
@@ -219,18 +224,23 @@ fn is_answered(
     )
 }
 
-// Checks a row of `RUNS`.
-fn is_met(rt: &HostRuntime, row: &str) -> Result<bool, Fail> {
-    let (line, rest) = row.split_once('|').ok_or("a short row")?;
-    let (input, want) = rest.split_once('|').ok_or("a short row")?;
-    let (status, text) = want.split_once(' ').ok_or("a short row")?;
-    let input = match input {
+/// The input of a row of `RUNS`.
+pub fn named_input(input: &str) -> &str {
+    match input {
         "MAP" => MAP,
         "TWO" => TWO,
         "LINK" => LINK,
         "HERMES" => HERMES,
         text => text,
-    };
+    }
+}
+
+// Checks a row of `RUNS`.
+fn is_met(rt: &HostRuntime, row: &str) -> Result<bool, Fail> {
+    let (line, rest) = row.split_once('|').ok_or("a short row")?;
+    let (input, want) = rest.split_once('|').ok_or("a short row")?;
+    let (status, text) = want.split_once(' ').ok_or("a short row")?;
+    let input = named_input(input);
     let text = format!(in rt.alloc(); "{text}\n")?;
     is_answered(rt, line, input, status.parse()?, text.as_str())
 }
@@ -295,6 +305,10 @@ fn words_ask_for_commands(rt: HostRuntime) -> Result<(), Fail> {
     assert!(rt; ask_for(alloc, "trace a.txt", Some(command))?);
     let command = Command::Trace(Counting::From1, String::from_str(alloc, "a.txt")?);
     assert!(rt; ask_for(alloc, "trace --from-1 a.txt", Some(command))?);
+    let command = Command::Compile(WithContents::Yes);
+    assert!(rt; ask_for(alloc, "compile", Some(command))?);
+    let command = Command::Compile(WithContents::No);
+    assert!(rt; ask_for(alloc, "compile --without-contents", Some(command))?);
     assert!(rt; ask_for(alloc, "tokens tokens", None)?);
     Ok(())
 }

@@ -4,7 +4,7 @@ use crate::memory::unless_out;
 use crate::runs::{MAP, TWO, words_of};
 use sourcemap::{DecodedMap, Error, decode_slice};
 use sourcemap_cli::program::{reply_to, run};
-use sourcemap_trace::{Counting, trace_text, trace_text_from};
+use sourcemap_trace::{AskedMap, Counting, trace_text, trace_text_from};
 use std::alloc::Global;
 use std::io;
 use std::io::ErrorKind;
@@ -148,7 +148,7 @@ fn trace(
 ) -> Result<String, Error> {
     match counting {
         Counting::From0 => trace_text(alloc, map, positions),
-        Counting::From1 => trace_text_from(alloc, map, positions, counting),
+        Counting::From1 => { trace_text_from(alloc, AskedMap::Decoded(map), positions, counting) }
     }
 }
 
@@ -273,7 +273,7 @@ fn replies_with(
     let bytes = Vec::from_slice(rt.alloc(), map.as_bytes())?;
     let file = Vec::from_slice(rt.alloc(), positions.as_bytes())?;
     let reply = reply_to(rt, rt.alloc(), words, bytes, Ok(file))?;
-    Ok(reply.status == 0 && reply.text.as_str() == text)
+    Ok(reply.status == 0 && reply.output.as_slice() == text.as_bytes())
 }
 
 // Whether `reply_to` and a run answer these words as the row says, and the run opens the file.
@@ -345,6 +345,6 @@ fn read_errors_of_positions_are_reported(rt: HostRuntime) -> Result<(), Fail> {
     let bytes = Vec::from_slice(rt.alloc(), MAP.as_bytes())?;
     let cause = io::Error::from(ErrorKind::NotFound);
     let reply = reply_to(&rt, rt.alloc(), words.as_slice(), bytes, Err(cause.into()))?;
-    assert!(rt; reply.status == 1 && reply.text.as_str() == "entity not found\n");
+    assert!(rt; reply.status == 1 && reply.output.as_slice() == b"entity not found\n");
     Ok(())
 }

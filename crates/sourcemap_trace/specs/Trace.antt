@@ -1,6 +1,6 @@
 -- The answers to a list of positions: one answer for each line of the list, in order. Lines and columns count from
 -- `first` in the list and in the answers.
-use Rattle.std.specs.Prelude.{ℕ, ◌+◌, List, ◌++◌, codes, flat_map, Option, Some, None}
+use Rattle.std.specs.Prelude.{ℕ, ◌+◌, List, ◌++◌, codes, false, flat_map, Option, Some, None}
 use Rattle.sourcemap.specs.Token.{token_text}
 use Rattle.sourcemap.specs.Types.{Meaning}
 use Rattle.sourcemap_trace.specs.Positions.{lines_of, position_of}
@@ -14,6 +14,11 @@ counted first says = record {
   name = says.name;
   is_range = says.is_range;
 }
+
+-- the text of a token with these parts
+abbrev pub parts_text : (source : Option (List ℕ)) → (line column : ℕ) → (name : Option (List ℕ)) → List ℕ
+parts_text source line column name =
+    token_text (record { source = source; line = line; column = column; name = name; is_range = false })
 
 -- the text of the meaning of a position, for example `a.js:3:4 name=f`. The meaning is what the closest token says. If
 -- there is no closest token, the text is `none`

@@ -1,5 +1,6 @@
 //! The answers of a map to a list of positions. The list has one position on each line.
 ghost use Rattle.std.specs.Prelude.{◌≡◌, ◌≢◌, ◌++◌, ℕ, List, codes, Some, None, Ok, IsOkUnless, OnOk, option_map, string_bytes};
+ghost use Rattle.std.specs.Option.{option_copied};
 ghost use Rattle.sourcemap.specs.Answer.{Gives};
 ghost use Rattle.sourcemap.specs.AnyMap.{map_tree};
 ghost use Rattle.sourcemap.specs.Decoder.{ValueDecodes};
@@ -10,9 +11,11 @@ ghost use Rattle.sourcemap.specs.TreeEncoder.{Restores};
 ghost use Rattle.sourcemap.specs.Trees.{IsInOrder, MapTree, MeansTheSame, leaf, meaning, regular};
 ghost use Rattle.sourcemap.specs.Types.{MapValue};
 ghost use Rattle.sourcemap.specs.declared.errors.Error.TheVariants.{OutOfMemory};
+ghost use Rattle.sourcemap_trace.specs.Asked.{IsExact, asked_meaning};
 ghost use Rattle.sourcemap_trace.specs.Positions.{first_of};
-ghost use Rattle.sourcemap_trace.specs.Trace.{answer_at, answer_to, counted, meaning_text, trace_from, trace_of};
+ghost use Rattle.sourcemap_trace.specs.Trace.{answer_at, answer_to, counted, meaning_text, parts_text, trace_from, trace_of};
 
+use crate::asked::{AskedMap, push_original};
 use crate::positions::{Counting, next_position};
 use sourcemap::laws::answers_are_determined;
 use sourcemap::{DecodedMap, Result, Token};
@@ -37,21 +40,22 @@ pub fn trace_text(alloc: Global, map: &DecodedMap, positions: &[u8]) -> Result<S
         (Ok (trace_of (meaning (map_tree map.now)) positions.now)) }
     ensures memory { IsOkUnless result OutOfMemory }
 {
-    trace_text_from(alloc, map, positions, Counting::From0)
+    trace_text_from(alloc, AskedMap::Decoded(map), positions, Counting::From0)
 }
 
-/// Returns what `trace_text` returns, with lines and columns that count from 0 or from 1, both in
-/// the list and in the answers. If they count from 1, a line or a column of 0 makes a line a `bad
-/// position`, the greatest number of a position is 4294967296, and an answer has the original line
-/// and column plus 1.
+/// Returns what `trace_text` returns, for a decoded or a compiled map, with lines and columns that
+/// count from 0 or from 1, both in the list and in the answers. If they count from 1, a line or a
+/// column of 0 makes a line a `bad position`, the greatest number of a position is 4294967296, and
+/// an answer has the original line and column plus 1. In a compiled map that `verify` refuses, an
+/// answer may be that of another token, without texts that cannot be read.
 pub fn trace_text_from(
     alloc: Global,
-    map: &DecodedMap,
+    map: AskedMap<'_>,
     positions: &[u8],
     counting: Counting,
 ) -> Result<String>
-    ensures text { IsInOrder (map_tree map.now) → Gives string_bytes result
-        (Ok (trace_from (first_of counting) (meaning (map_tree map.now)) positions.now)) }
+    ensures text { IsExact map.entry → Gives string_bytes result
+        (Ok (trace_from (first_of counting) (asked_meaning map.entry) positions.now)) }
     ensures memory { IsOkUnless result OutOfMemory }
 {
     let mut text = String::new(alloc);
@@ -68,13 +72,13 @@ pub fn trace_text_from(
 // position; the answer is then `bad position`.
 fn push_answer(
     text: &mut String,
-    map: &DecodedMap,
+    map: AskedMap<'_>,
     position: Option<(u32, u32)>,
     counting: Counting,
 ) -> Result<()>
-    ensures answer { IsInOrder (map_tree map.now) → OnOk result (string_bytes text.new
+    ensures answer { IsExact map.entry → OnOk result (string_bytes text.new
         ≡ string_bytes text.old
-        ++ (answer_at (first_of counting) (meaning (map_tree map.now)) position ++ codes "\n")) }
+        ++ (answer_at (first_of counting) (asked_meaning map.entry) position ++ codes "\n")) }
     ensures memory { IsOkUnless result OutOfMemory }
 {
     match position {
@@ -89,18 +93,18 @@ fn push_answer(
 // Appends to `text` the answer for the position (`line`, `col`), then a newline.
 fn push_closest(
     text: &mut String,
-    map: &DecodedMap,
+    map: AskedMap<'_>,
     line: u32,
     col: u32,
     counting: Counting,
 ) -> Result<()>
-    ensures answer { IsInOrder (map_tree map.now) → OnOk result (string_bytes text.new
+    ensures answer { IsExact map.entry → OnOk result (string_bytes text.new
         ≡ string_bytes text.old
-        ++ (answer_at (first_of counting) (meaning (map_tree map.now)) (Some (line, col))
+        ++ (answer_at (first_of counting) (asked_meaning map.entry) (Some (line, col))
         ++ codes "\n")) }
     ensures memory { IsOkUnless result OutOfMemory }
 {
-    push_found(text, map.lookup_token(line, col), counting)?;
+    push_original(text, map, line, col, counting)?;
     text.push_str("\n")?;
     Ok(())
 }
@@ -141,11 +145,27 @@ fn push_token_from_1(text: &mut String, token: Token<'_>) -> Result<()>
         ++ token_text (counted 1 (meaning_of_token token.entry))) }
     ensures memory { IsOkUnless result OutOfMemory }
 {
-    let source = token.get_source().unwrap_or("<unknown>");
     let line = u64::from(token.get_src_line()) + 1;
     let column = u64::from(token.get_src_col()) + 1;
+    push_parts(text, token.get_source(), line, column, token.get_name())
+}
+
+/// Appends a source, a line, a column and a name, as `Display` of a token writes them. The only
+/// error is `OutOfMemory`.
+pub(crate) fn push_parts(
+    text: &mut String,
+    source: Option<&str>,
+    line: u64,
+    column: u64,
+    name: Option<&str>,
+) -> Result<()>
+    ensures text { OnOk result (string_bytes text.new ≡ string_bytes text.old
+        ++ parts_text (option_copied source.entry) line column (option_copied name.entry)) }
+    ensures memory { IsOkUnless result OutOfMemory }
+{
+    let source = source.unwrap_or("<unknown>");
     write!(text, "{source}:{line}:{column}")?;
-    if let Some(name) = token.get_name() {
+    if let Some(name) = name {
         write!(text, " name={name}")?;
     }
     Ok(())

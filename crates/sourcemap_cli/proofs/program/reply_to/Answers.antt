@@ -9,12 +9,11 @@ use Rattle.sourcemap_cli.proofs.program.reply_to.Goals as goal
 pub returns-in-Some-clause-answer : goal.returns-in-Some-clause-answer
 returns-in-Some-clause-answer g c =
     reply_of_command (map string_bytes c.args.words.now) c.args.bytes.items (file_read c.args.file) c.in-Some.command
-    c.execute_on_bytes-answer.result c.into_reply.result (rw c.in-Some.is at c.in_ok-command.ensures)
-    c.execute_on_bytes-answer.ensures c.into_reply.ensures
+    c.reply_to_command.result (rw c.in-Some.is at c.in_ok-command.ensures) c.reply_to_command.ensures
 
 pub returns-in-Some-clause-only : goal.returns-in-Some-clause-only
 returns-in-Some-clause-only g c =
-    only_reply (map string_bytes c.args.words.now) c.args.bytes.items (file_read c.args.file) c.into_reply.result
+    only_reply (map string_bytes c.args.words.now) c.args.bytes.items (file_read c.args.file) c.reply_to_command.result
     (returns-in-Some-clause-answer g c)
 
 pub returns-in-None-clause-answer : goal.returns-in-None-clause-answer

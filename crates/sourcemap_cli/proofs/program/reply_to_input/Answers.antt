@@ -8,10 +8,9 @@ pub returns-in_ok-bytes-in-Some-clause-answer : goal.returns-in_ok-bytes-in-Some
 returns-in_ok-bytes-in-Some-clause-answer g c =
     reply_of_reader (map string_bytes c.args.words.now) (g.R.Read.remaining c.args.input.now)
     c.in_ok-bytes-in-Some.bytes.items
-    c.into_reply.result (inr c.in_ok-bytes-in-Some.ensures)
+    c.reply_and_read_file.result (inr c.in_ok-bytes-in-Some.ensures)
     (reply_of_read_command (map string_bytes c.args.words.now) c.in_ok-bytes-in-Some.bytes.items c.in-Some.command
-    c.execute_and_read_file-answer.result c.into_reply.result (rw c.in-Some.is at c.in_ok-command.ensures)
-    c.execute_and_read_file-answer.ensures c.into_reply.ensures)
+    c.reply_and_read_file.result (rw c.in-Some.is at c.in_ok-command.ensures) c.reply_and_read_file.ensures)
 
 pub returns-in_err-bytes-in-Some-clause-answer : goal.returns-in_err-bytes-in-Some-clause-answer
 returns-in_err-bytes-in-Some-clause-answer g c =

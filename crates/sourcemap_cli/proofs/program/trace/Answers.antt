@@ -1,6 +1,5 @@
 -- For a map with sorted sections, the output is `trace_from` for the positions in the file. If the file cannot be read,
 -- the result is the error of reading.
-use Rattle.sourcemap.specs.AnyMap.{map_tree}
 use Rattle.sourcemap_cli.proofs.ProgramLemmas.{answers_due}
 use Rattle.sourcemap_errors.proofs.AnswerLemmas.{UnlessMemory-from}
 use Rattle.std.proofs.Common.{refl}

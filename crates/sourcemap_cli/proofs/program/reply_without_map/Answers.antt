@@ -1,0 +1,17 @@
+-- What is not applied to a decoded map compiles or asks.
+use Rattle.sourcemap_cli.specs.Program.{file_read}
+use Rattle.sourcemap_cli.proofs.ProgramLemmas.{questions_left}
+use Rattle.sourcemap_cli.proofs.program.reply_without_map.Goals as goal
+
+pub returns-in-Compile : goal.returns-in-Compile
+returns-in-Compile c = rw c.in-Compile.is (c.compile_reply.ensures (file_read c.args.file))
+
+pub compiled_reply-requires-clause-question : goal.compiled_reply-requires-clause-question
+compiled_reply-requires-clause-question c =
+    questions_left c.args.command.now c.args.bytes.items c.requires c.in_default.not-Compile
+
+pub compiled_reply-requires-clause-compiled : goal.compiled_reply-requires-clause-compiled
+compiled_reply-requires-clause-compiled c = rw c.as_slice.ensures.value c.requires
+
+pub returns-in_default : goal.returns-in_default
+returns-in_default c = rw c.as_slice.ensures.value at c.compiled_reply.ensures
