@@ -30,12 +30,7 @@ pub extern "C" fn sm_compile(
     finish(alloc, compile(alloc, map, with_contents, bytes), error)
 }
 
-fn compile(
-    alloc: Global,
-    map: &mut Handle,
-    with_contents: bool,
-    bytes: &mut Handle,
-) -> Outcome<()>
+fn compile(alloc: Global, map: &mut Handle, with_contents: bool, bytes: &mut Handle) -> Outcome<()>
     ensures written { Does result
         (HoldsCompiled (choice_of with_contents) (tree_in (held_in map.old)) (bytes_in (held_in bytes.new)))
         (OfLibraryOrKind (FailsToCompile (choice_of with_contents) (tree_in (held_in map.old)))
