@@ -345,6 +345,6 @@ fn read_errors_of_positions_are_reported(rt: HostRuntime) -> Result<(), Fail> {
     let bytes = Vec::from_slice(rt.alloc(), MAP.as_bytes())?;
     let cause = io::Error::from(ErrorKind::NotFound);
     let reply = reply_to(&rt, rt.alloc(), words.as_slice(), bytes, Err(cause.into()))?;
-    assert!(rt; reply.status == 1 && reply.output.as_slice() == b"entity not found\n");
+    assert!(rt; reply.status == 1 && reply.output.as_slice() == b"entity not found\n".as_slice());
     Ok(())
 }
