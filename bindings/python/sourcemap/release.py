@@ -471,7 +471,10 @@ def _id_in(text: bytes) -> Optional[uuid.UUID]:
 
 def _embedded_in(path: Path) -> str:
     """The `data:` URL that the generated text in a file refers to; empty if it has changed."""
-    reference = locate_reference(path.read_bytes())
+    try:
+        reference = locate_reference(path.read_bytes())
+    except SourceMapError:  # a line is not UTF-8
+        return ''
     return '' if reference is None else reference.url
 
 

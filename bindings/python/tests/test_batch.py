@@ -136,6 +136,14 @@ class Rows(Tables):
         self.assertEqual(found.context_line.tolist(), ['one', 'two', 'three', 'x' * 200, 'x' * 200, smile * 100, None])
         self.assertEqual(found.source_column.tolist(), [1, 1, 1, 1, 145, 145, 145])
 
+    def test_lists_of_contents(self) -> None:
+        """They may be shorter or longer than that of sources."""
+        for contents, lines in [(['one'], ['one', None]), ([None, 'two', 'three'], [None, 'two']), ([], [None, None]),
+                                (['', ''], ['', ''])]:
+            self.put('app.js.map', regular('AAAA,CCAA', ['a.js', 'b.js'], sourcesContent=contents))
+            found = self.symbolicate(1, [1, 2])
+            self.assertEqual((found.source.tolist(), found.context_line.tolist()), (['a.js', 'b.js'], lines))
+
     def test_long_texts_are_cut(self) -> None:
         self.put('app.js.map', regular('AAAAA', ['s' * 5000], names=['n' * 5000]))
         found = self.symbolicate([1], [1])

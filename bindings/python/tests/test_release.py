@@ -309,9 +309,10 @@ class BadMaps(Folder):
             self.put('app.js', f'//# sourceMappingURL={map.to_data_url()}')
         release = self.release()
         self.assertTrue(release.find('app.js').embedded)
-        self.put('app.js', 'run();')
-        with self.assertRaises(ValueError):
-            release.open('app.js')
+        for data in b'run();', b'\xff':
+            put(self.root, 'app.js', data)
+            with self.assertRaises(ValueError):
+                release.open('app.js')
 
 
 class Objects(Folder):

@@ -199,12 +199,13 @@ class OpenedMap:
         return self._lines
 
     def _find_lines(self) -> Optional[_Lines]:
-        """None if no source has contents. Only then are there fewer places for contents than sources."""
+        """None if no source has contents. There may be more places for contents than sources, or fewer."""
         numbers = np.arange(self._contents) + (self._sources + self._names + self._scopes + 1)
-        is_there = self._offsets[numbers + 1] > self._offsets[numbers]
-        if not is_there.any() or self._contents < self._sources:
+        missing = (0, max(0, self._sources - self._contents))
+        is_there = np.pad(self._offsets[numbers + 1] > self._offsets[numbers], missing)
+        if not is_there.any():
             return None
-        starts, ends = self._spans(numbers)
+        starts, ends = (np.pad(places, missing) for places in self._spans(numbers))
         low, high = int(starts[is_there].min()), int(ends[is_there].max())
         chunks = [self._breaks_in(at, min(at + _CHUNK, high)) for at in range(low, high, _CHUNK)]
         breaks = np.concatenate([*chunks, [0]])
