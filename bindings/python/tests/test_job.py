@@ -329,7 +329,7 @@ class Errors(Jobs):
         # the cache: nothing is left that another run would find
         small = self.top / 'small'
         small.mkdir()
-        subprocess.run(['mount', '-t', 'tmpfs', '-o', 'size=64k', 'none', small], check=True)
+        subprocess.run(['mount', '-t', 'tmpfs', '-o', 'size=8k', 'none', small], check=True)
         self.addCleanup(subprocess.run, ['umount', small], check=True)
         self.check(frames, 'No space left on device', '--workers', 1, '--cache', small / 'cache')
         self.assertEqual([path for path in small.glob('cache/*/.*')], [])
