@@ -4,6 +4,7 @@ use sourcemap_core::interner::Interner;
 use sourcemap_core::tokens::NO_ID;
 use sourcemap_interning::text_index::TextIndex;
 use sourcemap_test_support::checks::{Checked, check, check_that};
+use sourcemap_test_support::results::owned_text;
 use std::alloc::Global;
 use std::hash::{DefaultHasher, FoldHasher, Hasher};
 
@@ -77,7 +78,7 @@ fn numbering_text(alloc: Global, start: &str, end: &str, count: usize) -> Result
         None => false,
     };
     let is_other = index.contains(other.as_str());
-    Ok(format!(in alloc; "{first} {again} {is_there} {is_other}")?)
+    owned_text(format!(in alloc; "{first} {again} {is_there} {is_other}"))
 }
 
 #[test]
@@ -156,12 +157,12 @@ fn interned_texts(alloc: Global) -> Result<String> {
         interner.get(4),
         interner.get(NO_ID),
     );
-    Ok(format!(in alloc; "{} {texts:?}", interner.len())?)
+    owned_text(format!(in alloc; "{} {texts:?}", interner.len()))
 }
 
 fn texts_text(alloc: Global) -> Result<String> {
     let texts = fill_interner(alloc)?.into_texts();
-    Ok(format!(in alloc; "{texts:?}")?)
+    owned_text(format!(in alloc; "{texts:?}"))
 }
 
 #[test]
@@ -200,7 +201,7 @@ fn interning_text(alloc: Global, texts: Result<Vec<String>>) -> Result<String> {
     let mut interner = Interner::new(alloc);
     let first = count_interned(&mut interner, texts.as_slice())?;
     let again = count_interned(&mut interner, texts.as_slice())?;
-    Ok(format!(in alloc; "{first} {again} of {}", interner.len())?)
+    owned_text(format!(in alloc; "{first} {again} of {}", interner.len()))
 }
 
 #[test]

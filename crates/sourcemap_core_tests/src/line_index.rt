@@ -5,7 +5,7 @@ use sourcemap_core::probe::{KeyProbe, Probe};
 use sourcemap_core::tokens::{NO_ID, RawToken};
 use sourcemap_line_index::token_list::TokenList;
 use sourcemap_test_support::checks::{Checked, check};
-use sourcemap_test_support::results::again;
+use sourcemap_test_support::results::{again, owned_text};
 use sourcemap_test_support::tokens::token;
 use std::alloc::Global;
 
@@ -36,7 +36,7 @@ fn closest_text(
     let at = index.closest(list.as_slice(), &mut probe);
     let is_counted = least <= probe.count() && probe.count() <= most;
     let col = at.and_then(|at| list.get(at)).map(|token| token.src_col);
-    Ok(format!(in alloc; "{col:?} {is_counted}")?)
+    owned_text(format!(in alloc; "{col:?} {is_counted}"))
 }
 
 // The number of equal tokens, a position, the fewest and most comparisons, and the closest token.
@@ -166,7 +166,7 @@ fn in_list_of_many_lines(alloc: Global, a_line: u32, position: (u32, u32)) -> Re
     let (found, steps) = list.closest_steps(position.0, position.1);
     let is_counted = 1 <= steps && steps <= 36;
     let col = found.map(|found| found.1.src_col);
-    Ok(format!(in alloc; "{col:?} {is_counted}")?)
+    owned_text(format!(in alloc; "{col:?} {is_counted}"))
 }
 
 #[test]
@@ -198,13 +198,13 @@ fn table_by_tokens(alloc: Global) -> Result<LineIndex> {
 
 fn table_text(alloc: Global, table: Result<LineIndex>) -> Result<String> {
     let table = table?;
-    Ok(format!(in alloc; "{table:?}")?)
+    owned_text(format!(in alloc; "{table:?}"))
 }
 
 fn compare_tables(alloc: Global) -> Result<String> {
     let by_rows = table_text(alloc, table_by_rows(alloc))?;
     let by_tokens = table_text(alloc, table_by_tokens(alloc))?;
-    Ok(format!(in alloc; "{}", by_rows == by_tokens)?)
+    owned_text(format!(in alloc; "{}", by_rows == by_tokens))
 }
 
 #[test]

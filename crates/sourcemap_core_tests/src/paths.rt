@@ -3,7 +3,7 @@ use sourcemap_core::errors::{Error, Result};
 use sourcemap_core::places::{path_url, url_path};
 use sourcemap_core::utils::make_relative_path;
 use sourcemap_test_support::checks::{Checked, check};
-use sourcemap_test_support::results::text_or_none;
+use sourcemap_test_support::results::{owned_text, text_or_none};
 use std::alloc::Global;
 use url::{ParseError, Url};
 
@@ -76,7 +76,7 @@ fn path_of(alloc: Global, text: &str) -> Result<String> {
     match Url::parse(alloc, text) {
         Ok(url) => text_or_none(alloc, url_path(alloc, &url)?),
         Err(ParseError::OutOfMemory) => Err(Error::OutOfMemory),
-        Err(_) => Ok(String::from_str(alloc, "no URL")?),
+        Err(_) => owned_text(String::from_str(alloc, "no URL")),
     }
 }
 

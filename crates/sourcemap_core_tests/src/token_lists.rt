@@ -4,6 +4,7 @@ use sourcemap_core::tokens::{NO_ID, RawToken, sort_tokens, tokens_in_order};
 use sourcemap_core::utils::greatest_lower_bound;
 use sourcemap_line_index::token_list::TokenList;
 use sourcemap_test_support::checks::{Checked, check, check_that};
+use sourcemap_test_support::results::owned_text;
 use std::alloc::Global;
 
 // Generated positions of four tokens. The tests identify a token by its original column, which is
@@ -41,8 +42,8 @@ static CLOSEST: [(&str, u32, u32, &str); 5] = [
 
 fn closest(alloc: Global, line: u32, col: u32) -> Result<String> {
     match list(alloc)?.closest_steps(line, col).0 {
-        None => Ok(String::from_str(alloc, "none")?),
-        Some((index, token)) => Ok(format!(in alloc; "{} at {index}", token.src_col)?),
+        None => owned_text(String::from_str(alloc, "none")),
+        Some((index, token)) => owned_text(format!(in alloc; "{} at {index}", token.src_col)),
     }
 }
 
@@ -104,7 +105,7 @@ fn ends(alloc: Global) -> Result<String> {
     let list = list(alloc)?;
     let is_second = list.get(1) == list.as_slice().get(1).copied();
     let is_past = list.get(list.len()).is_none();
-    Ok(format!(in alloc; "{:?} {is_second} {is_past}", compare_lists(&list)?)?)
+    owned_text(format!(in alloc; "{:?} {is_second} {is_past}", compare_lists(&list)?))
 }
 
 #[test]
@@ -137,7 +138,7 @@ static BOUNDS: [(usize, u32, &str); 15] = [
 fn bound(alloc: Global, count: usize, key: u32) -> Result<String> {
     let pairs = PAIRS.get(..count).unwrap_or(&[]);
     let found = greatest_lower_bound(pairs, &key, |pair| pair.0);
-    Ok(format!(in alloc; "{found:?}")?)
+    owned_text(format!(in alloc; "{found:?}"))
 }
 
 #[test]

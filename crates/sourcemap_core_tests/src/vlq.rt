@@ -3,7 +3,7 @@ use sourcemap_core::bits::{decode_rmi, encode_rmi, push_bits};
 use sourcemap_core::errors::Result;
 use sourcemap_core::vlq::{generate_vlq_segment, parse_vlq_segment};
 use sourcemap_test_support::checks::{Checked, check};
-use sourcemap_test_support::results::{again, error_text};
+use sourcemap_test_support::results::{again, error_text, owned_text};
 use std::alloc::Global;
 
 // Label, a segment, and its numbers or its error.
@@ -48,7 +48,7 @@ static READ: [(&str, &str, &str); 12] = [
 
 fn read(alloc: Global, segment: &str) -> Result<String> {
     match parse_vlq_segment(alloc, segment) {
-        Ok(numbers) => Ok(format!(in alloc; "{numbers:?}")?),
+        Ok(numbers) => owned_text(format!(in alloc; "{numbers:?}")),
         Err(error) => error_text(alloc, &error),
     }
 }

@@ -4,7 +4,7 @@ use crate::samples::{Made, NONE, make_map, map_text};
 use sourcemap::errors::{Error, Result};
 use sourcemap::types::{RawToken, SourceMap, Token};
 use sourcemap_test_support::checks::{Checked, check, check_that};
-use sourcemap_test_support::results::{box_result, text_or_none};
+use sourcemap_test_support::results::{box_result, owned_text, text_or_none};
 use sourcemap_test_support::tokens::Row;
 use std::alloc::Global;
 
@@ -424,7 +424,7 @@ fn meaning_text(alloc: Global, token: Option<Token<'_>>) -> Result<String> {
         _ => "",
     };
     let text = text_or_none(alloc, token)?;
-    Ok(format!(in alloc; "{text}{mark}")?)
+    owned_text(format!(in alloc; "{text}{mark}"))
 }
 
 fn meaning(alloc: Global, map: Made, (line, col): (u32, u32)) -> Result<String> {

@@ -5,6 +5,8 @@ use sourcemap::errors::{Error, Result};
 use sourcemap::jsontypes::DebugId;
 use sourcemap::types::{RawToken, SourceMap};
 use sourcemap_test_support::checks::{Checked, check};
+use sourcemap_test_support::records::record_text;
+use sourcemap_test_support::results::owned_text;
 use std::alloc::Global;
 
 // A call of a builder method. If the name of a variant does not suggest the method, a comment names
@@ -228,8 +230,7 @@ fn answers(alloc: Global, steps: &[Step<'_>]) -> Result<String> {
 }
 
 fn write_built(alloc: Global, builder: Result<SourceMapBuilder>) -> Result<String> {
-    let record = builder?.into_sourcemap()?.into_raw_sourcemap()?;
-    Ok(record.into_value(alloc)?.to_string(alloc)?)
+    record_text(alloc, builder?.into_sourcemap()?.into_raw_sourcemap())
 }
 
 // Steps of a builder, and what they lead to.
@@ -370,7 +371,7 @@ fn describe(alloc: Global, builder: Result<SourceMapBuilder>) -> Result<String> 
         builder.has_source_contents(0),
         builder.get_source_contents(0),
     );
-    Ok(format!(in alloc; "{head:?} {sources:?} {contents:?}")?)
+    owned_text(format!(in alloc; "{head:?} {sources:?} {contents:?}"))
 }
 
 #[test]
@@ -389,7 +390,7 @@ fn builders_return_and_are_written(rt: HostRuntime) -> Checked {
 fn builder_text(alloc: Global, builder: Result<SourceMapBuilder>) -> Result<String> {
     let map = Box::new(alloc, builder?.into_sourcemap()?)?;
     let sources = (map.get_source(0), map.get_source(1), map.get_source(2));
-    Ok(format!(in alloc; "{sources:?} {}", map.get_token_count())?)
+    owned_text(format!(in alloc; "{sources:?} {}", map.get_token_count()))
 }
 
 #[test]
@@ -435,7 +436,7 @@ fn strip_in<'a>(
 fn strip_source(alloc: Global, prefixes: &[&str], source: &str) -> Result<String> {
     let mut builder = SourceMapBuilder::new(alloc, None)?;
     let left = strip_in(&mut builder, prefixes, source)?;
-    Ok(String::from_str(alloc, left.unwrap_or("none"))?)
+    owned_text(String::from_str(alloc, left.unwrap_or("none")))
 }
 
 #[test]

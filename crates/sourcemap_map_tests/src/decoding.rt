@@ -4,7 +4,8 @@ use sourcemap::errors::Result;
 use sourcemap::{DecodedMap, SourceMap, decode, decode_data_url, decode_slice};
 use sourcemap_test_support::checks::{Checked, check, check_that};
 use sourcemap_test_support::readers::HaltingReader;
-use sourcemap_test_support::results::{again, error_of, text_or_none};
+use sourcemap_test_support::records::value_text;
+use sourcemap_test_support::results::{again, error_of, owned_text, text_or_none};
 use std::alloc::Global;
 use std::io::ErrorKind;
 
@@ -57,9 +58,21 @@ fn one_by_one(bytes: &[u8]) -> HaltingReader<'_> {
 
 fn count(alloc: Global, answer: Result<SourceMap>) -> Result<String> {
     match answer {
-        Ok(map) => Ok(format!(in alloc; "{}", map.get_token_count())?),
+        Ok(map) => owned_text(format!(in alloc; "{}", map.get_token_count())),
         error => error_of(alloc, error),
     }
+}
+
+fn count_sliced(alloc: Global, bytes: &[u8]) -> Result<String> {
+    count(alloc, SourceMap::from_slice(alloc, bytes))
+}
+
+fn count_read(alloc: Global, bytes: &[u8]) -> Result<String> {
+    count(alloc, SourceMap::from_reader(alloc, bytes))
+}
+
+fn count_read_one_by_one(alloc: Global, bytes: &[u8]) -> Result<String> {
+    count(alloc, SourceMap::from_reader(alloc, one_by_one(bytes)))
 }
 
 fn is_read_as(alloc: Global, map: &SourceMap, text: &str) -> Result<bool> {
@@ -76,12 +89,9 @@ fn are_read_alike(alloc: Global, text: &str) -> Result<bool> {
 fn regular_maps_are_read_alone(rt: HostRuntime) -> Checked {
     for (about, text, want) in REGULAR.iter() {
         let bytes = text.as_bytes();
-        let got = count(rt.alloc(), SourceMap::from_slice(rt.alloc(), bytes));
-        check(about, got, want)?;
-        let got = count(rt.alloc(), SourceMap::from_reader(rt.alloc(), bytes));
-        check(about, got, want)?;
-        let read = SourceMap::from_reader(rt.alloc(), one_by_one(bytes));
-        check(about, count(rt.alloc(), read), want)?;
+        check(about, count_sliced(rt.alloc(), bytes), want)?;
+        check(about, count_read(rt.alloc(), bytes), want)?;
+        check(about, count_read_one_by_one(rt.alloc(), bytes), want)?;
     }
     check_that("slice and reader", are_read_alike(rt.alloc(), README)?)
 }
@@ -111,16 +121,25 @@ fn lookup_text(alloc: Global, answer: Result<DecodedMap>) -> Result<String> {
     }
 }
 
+fn look_up_sliced(alloc: Global, bytes: &[u8]) -> Result<String> {
+    again(|| lookup_text(alloc, decode_slice(alloc, bytes)))
+}
+
+fn look_up_read(alloc: Global, bytes: &[u8]) -> Result<String> {
+    again(|| lookup_text(alloc, decode(alloc, bytes)))
+}
+
+fn look_up_read_one_by_one(alloc: Global, bytes: &[u8]) -> Result<String> {
+    lookup_text(alloc, decode(alloc, one_by_one(bytes)))
+}
+
 #[test]
 fn maps_of_any_kind_are_read(rt: HostRuntime) -> Checked {
     for (about, text, want) in ANY_KIND.iter() {
         let bytes = text.as_bytes();
-        let sliced = again(|| lookup_text(rt.alloc(), decode_slice(rt.alloc(), bytes)));
-        check(about, sliced, want)?;
-        let read = again(|| lookup_text(rt.alloc(), decode(rt.alloc(), bytes)));
-        check(about, read, want)?;
-        let read = decode(rt.alloc(), one_by_one(bytes));
-        check(about, lookup_text(rt.alloc(), read), want)?;
+        check(about, look_up_sliced(rt.alloc(), bytes), want)?;
+        check(about, look_up_read(rt.alloc(), bytes), want)?;
+        check(about, look_up_read_one_by_one(rt.alloc(), bytes), want)?;
     }
     Ok(())
 }
@@ -130,7 +149,7 @@ fn maps_of_any_kind_are_read(rt: HostRuntime) -> Checked {
 // has fewer than `end` bytes. Out of memory stays an error.
 fn read_beginning(alloc: Global, text: &str, end: usize) -> Result<String> {
     match text.as_bytes().get(..end) {
-        None => Ok(String::from_str(alloc, "none")?),
+        None => owned_text(String::from_str(alloc, "none")),
         Some(bytes) => lookup_text(alloc, decode_slice(alloc, bytes)),
     }
 }
@@ -227,7 +246,7 @@ static URLS: [(&str, &str, &str); 4] = [
 
 fn write_decoded(alloc: Global, answer: Result<DecodedMap>) -> Result<String> {
     match answer {
-        Ok(map) => Ok(DecodedMap::into_value(map)?.to_string(alloc)?),
+        Ok(map) => value_text(alloc, DecodedMap::into_value(map)),
         error => error_of(alloc, error),
     }
 }

@@ -6,6 +6,7 @@ use crate::writing::{BARE, WRITTEN, cut_writing, outcome_text, regular};
 use sourcemap::encoder::{encode_in_parts, encode_to_vec};
 use sourcemap::{Result, SourceMap};
 use sourcemap_test_support::checks::{Checked, check, check_that};
+use sourcemap_test_support::results::owned_text;
 use sourcemap_test_support::writers::{HaltingWriter, NarrowWriter};
 use std::alloc::Global;
 use std::io::Write;
@@ -64,9 +65,13 @@ fn far_text(alloc: Global) -> Result<String> {
         longest: 0,
     };
     encode_in_parts(alloc, &*map, &mut writer)?;
+    counter_text(alloc, &writer)
+}
+
+fn counter_text(alloc: Global, writer: &LineCounter) -> Result<String> {
     let others = str::from_utf8(writer.others.as_slice())?;
     let is_short = writer.longest <= 1 << 16;
-    Ok(format!(in alloc; "{others} {} {is_short}", writer.line_ends)?)
+    owned_text(format!(in alloc; "{others} {} {is_short}", writer.line_ends))
 }
 
 #[test]
@@ -135,16 +140,10 @@ fn many(alloc: Global) -> Made {
 }
 
 fn many_text(alloc: Global) -> Result<String> {
-    let mut text = String::from_str(alloc, r#"{"sources":["a"],"sourceRoot":"r","mappings":""#)?;
-    for _segment in 0..2000 {
-        text.push_str("ggggBAAA,C;;")?;
-    }
-    text.push_str(r#"","sourcesContent":[""#)?;
-    for _letter in 0..9000 {
-        text.push_str(r"\n")?;
-    }
-    text.push_str(r#""]}"#)?;
-    Ok(text)
+    let mappings = "ggggBAAA,C;;".repeat(alloc, 2000)?;
+    let contents = r"\n".repeat(alloc, 9000)?;
+    let head = r#"{"sources":["a"],"sourceRoot":"r","mappings":""#;
+    owned_text(format!(in alloc; r#"{head}{mappings}","sourcesContent":["{contents}"]}}"#))
 }
 
 #[test]

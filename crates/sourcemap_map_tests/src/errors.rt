@@ -3,6 +3,7 @@
 use sourcemap::Error;
 use sourcemap::errors::{Base64Fault, RangeFault, Result};
 use sourcemap_test_support::checks::{Checked, check};
+use sourcemap_test_support::results::owned_text;
 use std::alloc::Global;
 use std::io::ErrorKind;
 use std::{io, str};
@@ -19,12 +20,12 @@ static NOT_UTF8: [(&[u8], &str); 2] = [
 ];
 
 fn describe(alloc: Global, error: Error) -> Result<String> {
-    Ok(format!(in alloc; "{error}")?)
+    owned_text(format!(in alloc; "{error}"))
 }
 
 fn utf8_text(alloc: Global, bytes: &[u8]) -> Result<String> {
     match str::from_utf8(bytes) {
-        Ok(text) => Ok(String::from_str(alloc, text)?),
+        Ok(text) => owned_text(String::from_str(alloc, text)),
         Err(error) => describe(alloc, Error::from(error)),
     }
 }

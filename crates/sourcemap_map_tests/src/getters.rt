@@ -2,7 +2,7 @@
 use sourcemap::errors::Result;
 use sourcemap::types::{SourceMap, Token};
 use sourcemap_test_support::checks::{Checked, check};
-use sourcemap_test_support::results::{box_result, text_or_none};
+use sourcemap_test_support::results::{box_result, owned_text, text_or_none};
 use std::alloc::Global;
 
 const FULL: &str = concat!(
@@ -30,7 +30,7 @@ fn parts_text(alloc: Global, map: &SourceMap) -> Result<String> {
     let sources = (map.get_source(0), map.get_source(1), map.get_source(2));
     let contents = (map.get_source_contents(0), map.get_source_contents(1));
     let names = (map.get_name(0), map.get_name(1));
-    Ok(format!(in alloc; "{head:?} {sources:?} {contents:?} {names:?}")?)
+    owned_text(format!(in alloc; "{head:?} {sources:?} {contents:?} {names:?}"))
 }
 
 // The numbers of tokens, sources and names: first from the getters, then from the iterators. Then
@@ -47,30 +47,49 @@ fn counts_text(alloc: Global, map: &SourceMap) -> Result<String> {
         map.names().count(),
     );
     let contents = map.source_contents().count();
-    Ok(format!(in alloc; "{counts:?} {items:?} {contents} {}", map.has_names())?)
+    owned_text(format!(in alloc; "{counts:?} {items:?} {contents} {}", map.has_names()))
 }
 
 fn token_text(alloc: Global, token: Option<Token<'_>>) -> Result<String> {
     let Some(token) = token else {
-        return Ok(String::from_str(alloc, "none")?);
+        return owned_text(String::from_str(alloc, "none"));
     };
+    let mut out = String::new(alloc);
+    push_positions(&mut out, &token)?;
+    push_texts(&mut out, &token)?;
+    push_ids(&mut out, &token)?;
+    Ok(out)
+}
+
+fn push_positions(out: &mut String, token: &Token<'_>) -> Result<()> {
     let position = (token.get_dst(), token.get_dst_line(), token.get_dst_col());
     let source = (token.get_src(), token.get_src_line(), token.get_src_col());
+    write!(out, "{position:?} {source:?} ")?;
+    Ok(())
+}
+
+fn push_texts(out: &mut String, token: &Token<'_>) -> Result<()> {
     let texts = (token.to_tuple(), token.get_source(), token.get_name());
+    write!(out, "{texts:?} ")?;
+    Ok(())
+}
+
+fn push_ids(out: &mut String, token: &Token<'_>) -> Result<()> {
     let ids = (token.get_index(), token.get_src_id(), token.get_name_id());
     let is = (token.is_range(), token.has_source(), token.has_name());
-    Ok(format!(in alloc; "{position:?} {source:?} {texts:?} {ids:?} {is:?}")?)
+    write!(out, "{ids:?} {is:?}")?;
+    Ok(())
 }
 
 // The original column and the range flag of the raw token, and the number of tokens in the map.
 // `none` without a token.
 fn raw_text(alloc: Global, token: Option<Token<'_>>) -> Result<String> {
     let Some(token) = token else {
-        return Ok(String::from_str(alloc, "none")?);
+        return owned_text(String::from_str(alloc, "none"));
     };
     let raw = token.get_raw_token();
     let count = token.sourcemap().get_token_count();
-    Ok(format!(in alloc; "{} {} {count}", raw.src_col, raw.is_range)?)
+    owned_text(format!(in alloc; "{} {} {count}", raw.src_col, raw.is_range))
 }
 
 fn describe(alloc: Global, map: &SourceMap, getter: Getter) -> Result<String> {

@@ -2,7 +2,7 @@
 use sourcemap::Result;
 use sourcemap::js_identifiers::{get_javascript_token, is_valid_javascript_identifier};
 use sourcemap_test_support::checks::{Checked, check};
-use sourcemap_test_support::results::optional_text;
+use sourcemap_test_support::results::{optional_text, owned_text};
 use std::alloc::Global;
 
 // A text. Then whether the whole text is an identifier, and the longest identifier at the start of
@@ -50,7 +50,7 @@ static TEXTS: [(&str, &str); 32] = [
 fn describe(alloc: Global, text: &str) -> Result<String> {
     let is_valid = is_valid_javascript_identifier(text);
     let token = optional_text(alloc, get_javascript_token(text))?;
-    Ok(format!(in alloc; "{is_valid} {token}")?)
+    owned_text(format!(in alloc; "{is_valid} {token}"))
 }
 
 #[test]

@@ -2,7 +2,9 @@
 //! URLs and records, construction from parts and by builders, lookups, changes, rewriting and
 //! encoding. They also cover views of texts, names of functions, JavaScript identifiers, and the
 //! texts of errors. One module, `lines`, tests line tables and byte offsets of UTF-16 columns, both
-//! through the facade `sourcemap_core`.
+//! through the facade `sourcemap_core`. Tests that load source contents from files each write to a
+//! folder of their own, and remove this folder at the start of the test and again after all checks
+//! pass. The test in `failing_files` uses a fake file system.
 #![tactic(auto)]
 
 #[cfg(test)]
@@ -18,11 +20,17 @@ mod encoding_in_parts;
 #[cfg(test)]
 mod errors;
 #[cfg(test)]
+mod failing_files;
+#[cfg(test)]
+mod folders;
+#[cfg(test)]
 mod getters;
 #[cfg(test)]
 mod identifiers;
 #[cfg(test)]
 mod lines;
+#[cfg(test)]
+mod loading;
 #[cfg(test)]
 mod lookups;
 #[cfg(test)]
@@ -31,6 +39,8 @@ mod names;
 mod records;
 #[cfg(test)]
 mod rewriting;
+#[cfg(test)]
+mod rewriting_files;
 #[cfg(test)]
 mod samples;
 #[cfg(test)]

@@ -2,6 +2,7 @@
 use sourcemap::Result;
 use sourcemap_core::lines::{LineTable, utf16_offset};
 use sourcemap_test_support::checks::{Checked, check};
+use sourcemap_test_support::results::owned_text;
 use std::alloc::Global;
 
 // A text. Then the number of its lines, and the range of each line.
@@ -154,7 +155,7 @@ static COLUMNS: [(&str, u64, &str); 14] = [
 
 fn offset_text(alloc: Global, line: &str, col: u64) -> Result<String> {
     let position = utf16_offset(line, col);
-    Ok(format!(in alloc; "{position:?}")?)
+    owned_text(format!(in alloc; "{position:?}"))
 }
 
 #[test]

@@ -2,6 +2,7 @@
 use crate::writing::decode_boxed;
 use sourcemap::{DecodedMap, Result, SourceMap, SourceView, Token};
 use sourcemap_test_support::checks::{Checked, check};
+use sourcemap_test_support::results::{box_result, owned_text};
 use std::alloc::Global;
 
 // The generated text of `MAP`. The function `foo` of the source is called `b` here.
@@ -51,14 +52,17 @@ static NAMES: [(&str, (u32, u32), &str, &str); 17] = [
 ];
 
 fn regular_of(alloc: Global, text: &str) -> Result<Box<SourceMap>> {
-    let map = SourceMap::from_slice(alloc, text.as_bytes())?;
-    Ok(Box::new(alloc, map)?)
+    box_result(alloc, SourceMap::from_slice(alloc, text.as_bytes()))
+}
+
+fn view_of(alloc: Global, text: &str) -> Result<Box<SourceView>> {
+    box_result(alloc, SourceView::new(alloc, text))
 }
 
 fn name_in(alloc: Global, map: &str, position: (u32, u32), minified: &str) -> Result<String> {
-    let view = SourceView::new(alloc, TEXT)?;
+    let view = view_of(alloc, TEXT)?;
     let map = decode_boxed(alloc, map)?;
-    describe(alloc, &*map, position, Some(minified), Some(&view))
+    describe(alloc, &*map, position, Some(minified), Some(&*view))
 }
 
 fn describe(
@@ -69,7 +73,7 @@ fn describe(
     view: Option<&SourceView>,
 ) -> Result<String> {
     let name = map.get_original_function_name(line, col, minified, view);
-    Ok(String::from_str(alloc, name.unwrap_or("none"))?)
+    owned_text(String::from_str(alloc, name.unwrap_or("none")))
 }
 
 #[test]
@@ -105,10 +109,10 @@ fn name_with(
     with_name: bool,
     with_view: bool,
 ) -> Result<String> {
-    let view = SourceView::new(alloc, TEXT)?;
+    let view = view_of(alloc, TEXT)?;
     let map = decode_boxed(alloc, map)?;
     let minified = if with_name { Some("b") } else { None };
-    let view = if with_view { Some(&view) } else { None };
+    let view = if with_view { Some(&*view) } else { None };
     describe(alloc, &*map, position, minified, view)
 }
 
@@ -122,16 +126,25 @@ fn maps_but_hermes_maps_need_a_name_and_a_view(rt: HostRuntime) -> Checked {
 }
 
 // Calls `get_original_function_name` of `SourceMap`, `SourceMapIndex` or `SourceMapHermes`, not of
-// `DecodedMap`. Returns the name, or `none` if the method returns `None`.
-fn name_by_kind(alloc: Global, map: &str, (line, col): (u32, u32)) -> Result<String> {
-    let view = SourceView::new(alloc, TEXT)?;
-    let map = decode_boxed(alloc, map)?;
-    let name = match &*map {
-        DecodedMap::Regular(map) => map.get_original_function_name(line, col, "b", &view),
-        DecodedMap::Index(map) => map.get_original_function_name(line, col, "b", &view),
+// `DecodedMap`.
+fn call_by_kind<'a>(
+    map: &'a DecodedMap,
+    view: &SourceView,
+    (line, col): (u32, u32),
+) -> Option<&'a str> {
+    match map {
+        DecodedMap::Regular(map) => map.get_original_function_name(line, col, "b", view),
+        DecodedMap::Index(map) => map.get_original_function_name(line, col, "b", view),
         DecodedMap::Hermes(map) => map.get_original_function_name(col),
-    };
-    Ok(String::from_str(alloc, name.unwrap_or("none"))?)
+    }
+}
+
+// The name that `call_by_kind` returns, or `none`.
+fn name_by_kind(alloc: Global, map: &str, position: (u32, u32)) -> Result<String> {
+    let view = view_of(alloc, TEXT)?;
+    let map = decode_boxed(alloc, map)?;
+    let name = call_by_kind(&*map, &*view, position);
+    owned_text(String::from_str(alloc, name.unwrap_or("none")))
 }
 
 #[test]
@@ -195,7 +208,7 @@ fn line_text(alloc: Global, view: Option<&SourceView>, line: u32) -> Result<Stri
         None => None,
         Some(view) => view.get_line(line),
     };
-    Ok(String::from_str(alloc, text.unwrap_or("none"))?)
+    owned_text(String::from_str(alloc, text.unwrap_or("none")))
 }
 
 fn line_of_source(alloc: Global, id: u32, line: u32) -> Result<String> {
@@ -249,9 +262,9 @@ fn walk_text(alloc: Global, view: &SourceView, last: Option<Token<'_>>) -> Resul
 }
 
 fn walk_tokens(alloc: Global, text: &str, last: usize) -> Result<String> {
-    let view = SourceView::new(alloc, text)?;
+    let view = view_of(alloc, text)?;
     let map = regular_of(alloc, COLUMNS)?;
-    walk_text(alloc, &view, map.get_token(last))
+    walk_text(alloc, &*view, map.get_token(last))
 }
 
 // The index of a token. Then the items of `rev_token_iter` from this token: the generated position

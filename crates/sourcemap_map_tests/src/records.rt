@@ -2,7 +2,8 @@
 use sourcemap::errors::Result;
 use sourcemap::jsontypes::{RawSection, RawSourceMap};
 use sourcemap_test_support::checks::{Checked, check, check_that};
-use sourcemap_test_support::records::record;
+use sourcemap_test_support::records::boxed_record;
+use sourcemap_test_support::results::owned_text;
 use std::alloc::Global;
 
 // Each differs from the empty record in one field.
@@ -33,13 +34,13 @@ fn verdict(is_equal: bool, is_different: bool) -> char {
 }
 
 fn compare_with(alloc: Global, one: &RawSourceMap, text: &str) -> Result<char> {
-    let other = record(alloc, text)?;
-    Ok(verdict(*one == other, *one != other))
+    let other = boxed_record(alloc, text)?;
+    Ok(verdict(*one == *other, *one != *other))
 }
 
 fn compare_records(alloc: Global, one: &str, other: &str) -> Result<char> {
-    let one = record(alloc, one)?;
-    compare_with(alloc, &one, other)
+    let one = boxed_record(alloc, one)?;
+    compare_with(alloc, &*one, other)
 }
 
 #[test]
@@ -62,11 +63,6 @@ const SECTIONS: &str = r#"{"sections":[
     {"offset":{"line":1,"column":2},"url":"u","map":{"mappings":"C"}}
 ]}"#;
 
-fn sections_in(alloc: Global, text: &str) -> Result<Vec<RawSection>> {
-    let sections = record(alloc, text)?.sections;
-    Ok(sections.unwrap_or(Vec::new(alloc)))
-}
-
 // The comparison of each section with the first.
 fn compare_with_first(alloc: Global, sections: &[RawSection]) -> Result<String> {
     let mut out = String::new(alloc);
@@ -79,8 +75,11 @@ fn compare_with_first(alloc: Global, sections: &[RawSection]) -> Result<String> 
 }
 
 fn compare_sections(alloc: Global, text: &str) -> Result<String> {
-    let sections = sections_in(alloc, text)?;
-    compare_with_first(alloc, sections.as_slice())
+    let record = boxed_record(alloc, text)?;
+    match &record.sections {
+        Some(sections) => compare_with_first(alloc, sections.as_slice()),
+        None => owned_text(String::from_str(alloc, "none")),
+    }
 }
 
 #[test]

@@ -1,9 +1,9 @@
 // Rewriting of maps.
-use crate::samples::record_text;
 use sourcemap::errors::Result;
 use sourcemap::types::{RewriteOptions, SourceMap};
 use sourcemap_test_support::checks::{Checked, check};
-use sourcemap_test_support::results::error_text;
+use sourcemap_test_support::records::record_text;
+use sourcemap_test_support::results::{error_text, owned_text};
 use std::alloc::Global;
 use std::rt::Files;
 
@@ -231,7 +231,7 @@ static OLD_IDS: [(&str, &str, &str); 4] = [
 
 fn ids_text(alloc: Global, answer: Result<(SourceMap, Vec<u32>)>) -> Result<String> {
     let (_, ids) = answer?;
-    Ok(format!(in alloc; "{ids:?}")?)
+    owned_text(format!(in alloc; "{ids:?}"))
 }
 
 fn old_ids<F: Files>(

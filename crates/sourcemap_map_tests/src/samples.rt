@@ -1,11 +1,11 @@
 // Makes sample maps from tokens, names and sources. Writes maps, records and JSON values as text.
 ghost use Rattle.std.specs.Prelude.{◌≤◌, IfOk, vec_len};
 
-use serde_json::Value;
 use sourcemap::encoder::Encodable;
 use sourcemap::errors::{Error, Result};
 use sourcemap::jsontypes::RawSourceMap;
 use sourcemap::types::SourceMap;
+use sourcemap_test_support::records::record_text;
 use sourcemap_test_support::results::box_result;
 use sourcemap_test_support::tokens::{Row, tokens};
 use std::alloc::Global;
@@ -109,14 +109,4 @@ pub fn record_of(map: Made) -> Result<RawSourceMap> {
 /// `map` if there is one. The only other error is out of memory.
 pub fn map_text(alloc: Global, map: Made) -> Result<String> {
     record_text(alloc, Box::into_inner(map?).into_raw_sourcemap())
-}
-
-/// The JSON text of a record. Consumes the record. Returns the error of `record` if there is one.
-/// The only other error is out of memory.
-pub fn record_text(alloc: Global, record: Result<RawSourceMap>) -> Result<String> {
-    value_text(alloc, record?.into_value(alloc))
-}
-
-pub fn value_text(alloc: Global, value: Result<Value>) -> Result<String> {
-    Ok(value?.to_string(alloc)?)
 }

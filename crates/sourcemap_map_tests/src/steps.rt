@@ -3,7 +3,7 @@ use crate::samples::{Made, NONE};
 use sourcemap::errors::Result;
 use sourcemap::types::{RawToken, SourceMap};
 use sourcemap_test_support::checks::{Checked, check, check_that};
-use sourcemap_test_support::results::box_result;
+use sourcemap_test_support::results::{box_result, owned_text};
 use sourcemap_test_support::tokens::token;
 use std::alloc::Global;
 
@@ -64,7 +64,7 @@ fn steps_text(alloc: Global, map: &SourceMap, row: &Counted) -> Result<String> {
     let (found, steps) = map.lookup_token_steps(position.0, position.1);
     let is_counted = least <= steps && steps <= most;
     let col = found.map(|token| token.get_src_col());
-    Ok(format!(in alloc; "{col:?} {is_counted}")?)
+    owned_text(format!(in alloc; "{col:?} {is_counted}"))
 }
 
 fn describe(alloc: Global, map: Made, row: &Counted) -> Result<String> {

@@ -3,6 +3,7 @@ use crate::samples::{Made, mixed_map};
 use sourcemap::errors::Result;
 use sourcemap::types::{SourceMap, Token, TokenIter};
 use sourcemap_test_support::checks::{Checked, check};
+use sourcemap_test_support::results::owned_text;
 use std::alloc::Global;
 
 // Whether the first two tokens are equal, whether their raw tokens are equal, and whether the
@@ -16,7 +17,7 @@ fn compare_tokens(map: &SourceMap) -> Option<(bool, bool, bool)> {
 }
 
 fn compared_text(alloc: Global, map: &SourceMap) -> Result<String> {
-    Ok(format!(in alloc; "{:?}", compare_tokens(map))?)
+    owned_text(format!(in alloc; "{:?}", compare_tokens(map)))
 }
 
 fn compare_mixed(alloc: Global) -> Result<String> {
@@ -41,12 +42,12 @@ static SOUGHT: [(&str, u32, u32, &str); 5] = [
 
 fn next_text(alloc: Global, found: bool, mut left: TokenIter<'_>) -> Result<String> {
     match left.next() {
-        None => Ok(format!(in alloc; "{found} none")?),
-        Some(token) => Ok(format!(in alloc;
+        None => owned_text(format!(in alloc; "{found} none")),
+        Some(token) => owned_text(format!(in alloc;
             "{found} {:?} {}",
             token.get_dst(),
             token.get_src_id()
-        )?),
+        )),
     }
 }
 
@@ -90,8 +91,8 @@ static PRINTED: [(u32, u32, &str); 4] = [
 
 fn token_line(alloc: Global, token: Option<Token<'_>>) -> Result<String> {
     match token {
-        None => Ok(String::from_str(alloc, "none")?),
-        Some(token) => Ok(format!(in alloc; "{token}|{token:#}|{token:?}")?),
+        None => owned_text(String::from_str(alloc, "none")),
+        Some(token) => owned_text(format!(in alloc; "{token}|{token:#}|{token:?}")),
     }
 }
 

@@ -2,7 +2,7 @@
 use sourcemap::Result;
 use sourcemap::sourceview::SourceView;
 use sourcemap_test_support::checks::{Checked, check};
-use sourcemap_test_support::results::{again, optional_text};
+use sourcemap_test_support::results::{again, box_result, optional_text, owned_text};
 use std::alloc::Global;
 
 const SMILES: &str = "abc👌def\nblah";
@@ -103,7 +103,7 @@ static LINES: [(&str, &str); 8] = [
 ];
 
 fn lines_text(alloc: Global, text: &str) -> Result<String> {
-    let view = SourceView::new(alloc, text)?;
+    let view = box_result(alloc, SourceView::new(alloc, text))?;
     let count = view.line_count();
     let mut answer = format!(in alloc; "{count}")?;
     for line in view.lines() {
@@ -173,7 +173,7 @@ fn is_view_of(alloc: Global, view: &SourceView, text: &str) -> Result<bool> {
 
 fn copy_text(alloc: Global, copy: &SourceView, is_copy: bool, is_other: bool) -> Result<String> {
     let source = copy.source();
-    Ok(format!(in alloc; "{is_copy} {is_other} {source} {copy:?}")?)
+    owned_text(format!(in alloc; "{is_copy} {is_other} {source} {copy:?}"))
 }
 
 fn compare_views(alloc: Global, view: &SourceView, is_other: bool) -> Result<String> {
@@ -205,7 +205,7 @@ static REFERENCES: [(&str, &str); 3] = [
 
 fn reference_text(alloc: Global, view: &SourceView) -> Result<String> {
     let found = view.sourcemap_reference()?;
-    Ok(format!(in alloc; "{found:?}")?)
+    owned_text(format!(in alloc; "{found:?}"))
 }
 
 fn reference_of(alloc: Global, text: &str) -> Result<String> {

@@ -1,13 +1,13 @@
 // Tests of the encoding of maps: as records, as JSON values, and as bytes. The writers take one
 // byte in each write, and some fail after a number of bytes.
-use crate::samples::{Made, map_text, record_of, record_text, value_text};
+use crate::samples::{Made, map_text, record_of};
 use serde_json::Value;
 use sourcemap::decoder::decode_regular;
 use sourcemap::encoder::{Encodable, encode, encode_to};
 use sourcemap::{DecodedMap, Error, Result, SourceMap, decode_slice};
 use sourcemap_test_support::checks::{Checked, check};
-use sourcemap_test_support::records::record;
-use sourcemap_test_support::results::{again, box_result};
+use sourcemap_test_support::records::{record, record_text, value_text};
+use sourcemap_test_support::results::{again, box_result, owned_text};
 use sourcemap_test_support::writers::NarrowWriter;
 use std::alloc::Global;
 use std::str;
@@ -230,7 +230,7 @@ fn held_text(alloc: Global, text: &str, call: Call, left: Option<usize>) -> Resu
 /// out, or if `held` is not UTF-8.
 pub fn outcome_text(alloc: Global, held: &[u8], outcome: Result<()>) -> Result<String> {
     match outcome {
-        Ok(()) => Ok(String::from_str(alloc, str::from_utf8(held)?)?),
+        Ok(()) => owned_text(String::from_str(alloc, str::from_utf8(held)?)),
         Err(error) => error_with_bytes(alloc, held, &error),
     }
 }
@@ -238,7 +238,7 @@ pub fn outcome_text(alloc: Global, held: &[u8], outcome: Result<()>) -> Result<S
 fn error_with_bytes(alloc: Global, held: &[u8], error: &Error) -> Result<String> {
     match error {
         Error::OutOfMemory => Err(Error::OutOfMemory),
-        error => Ok(format!(in alloc; "{} {error}", str::from_utf8(held)?)?),
+        error => owned_text(format!(in alloc; "{} {error}", str::from_utf8(held)?)),
     }
 }
 
@@ -269,7 +269,7 @@ fn encode_again<M: Encodable>(alloc: Global, map: &M, writer: &mut NarrowWriter)
     let mut outcome = encode_to(alloc, map, writer);
     if matches!(outcome, Err(Error::OutOfMemory)) {
         if !writer.held.is_empty() {
-            return Ok(String::from_str(alloc, "a part was written")?);
+            return owned_text(String::from_str(alloc, "a part was written"));
         }
         outcome = encode_to(alloc, map, writer);
     }

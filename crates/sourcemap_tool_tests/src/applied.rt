@@ -3,6 +3,7 @@ use crate::runs::TWO;
 use sourcemap::{DecodedMap, Error, decode_slice};
 use sourcemap_cli::command::Command;
 use sourcemap_cli::output::apply;
+use sourcemap_test_support::checks::{Checked, check, check_that};
 use sourcemap_trace::Counting;
 use std::test::Fail;
 
@@ -49,12 +50,9 @@ fn lookup_of_text_prints(
 }
 
 #[test]
-fn lookups_are_applied(rt: HostRuntime) -> Result<(), Fail> {
+fn lookups_are_applied(rt: HostRuntime) -> Checked {
     for (text, position, want) in LOOKUPS.iter() {
-        assert!(rt;
-            lookup_of_text_prints(&rt, text, *position, want)?,
-            "{text} {position:?}"
-        );
+        check_that(want, lookup_of_text_prints(&rt, text, *position, want)?)?;
     }
     Ok(())
 }
@@ -90,10 +88,10 @@ fn is_refused(answer: Result<String, Error>, want: &str) -> Result<bool, Error> 
 }
 
 #[test]
-fn flattening_is_applied(rt: HostRuntime) -> Result<(), Fail> {
-    assert!(rt; is_text(flatten(&rt, TWO), FLAT)?);
+fn flattening_is_applied(rt: HostRuntime) -> Checked {
+    check(TWO, flatten(&rt, TWO), FLAT)?;
     for (text, want) in REFUSED.iter() {
-        assert!(rt; is_refused(flatten(&rt, text), want)?, "{text}");
+        check_that(text, is_refused(flatten(&rt, text), want)?)?;
     }
     Ok(())
 }
@@ -124,29 +122,32 @@ const REGULAR: &str = r#"{"sources":["a.js"],"mappings":"AAAA"}"#;
 
 const HERMES: &str = r#"{"sources":["a.js"],"mappings":"AAAA","x_facebook_sources":[]}"#;
 
-// Two maps, at least one of which is not regular.
-static NOT_REGULAR: [(&str, &str); 5] = [
+// A map and an adjustment that are refused. In the first five rows one of the two is not regular.
+static INCOMPATIBLE: [(&str, &str); 6] = [
     (TWO, REGULAR),
     (REGULAR, TWO),
     (TWO, TWO),
     (HERMES, REGULAR),
     (REGULAR, HERMES),
+    // The adjustment moves column 0 to column 4294967295, the greatest column. It would move the
+    // second token of the map from column 1 to column 4294967296.
+    (
+        r#"{"sources":["o.js"],"mappings":"AAAA,CAAC"}"#,
+        r#"{"sources":["t.js"],"mappings":"+/////HAAA"}"#,
+    ),
 ];
-
-// The adjustment moves column 0 to column 4294967295, the greatest column. The adjustment would
-// move the second token of the map from column 1 to column 4294967296.
-const PAST_THE_LAST_COLUMN: (&str, &str) = (
-    r#"{"sources":["o.js"],"mappings":"AAAA,CAAC"}"#,
-    r#"{"sources":["t.js"],"mappings":"+/////HAAA"}"#,
-);
 
 // Decodes the map `text` and the adjustment `by`, and applies `Compose` to them. `apply` ignores
 // the path `any` of the command and opens no file.
 fn compose(rt: &HostRuntime, text: &str, by: &str) -> Result<String, Error> {
     let command = Command::Compose(String::from_str(rt.alloc(), "any")?);
+    compose_by(rt, &command, text, by)
+}
+
+fn compose_by(rt: &HostRuntime, command: &Command, text: &str, by: &str) -> Result<String, Error> {
     let map = decode_slice(rt.alloc(), text.as_bytes())?;
     let adjustment = decode_slice(rt.alloc(), by.as_bytes())?;
-    apply(rt, rt.alloc(), &command, map, Some(adjustment))
+    apply(rt, rt.alloc(), command, map, Some(adjustment))
 }
 
 fn is_incompatible(answer: Result<String, Error>) -> Result<bool, Error> {
@@ -158,14 +159,17 @@ fn is_incompatible(answer: Result<String, Error>) -> Result<bool, Error> {
 }
 
 #[test]
-fn composing_is_applied(rt: HostRuntime) -> Result<(), Fail> {
+fn composing_is_applied(rt: HostRuntime) -> Checked {
     for (text, by, want) in COMPOSED.iter() {
-        assert!(rt; is_text(compose(&rt, text, by), want)?, "{text} {by}");
+        check(text, compose(&rt, text, by), want)?;
     }
-    for (text, by) in NOT_REGULAR.iter() {
-        assert!(rt; is_incompatible(compose(&rt, text, by))?, "{text} {by}");
+    Ok(())
+}
+
+#[test]
+fn maps_that_cannot_be_composed_are_refused(rt: HostRuntime) -> Checked {
+    for (text, by) in INCOMPATIBLE.iter() {
+        check_that(text, is_incompatible(compose(&rt, text, by))?)?;
     }
-    let (text, by) = PAST_THE_LAST_COLUMN;
-    assert!(rt; is_incompatible(compose(&rt, text, by))?);
     Ok(())
 }

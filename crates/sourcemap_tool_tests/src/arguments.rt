@@ -1,5 +1,6 @@
 // The arguments of the program, which need not be UTF-8.
 use sourcemap_cli::system::words;
+use sourcemap_test_support::checks::{Checked, check_that};
 use std::alloc::Global;
 use std::env::{Env, FillError};
 use std::test::Fail;
@@ -47,25 +48,33 @@ fn are_words(rt: &HostRuntime, given: &[&[u8]], want: &[&str]) -> Result<bool, F
     Ok(found.iter().map(String::as_str).eq(want.iter().copied()))
 }
 
+// The arguments of the program with its name, and the words. All words are left out if one of them
+// is not UTF-8.
+static ARGUMENTS: [(&str, &[&[u8]], &[&str]); 6] = [
+    ("no argument, no name", &[], &[]),
+    ("a name alone", &[b"tool"], &[]),
+    (
+        "three words",
+        &[b"tool", b"lookup", b"0", b"5"],
+        &["lookup", "0", "5"],
+    ),
+    (
+        "an empty word, and one past ASCII",
+        &[b"tool", b"tokens", b"", b"\xc3\xa9"],
+        &["tokens", "", "é"],
+    ),
+    (
+        "a byte that is not UTF-8",
+        &[b"tool", b"lookup", b"\xff", b"5"],
+        &[],
+    ),
+    ("half a character", &[b"tool", b"tokens", b"\xc3"], &[]),
+];
+
 #[test]
-fn a_word_that_is_no_text_leaves_none(rt: HostRuntime) -> Result<(), Fail> {
-    assert!(rt; are_words(&rt, &[], &[])?);
-    assert!(rt; are_words(&rt, &[b"tool"], &[])?);
-    assert!(rt;
-        are_words(
-            &rt,
-            &[b"tool", b"lookup", b"0", b"5"],
-            &["lookup", "0", "5"]
-        )?
-    );
-    assert!(rt;
-        are_words(
-            &rt,
-            &[b"tool", b"tokens", b"", "é".as_bytes()],
-            &["tokens", "", "é"]
-        )?
-    );
-    assert!(rt; are_words(&rt, &[b"tool", b"lookup", b"\xff", b"5"], &[])?);
-    assert!(rt; are_words(&rt, &[b"tool", b"tokens", &[0xc3]], &[])?);
+fn a_word_that_is_no_text_leaves_none(rt: HostRuntime) -> Checked {
+    for (about, given, want) in ARGUMENTS.iter() {
+        check_that(about, are_words(&rt, given, want)?)?;
+    }
     Ok(())
 }

@@ -1,9 +1,10 @@
 // Tests with readers and writers that fail, and tests of `report_error`.
-use crate::memory::{unless_cut_out, unless_out};
+use crate::memory::{check_after, unless_cut_out, unless_out};
 use crate::runs::{MAP, USAGE, words_of};
 use sourcemap::{Error, decode};
 use sourcemap_cli::program::run;
 use sourcemap_cli::system::report_error;
+use sourcemap_test_support::checks::{Checked, check_that};
 use sourcemap_test_support::readers::NarrowReader;
 use sourcemap_test_support::writers::{HaltingWriter, NarrowWriter};
 use std::io;
@@ -52,13 +53,10 @@ fn is_refused(rt: &HostRuntime, words: &[String], left: usize) -> Result<bool, F
 }
 
 #[test]
-fn a_run_on_a_reader_that_fails_is_refused(rt: HostRuntime) -> Result<(), Fail> {
+fn a_run_on_a_reader_that_fails_is_refused(rt: HostRuntime) -> Checked {
     let words = words_of(rt.alloc(), "lookup 0 5")?;
     for left in 0..=MAP.len() {
-        assert!(rt;
-            is_refused(&rt, words.as_slice(), left)?,
-            "after {left} bytes"
-        );
+        check_after(left, is_refused(&rt, words.as_slice(), left)?)?;
     }
     Ok(())
 }
@@ -72,9 +70,9 @@ fn is_read_error(rt: &HostRuntime, left: usize) -> Result<bool, Error> {
 }
 
 #[test]
-fn a_reader_that_fails_is_not_decoded(rt: HostRuntime) -> Result<(), Fail> {
+fn a_reader_that_fails_is_not_decoded(rt: HostRuntime) -> Checked {
     for left in 0..=MAP.len() {
-        assert!(rt; is_read_error(&rt, left)?, "after {left} bytes");
+        check_after(left, is_read_error(&rt, left)?)?;
     }
     Ok(())
 }
@@ -85,25 +83,48 @@ fn a_reader_that_fails_is_not_decoded(rt: HostRuntime) -> Result<(), Fail> {
 // `want`. Returns whether all runs meet these conditions. The only error of `is_written` is out of
 // memory.
 fn is_written(rt: &HostRuntime, words: &[String], want: &[u8]) -> Result<bool, Fail> {
-    let mut output = narrow_writer(rt, None);
-    let status = run(rt, rt.alloc(), words, &mut narrow_reader(None), &mut output)?;
-    unless_out(status, output.held.as_slice())?;
-    let mut is_so = output.held.as_slice() == want;
+    let mut is_so = is_written_whole(rt, words, want)?;
     for left in 0..=want.len() {
-        let mut output = narrow_writer(rt, Some(left));
-        let ended = run(rt, rt.alloc(), words, &mut narrow_reader(None), &mut output);
-        unless_cut_out(&ended, output.held.as_slice())?;
-        is_so &= matches!(ended, Err(Error::Io(_))) & (output.held.as_slice() == &want[..left]);
+        is_so &= is_written_until(rt, words, want, left)?;
     }
     Ok(is_so)
 }
 
+fn is_written_whole(rt: &HostRuntime, words: &[String], want: &[u8]) -> Result<bool, Error> {
+    let mut output = narrow_writer(rt, None);
+    let status = run(rt, rt.alloc(), words, &mut narrow_reader(None), &mut output)?;
+    unless_out(status, output.held.as_slice())?;
+    Ok(output.held.as_slice() == want)
+}
+
+fn is_written_until(
+    rt: &HostRuntime,
+    words: &[String],
+    want: &[u8],
+    left: usize,
+) -> Result<bool, Error> {
+    let mut output = narrow_writer(rt, Some(left));
+    let ended = run(rt, rt.alloc(), words, &mut narrow_reader(None), &mut output);
+    unless_cut_out(&ended, output.held.as_slice())?;
+    Ok(matches!(ended, Err(Error::Io(_))) && want.get(..left) == Some(output.held.as_slice()))
+}
+
+fn is_written_by(rt: &HostRuntime, line: &str, want: &[u8]) -> Result<bool, Fail> {
+    let words = words_of(rt.alloc(), line)?;
+    is_written(rt, words.as_slice(), want)
+}
+
+// The words of a run, and its output.
+static LINES: [(&str, &str); 2] = [
+    ("lookup 0 5", "coolstuff.js:0:4 name=x\n"),
+    ("lookup 0", USAGE),
+];
+
 #[test]
-fn a_writer_that_fails_ends_the_run(rt: HostRuntime) -> Result<(), Fail> {
-    let lookup = words_of(rt.alloc(), "lookup 0 5")?;
-    let other = words_of(rt.alloc(), "lookup 0")?;
-    assert!(rt; is_written(&rt, lookup.as_slice(), b"coolstuff.js:0:4 name=x\n")?);
-    assert!(rt; is_written(&rt, other.as_slice(), USAGE.as_bytes())?);
+fn a_writer_that_fails_ends_the_run(rt: HostRuntime) -> Checked {
+    for (line, want) in LINES.iter() {
+        check_that(line, is_written_by(&rt, line, want.as_bytes())?)?;
+    }
     Ok(())
 }
 
@@ -136,14 +157,12 @@ fn is_cut_off(rt: &HostRuntime, words: &[String], left: usize) -> Result<bool, F
 }
 
 #[test]
-fn a_writer_that_takes_nothing_ends_the_run(rt: HostRuntime) -> Result<(), Fail> {
+fn a_writer_that_takes_nothing_ends_the_run(rt: HostRuntime) -> Checked {
     let words = words_of(rt.alloc(), "lookup 0 5")?;
-    assert!(rt; is_written_when_interrupted(&rt, words.as_slice())?);
+    let is_written = is_written_when_interrupted(&rt, words.as_slice())?;
+    check_that("interrupted", is_written)?;
     for left in 0..LOOKED_UP.len() {
-        assert!(rt;
-            is_cut_off(&rt, words.as_slice(), left)?,
-            "after {left} bytes"
-        );
+        check_after(left, is_cut_off(&rt, words.as_slice(), left)?)?;
     }
     Ok(())
 }
@@ -154,28 +173,47 @@ fn a_writer_that_takes_nothing_ends_the_run(rt: HostRuntime) -> Result<(), Fail>
 // write exactly the first `left` bytes of `want` and return an error. Returns whether all calls
 // meet these conditions.
 fn is_reported_as(rt: &HostRuntime, error: &Error, want: &[u8]) -> Result<bool, Fail> {
-    let mut output = narrow_writer(rt, None);
-    report_error(error, &mut output)?;
-    let mut is_so = output.held.as_slice() == want;
+    let mut is_so = is_reported_whole(rt, error, want)?;
     for left in 0..want.len() {
-        let mut output = narrow_writer(rt, Some(left));
-        let reported = report_error(error, &mut output);
-        if matches!(reported, Err(Error::OutOfMemory)) {
-            return Err(Error::OutOfMemory.into());
-        }
-        is_so &= reported.is_err() & (output.held.as_slice() == &want[..left]);
+        is_so &= is_reported_until(rt, error, want, left)?;
     }
     Ok(is_so)
 }
 
+fn is_reported_whole(rt: &HostRuntime, error: &Error, want: &[u8]) -> Result<bool, Error> {
+    let mut output = narrow_writer(rt, None);
+    report_error(error, &mut output)?;
+    Ok(output.held.as_slice() == want)
+}
+
+fn is_reported_until(
+    rt: &HostRuntime,
+    error: &Error,
+    want: &[u8],
+    left: usize,
+) -> Result<bool, Error> {
+    let mut output = narrow_writer(rt, Some(left));
+    match report_error(error, &mut output) {
+        Err(Error::OutOfMemory) => Err(Error::OutOfMemory),
+        Err(_) => Ok(want.get(..left) == Some(output.held.as_slice())),
+        Ok(()) => Ok(false),
+    }
+}
+
+// The kind of an error, and the report.
+static REPORTED: [(ErrorKind, &str); 2] = [
+    (ErrorKind::BrokenPipe, ""),
+    (ErrorKind::StorageFull, "no storage space\n"),
+];
+
 #[test]
-fn errors_are_reported_unless_the_reader_is_gone(rt: HostRuntime) -> Result<(), Fail> {
-    let gone = Error::from(io::Error::from(ErrorKind::BrokenPipe));
-    let full = Error::from(io::Error::from(ErrorKind::StorageFull));
-    assert!(rt; is_reported_as(&rt, &gone, b"")?);
-    assert!(rt; is_reported_as(&rt, &full, b"no storage space\n")?);
-    assert!(rt; is_reported_as(&rt, &Error::OutOfMemory, b"out of memory\n")?);
-    Ok(())
+fn errors_are_reported_unless_the_reader_is_gone(rt: HostRuntime) -> Checked {
+    for (kind, want) in REPORTED.iter() {
+        let error = Error::from(io::Error::from(*kind));
+        check_that(want, is_reported_as(&rt, &error, want.as_bytes())?)?;
+    }
+    let is_reported = is_reported_as(&rt, &Error::OutOfMemory, b"out of memory\n")?;
+    check_that("out of memory", is_reported)
 }
 
 const FULL: &[u8] = b"no storage space\n";
@@ -205,13 +243,19 @@ fn is_report_cut_off(rt: &HostRuntime, error: &Error, left: usize) -> Result<boo
 }
 
 #[test]
-fn a_writer_that_takes_nothing_ends_the_report(rt: HostRuntime) -> Result<(), Fail> {
+fn nothing_is_reported_if_the_reader_is_gone(rt: HostRuntime) -> Checked {
     let gone = Error::from(io::Error::from(ErrorKind::BrokenPipe));
+    let is_quiet = is_reported_when_interrupted(&rt, &gone, Some(0), b"")?;
+    check_that("a reader that is gone", is_quiet)
+}
+
+#[test]
+fn a_writer_that_takes_nothing_ends_the_report(rt: HostRuntime) -> Checked {
     let full = Error::from(io::Error::from(ErrorKind::StorageFull));
-    assert!(rt; is_reported_when_interrupted(&rt, &full, None, FULL)?);
-    assert!(rt; is_reported_when_interrupted(&rt, &gone, Some(0), b"")?);
+    let is_reported = is_reported_when_interrupted(&rt, &full, None, FULL)?;
+    check_that("interrupted", is_reported)?;
     for left in 0..FULL.len() {
-        assert!(rt; is_report_cut_off(&rt, &full, left)?, "after {left} bytes");
+        check_after(left, is_report_cut_off(&rt, &full, left)?)?;
     }
     Ok(())
 }

@@ -1,5 +1,7 @@
-// Two checks whether a run ran out of memory.
+// Two checks whether a run ran out of memory, and a check after a number of bytes.
 use sourcemap::Error;
+use sourcemap_test_support::checks::Checked;
+use std::test::Fail;
 
 const NO_MEMORY: &[u8] = b"out of memory\n";
 
@@ -20,4 +22,12 @@ pub fn unless_cut_out(ended: &Result<u8, Error>, held: &[u8]) -> Result<(), Erro
         return Err(Error::OutOfMemory);
     }
     Ok(())
+}
+
+/// Checks that a condition holds. If not, the message has the number of bytes.
+pub fn check_after(bytes: usize, holds: bool) -> Checked {
+    if holds {
+        return Ok(());
+    }
+    Err(Fail::new(format_args!("after {bytes} bytes: not as expected")))
 }

@@ -1,11 +1,13 @@
 // Runs with incomplete, deeply nested or large maps, with reads that fail, and with unreadable
 // files.
 use crate::fake_files::FakeFiles;
-use crate::memory::unless_out;
+use crate::memory::{check_after, unless_out};
 use crate::runs::{MAP, is_run, words_of};
 use sourcemap::Error;
 use sourcemap_cli::program::run;
+use sourcemap_test_support::checks::{Checked, check_that};
 use sourcemap_test_support::readers::HaltingReader;
+use sourcemap_test_support::results::owned_text;
 use std::alloc::Global;
 use std::cell::Cell;
 use std::io::ErrorKind;
@@ -29,13 +31,10 @@ fn is_answered(
 }
 
 #[test]
-fn proper_beginnings_of_a_map_are_no_json(rt: HostRuntime) -> Result<(), Fail> {
+fn proper_beginnings_of_a_map_are_no_json(rt: HostRuntime) -> Checked {
     for end in 0..MAP.len() {
         let beginning = MAP.get(..end).unwrap_or("{}");
-        assert!(rt;
-            is_answered(&rt, "tokens", beginning, 1, NO_JSON)?,
-            "{end} bytes"
-        );
+        check_after(end, is_answered(&rt, "tokens", beginning, 1, NO_JSON)?)?;
     }
     Ok(())
 }
@@ -51,7 +50,7 @@ const FLAT: &str = r#"{"mappings":"AAAA","names":[],"sources":["a.js"],"version"
 fn nested_text(alloc: Global, depth: usize) -> Result<String, Error> {
     let head = OPENED.repeat(alloc, depth)?;
     let tail = "}]}".repeat(alloc, depth)?;
-    Ok(format!(in alloc; "{head}{INNERMOST}{tail}")?)
+    owned_text(format!(in alloc; "{head}{INNERMOST}{tail}"))
 }
 
 // A depth for `nested_text`, then the words, the status and the output of a run.
@@ -63,23 +62,33 @@ static NESTED: [(usize, &str, u8, &str); 4] = [
 ];
 
 #[test]
-fn indexes_in_one_another_are_read_to_some_depth(rt: HostRuntime) -> Result<(), Fail> {
+fn indexes_in_one_another_are_read_to_some_depth(rt: HostRuntime) -> Checked {
     for (depth, line, status, text) in NESTED.iter() {
         let map = nested_text(rt.alloc(), *depth)?;
-        assert!(rt;
-            is_answered(&rt, line, map.as_str(), *status, text)?,
-            "{depth} {line}"
-        );
+        let is_so = is_answered(&rt, line, map.as_str(), *status, text)?;
+        check_that(line, is_so)?;
     }
     Ok(())
 }
 
+// The map of a million tokens at position 0:0.
+fn tokens_at_one_position(alloc: Global) -> Result<String, Error> {
+    let tokens = ",AAAC".repeat(alloc, 999_999)?;
+    owned_text(format!(in alloc; r#"{{"sources":["a.js"],"mappings":"AAAA{tokens}"}}"#))
+}
+
+// The words of a run with this map, and its output.
+static LOOKUPS: [(&str, &str); 2] = [
+    ("lookup 0 0", "a.js:0:0\n"),
+    ("lookup 0 1", "a.js:0:999999\n"),
+];
+
 #[test]
-fn tokens_at_one_position_are_looked_up(rt: HostRuntime) -> Result<(), Fail> {
-    let tokens = ",AAAC".repeat(rt.alloc(), 999_999)?;
-    let map = format!(in rt.alloc(); r#"{{"sources":["a.js"],"mappings":"AAAA{tokens}"}}"#)?;
-    assert!(rt; is_answered(&rt, "lookup 0 0", map.as_str(), 0, "a.js:0:0\n")?);
-    assert!(rt; is_answered(&rt, "lookup 0 1", map.as_str(), 0, "a.js:0:999999\n")?);
+fn tokens_at_one_position_are_looked_up(rt: HostRuntime) -> Checked {
+    let map = tokens_at_one_position(rt.alloc())?;
+    for (line, text) in LOOKUPS.iter() {
+        check_that(line, is_answered(&rt, line, map.as_str(), 0, text)?)?;
+    }
     Ok(())
 }
 
@@ -95,10 +104,14 @@ fn ends<F: Files>(
     let words = words_of(rt.alloc(), line)?;
     let mut output = Vec::new(rt.alloc());
     let ended = run(files, rt.alloc(), words.as_slice(), reader, &mut output)?;
+    Ok(is_output(ended, output.as_slice(), status, text)?)
+}
+
+fn is_output(ended: u8, output: &[u8], status: u8, text: &str) -> Result<bool, Error> {
     if text != NO_MEMORY {
-        unless_out(ended, output.as_slice())?;
+        unless_out(ended, output)?;
     }
-    Ok(ended == status && output.as_slice() == text.as_bytes())
+    Ok(ended == status && output == text.as_bytes())
 }
 
 fn reader_ends(
@@ -111,21 +124,23 @@ fn reader_ends(
     ends(rt, rt, "lookup 0 5", &mut reader, want)
 }
 
+fn is_out_of_memory(rt: &HostRuntime, reads: usize) -> Result<bool, Fail> {
+    reader_ends(rt, reads, ErrorKind::OutOfMemory, (1, NO_MEMORY))
+}
+
+fn is_timed_out(rt: &HostRuntime, reads: usize) -> Result<bool, Fail> {
+    reader_ends(rt, reads, ErrorKind::TimedOut, (1, "timed out\n"))
+}
+
 #[test]
-fn failing_reads_are_reported(rt: HostRuntime) -> Result<(), Fail> {
+fn failing_reads_are_reported(rt: HostRuntime) -> Checked {
     for reads in 0..=MAP.len() {
-        assert!(rt;
-            reader_ends(&rt, reads, ErrorKind::OutOfMemory, (1, NO_MEMORY))?,
-            "no memory after {reads} bytes"
-        );
-        assert!(rt;
-            reader_ends(&rt, reads, ErrorKind::TimedOut, (1, "timed out\n"))?,
-            "{reads} bytes"
-        );
+        check_after(reads, is_out_of_memory(&rt, reads)?)?;
+        check_after(reads, is_timed_out(&rt, reads)?)?;
     }
     let answer = (0, "coolstuff.js:0:4 name=x\n");
-    assert!(rt; reader_ends(&rt, usize::MAX, ErrorKind::TimedOut, answer)?);
-    Ok(())
+    let is_so = reader_ends(&rt, usize::MAX, ErrorKind::TimedOut, answer)?;
+    check_that("no read that fails", is_so)
 }
 
 // A label and the words of the run. The next four values are `bytes`, `left`, `kind` and
@@ -247,28 +262,24 @@ fn file_ends(rt: &HostRuntime, row: &Row) -> Result<bool, Fail> {
     ends(rt, &files, line, &mut reader, want)
 }
 
-fn row_ends(rt: &HostRuntime, at: usize) -> Result<bool, Fail> {
-    match FILES.get(at) {
-        Some(row) => file_ends(rt, row),
-        None => Ok(false),
-    }
-}
-
 #[test]
-fn unreadable_files_are_reported(rt: HostRuntime) -> Result<(), Fail> {
-    for at in 0..FILES.len() {
-        assert!(rt; row_ends(&rt, at)?, "row {at}");
+fn unreadable_files_are_reported(rt: HostRuntime) -> Checked {
+    for row in FILES.iter() {
+        check_that(row.0, file_ends(&rt, row)?)?;
     }
     Ok(())
 }
 
+// The words of runs that name the current directory.
+static FOLDERS: [&str; 2] = ["compose .", "trace ."];
+
 // Opening a folder succeeds; reading it fails.
 #[test]
-fn a_folder_is_no_file(rt: HostRuntime) -> Result<(), Fail> {
+fn a_folder_is_no_file(rt: HostRuntime) -> Checked {
     let want = (1, "Is a directory (os error 21)\n");
-    for line in ["compose .", "trace ."] {
+    for line in FOLDERS.iter() {
         let mut reader = HaltingReader::new(MAP.as_bytes(), usize::MAX, ErrorKind::TimedOut);
-        assert!(rt; ends(&rt, &rt, line, &mut reader, want)?, "{line}");
+        check_that(line, ends(&rt, &rt, line, &mut reader, want)?)?;
     }
     Ok(())
 }

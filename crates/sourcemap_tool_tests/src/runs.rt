@@ -4,6 +4,7 @@ use sourcemap::decode_slice;
 use sourcemap_cli::command::{Command, parse_words};
 use sourcemap_cli::output::apply;
 use sourcemap_cli::program::{reply_to, run};
+use sourcemap_test_support::checks::{Checked, check_that};
 use sourcemap_trace::Counting;
 use std::alloc::{AllocError, Global};
 use std::test::Fail;
@@ -236,27 +237,34 @@ fn is_met(rt: &HostRuntime, row: &str) -> Result<bool, Fail> {
 }
 
 #[test]
-fn runs_print_answers_and_refusals(rt: HostRuntime) -> Result<(), Fail> {
+fn runs_print_answers_and_refusals(rt: HostRuntime) -> Checked {
     for row in RUNS.lines() {
-        assert!(rt; is_met(&rt, row)?, "{row}");
+        check_that(row, is_met(&rt, row)?)?;
     }
     Ok(())
 }
 
 #[test]
-fn other_words_print_the_usage(rt: HostRuntime) -> Result<(), Fail> {
+fn other_words_print_the_usage(rt: HostRuntime) -> Checked {
     for line in MISUSES.lines() {
-        assert!(rt; is_answered(&rt, line, MAP, 2, USAGE)?, "{line}");
+        check_that(line, is_answered(&rt, line, MAP, 2, USAGE)?)?;
     }
     Ok(())
 }
 
+// Words, an input with a junk header, and the status and output of the run.
+static JUNK: [(&str, &str, u8, &str); 4] = [
+    ("lookup 0 0", ")]}'\n{}", 0, "none\n"),
+    ("tokens", ")]}'\n{}", 0, ""),
+    ("tokens", ")]}'\r{}", 1, "invalid data\n"),
+    ("tokens", ")]}'", 1, "bad json: the text is not JSON\n"),
+];
+
 #[test]
-fn junk_headers_are_recognised(rt: HostRuntime) -> Result<(), Fail> {
-    assert!(rt; is_answered(&rt, "lookup 0 0", ")]}'\n{}", 0, "none\n")?);
-    assert!(rt; is_answered(&rt, "tokens", ")]}'\n{}", 0, "")?);
-    assert!(rt; is_answered(&rt, "tokens", ")]}'\r{}", 1, "invalid data\n")?);
-    assert!(rt; is_answered(&rt, "tokens", ")]}'", 1, "bad json: the text is not JSON\n")?);
+fn junk_headers_are_recognised(rt: HostRuntime) -> Checked {
+    for (line, input, status, text) in JUNK.iter() {
+        check_that(input, is_answered(&rt, line, input, *status, text)?)?;
+    }
     Ok(())
 }
 
@@ -278,44 +286,49 @@ fn command_prints(rt: &HostRuntime, command: &Command, want: &str) -> Result<boo
     }
 }
 
-#[test]
-fn words_ask_for_commands(rt: HostRuntime) -> Result<(), Fail> {
-    let alloc = rt.alloc();
-    let command = Command::Lookup(Counting::From0, 0, 18);
-    assert!(rt; ask_for(alloc, "lookup 0 18", Some(command))?);
-    let command = Command::Lookup(Counting::From1, 0, 18);
-    assert!(rt; ask_for(alloc, "lookup --from-1 1 19", Some(command))?);
-    assert!(rt; ask_for(alloc, "tokens", Some(Command::Tokens))?);
-    assert!(rt; ask_for(alloc, "rewrite", Some(Command::Rewrite))?);
-    assert!(rt; ask_for(alloc, "flatten", Some(Command::Flatten))?);
-    assert!(rt; ask_for(alloc, "shift 7", Some(Command::Shift(7)))?);
-    let path = String::from_str(alloc, "a.map")?;
-    assert!(rt; ask_for(alloc, "compose a.map", Some(Command::Compose(path)))?);
-    let command = Command::Trace(Counting::From0, String::from_str(alloc, "a.txt")?);
-    assert!(rt; ask_for(alloc, "trace a.txt", Some(command))?);
-    let command = Command::Trace(Counting::From1, String::from_str(alloc, "a.txt")?);
-    assert!(rt; ask_for(alloc, "trace --from-1 a.txt", Some(command))?);
-    assert!(rt; ask_for(alloc, "tokens tokens", None)?);
-    Ok(())
+// Checks that words parse to this command.
+fn check_asked(alloc: Global, line: &str, command: Option<Command>) -> Checked {
+    check_that(line, ask_for(alloc, line, command)?)
 }
 
 #[test]
-fn commands_are_applied(rt: HostRuntime) -> Result<(), Fail> {
-    assert!(rt;
-        command_prints(
-            &rt,
-            &Command::Lookup(Counting::From0, 0, 18),
-            "coolstuff.js:2:2 name=alert\n"
-        )?
-    );
-    assert!(rt;
-        command_prints(
-            &rt,
-            &Command::Lookup(Counting::From1, 0, 18),
-            "coolstuff.js:3:3 name=alert\n"
-        )?
-    );
-    assert!(rt; command_prints(&rt, &Command::Tokens, LINES)?);
-    assert!(rt; command_prints(&rt, &Command::Rewrite, REWRITTEN)?);
-    Ok(())
+fn words_ask_for_commands(rt: HostRuntime) -> Checked {
+    let alloc = rt.alloc();
+    let command = Command::Lookup(Counting::From0, 0, 18);
+    check_asked(alloc, "lookup 0 18", Some(command))?;
+    let command = Command::Lookup(Counting::From1, 0, 18);
+    check_asked(alloc, "lookup --from-1 1 19", Some(command))?;
+    check_asked(alloc, "tokens", Some(Command::Tokens))?;
+    check_asked(alloc, "rewrite", Some(Command::Rewrite))?;
+    check_asked(alloc, "flatten", Some(Command::Flatten))?;
+    check_asked(alloc, "shift 7", Some(Command::Shift(7)))?;
+    check_asked(alloc, "tokens tokens", None)
+}
+
+#[test]
+fn words_ask_for_commands_with_files(rt: HostRuntime) -> Checked {
+    let alloc = rt.alloc();
+    let path = String::from_str(alloc, "a.map")?;
+    check_asked(alloc, "compose a.map", Some(Command::Compose(path)))?;
+    let path = String::from_str(alloc, "a.txt")?;
+    let command = Command::Trace(Counting::From0, path);
+    check_asked(alloc, "trace a.txt", Some(command))?;
+    let path = String::from_str(alloc, "a.txt")?;
+    let command = Command::Trace(Counting::From1, path);
+    check_asked(alloc, "trace --from-1 a.txt", Some(command))
+}
+
+// A command, and what `apply` returns for `MAP`.
+fn check_printed(rt: &HostRuntime, command: &Command, want: &str) -> Checked {
+    check_that(want, command_prints(rt, command, want)?)
+}
+
+#[test]
+fn commands_are_applied(rt: HostRuntime) -> Checked {
+    let command = Command::Lookup(Counting::From0, 0, 18);
+    check_printed(&rt, &command, "coolstuff.js:2:2 name=alert\n")?;
+    let command = Command::Lookup(Counting::From1, 0, 18);
+    check_printed(&rt, &command, "coolstuff.js:3:3 name=alert\n")?;
+    check_printed(&rt, &Command::Tokens, LINES)?;
+    check_printed(&rt, &Command::Rewrite, REWRITTEN)
 }

@@ -1,9 +1,10 @@
 // `trace_text`, `trace_text_from`, and runs of `trace FILE` and `trace --from-1 FILE`.
 use crate::fake_files::{FakeFiles, files_with};
-use crate::memory::unless_out;
+use crate::memory::{check_after, unless_out};
 use crate::runs::{MAP, TWO, words_of};
 use sourcemap::{DecodedMap, Error, decode_slice};
 use sourcemap_cli::program::{reply_to, run};
+use sourcemap_test_support::checks::{Checked, check, check_that};
 use sourcemap_trace::{Counting, trace_text, trace_text_from};
 use std::alloc::Global;
 use std::io;
@@ -175,76 +176,51 @@ fn trace_of(
     trace_with_retry(rt.alloc(), counting, &map, positions)
 }
 
-fn traces_to(
-    rt: &HostRuntime,
-    counting: Counting,
-    map: &str,
-    positions: &[u8],
-    want: &str,
-) -> Result<bool, Fail> {
-    Ok(trace_of(rt, counting, map, positions)?.as_str() == want)
+#[test]
+fn positions_are_answered(rt: HostRuntime) -> Checked {
+    for (map, positions, want) in TRACES.iter() {
+        let got = trace_of(&rt, Counting::From0, map, positions.as_bytes());
+        check(positions, got, want)?;
+    }
+    let got = trace_of(&rt, Counting::From0, MAP, b"\xff:5\n0:5");
+    let want = "bad position\ncoolstuff.js:0:4 name=x\n";
+    check("bytes that are not UTF-8", got, want)
 }
 
 #[test]
-fn positions_are_answered(rt: HostRuntime) -> Result<(), Fail> {
-    for (map, positions, want) in TRACES.iter() {
-        assert!(rt;
-            traces_to(&rt, Counting::From0, map, positions.as_bytes(), want)?,
-            "{map} {positions}"
-        );
-    }
+fn positions_from_1_are_answered(rt: HostRuntime) -> Checked {
     for (map, positions, want) in TRACES_FROM_1.iter() {
-        assert!(rt;
-            traces_to(&rt, Counting::From1, map, positions.as_bytes(), want)?,
-            "{map} {positions}"
-        );
+        let got = trace_of(&rt, Counting::From1, map, positions.as_bytes());
+        check(positions, got, want)?;
     }
-    assert!(rt;
-        traces_to(
-            &rt,
-            Counting::From0,
-            MAP,
-            b"\xff:5\n0:5",
-            "bad position\ncoolstuff.js:0:4 name=x\n"
-        )?
-    );
     Ok(())
 }
 
-#[test]
-fn long_lines_and_many_are_answered(rt: HostRuntime) -> Result<(), Fail> {
+fn traces_to(rt: &HostRuntime, positions: &[u8], want: &str) -> Result<bool, Error> {
+    Ok(trace_of(rt, Counting::From0, MAP, positions)?.as_str() == want)
+}
+
+// Whether a position of ten million digits, and as many digits alone, are answered.
+fn is_long_line_answered(rt: &HostRuntime) -> Result<bool, Error> {
     let zeros = "0".repeat(rt.alloc(), 10_000_000)?;
     let line = format!(in rt.alloc(); "{zeros}:5")?;
-    assert!(rt;
-        traces_to(
-            &rt,
-            Counting::From0,
-            MAP,
-            line.as_bytes(),
-            "coolstuff.js:0:4 name=x\n"
-        )?
-    );
-    assert!(rt;
-        traces_to(
-            &rt,
-            Counting::From0,
-            MAP,
-            zeros.as_bytes(),
-            "bad position\n"
-        )?
-    );
+    Ok(
+        traces_to(rt, line.as_bytes(), "coolstuff.js:0:4 name=x\n")?
+            && traces_to(rt, zeros.as_bytes(), "bad position\n")?,
+    )
+}
+
+// Whether a million empty lines are answered.
+fn are_many_lines_answered(rt: &HostRuntime) -> Result<bool, Error> {
     let newlines = "\n".repeat(rt.alloc(), 1_000_000)?;
     let answers = "bad position\n".repeat(rt.alloc(), 1_000_000)?;
-    assert!(rt;
-        traces_to(
-            &rt,
-            Counting::From0,
-            MAP,
-            newlines.as_bytes(),
-            answers.as_str()
-        )?
-    );
-    Ok(())
+    traces_to(rt, newlines.as_bytes(), answers.as_str())
+}
+
+#[test]
+fn long_lines_and_many_are_answered(rt: HostRuntime) -> Checked {
+    check_that("a long line", is_long_line_answered(&rt)?)?;
+    check_that("many lines", are_many_lines_answered(&rt)?)
 }
 
 // Whether a run with these files prints this text and ends with this status.
@@ -285,17 +261,18 @@ fn is_answered(rt: &HostRuntime, words: &[String], row: &Row) -> Result<bool, Fa
     Ok(is_so && files.is_opened.get())
 }
 
-#[test]
-fn runs_answer_positions(rt: HostRuntime) -> Result<(), Fail> {
-    let words = words_of(rt.alloc(), "trace a.txt")?;
-    for row in TRACES.iter() {
-        assert!(rt; is_answered(&rt, words.as_slice(), row)?, "{}", row.1);
-    }
-    let words = words_of(rt.alloc(), "trace --from-1 a.txt")?;
-    for row in TRACES_FROM_1.iter() {
-        assert!(rt; is_answered(&rt, words.as_slice(), row)?, "{}", row.1);
+fn check_answers(rt: &HostRuntime, line: &str, rows: &[Row]) -> Checked {
+    let words = words_of(rt.alloc(), line)?;
+    for row in rows {
+        check_that(row.1, is_answered(rt, words.as_slice(), row)?)?;
     }
     Ok(())
+}
+
+#[test]
+fn runs_answer_positions(rt: HostRuntime) -> Checked {
+    check_answers(&rt, "trace a.txt", &TRACES)?;
+    check_answers(&rt, "trace --from-1 a.txt", &TRACES_FROM_1)
 }
 
 // Whether a run prints `broken pipe` and a newline, and ends with status 1. Reading the file of
@@ -307,24 +284,31 @@ fn is_refused(rt: &HostRuntime, words: &[String], left: usize) -> Result<bool, F
 }
 
 #[test]
-fn files_of_positions_may_fail(rt: HostRuntime) -> Result<(), Fail> {
+fn files_of_positions_may_fail(rt: HostRuntime) -> Checked {
     let words = words_of(rt.alloc(), "trace a.txt")?;
     for left in 0..=5 {
-        assert!(rt;
-            is_refused(&rt, words.as_slice(), left)?,
-            "after {left} bytes"
-        );
+        check_after(left, is_refused(&rt, words.as_slice(), left)?)?;
     }
-    let from_1 = words_of(rt.alloc(), "trace --from-1 a.txt")?;
-    assert!(rt; is_refused(&rt, from_1.as_slice(), 1)?);
-    let other = words_of(rt.alloc(), "trace b.txt")?;
-    let files = files_with("a.txt", "0:5");
-    assert!(rt; is_run(&rt, &files, other.as_slice(), MAP, 1, "entity not found\n")?);
     Ok(())
 }
 
 #[test]
-fn maps_are_decoded_before_positions_are_read(rt: HostRuntime) -> Result<(), Fail> {
+fn a_file_of_positions_from_1_may_fail(rt: HostRuntime) -> Checked {
+    let words = words_of(rt.alloc(), "trace --from-1 a.txt")?;
+    check_after(1, is_refused(&rt, words.as_slice(), 1)?)
+}
+
+#[test]
+fn a_file_of_positions_may_be_missing(rt: HostRuntime) -> Checked {
+    let words = words_of(rt.alloc(), "trace b.txt")?;
+    let files = files_with("a.txt", "0:5");
+    let text = "entity not found\n";
+    let is_so = is_run(&rt, &files, words.as_slice(), MAP, 1, text)?;
+    check_that(text, is_so)
+}
+
+#[test]
+fn maps_are_decoded_before_positions_are_read(rt: HostRuntime) -> Checked {
     let words = words_of(rt.alloc(), "trace a.txt")?;
     let files = files_with("a.txt", "0:5");
     let is_so = is_run(
@@ -335,16 +319,18 @@ fn maps_are_decoded_before_positions_are_read(rt: HostRuntime) -> Result<(), Fai
         1,
         "bad json: a field has the wrong type\n",
     )?;
-    assert!(rt; is_so && !files.is_opened.get());
-    Ok(())
+    check_that("no map", is_so && !files.is_opened.get())
 }
 
 #[test]
-fn read_errors_of_positions_are_reported(rt: HostRuntime) -> Result<(), Fail> {
+fn read_errors_of_positions_are_reported(rt: HostRuntime) -> Checked {
     let words = words_of(rt.alloc(), "trace a.txt")?;
+    check_that("a missing file", is_reported(&rt, words.as_slice())?)
+}
+
+fn is_reported(rt: &HostRuntime, words: &[String]) -> Result<bool, Error> {
     let bytes = Vec::from_slice(rt.alloc(), MAP.as_bytes())?;
     let cause = io::Error::from(ErrorKind::NotFound);
-    let reply = reply_to(&rt, rt.alloc(), words.as_slice(), bytes, Err(cause.into()))?;
-    assert!(rt; reply.status == 1 && reply.text.as_str() == "entity not found\n");
-    Ok(())
+    let reply = reply_to(rt, rt.alloc(), words, bytes, Err(cause.into()))?;
+    Ok(reply.status == 1 && reply.text.as_str() == "entity not found\n")
 }

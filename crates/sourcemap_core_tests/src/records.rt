@@ -3,7 +3,8 @@ use serde_json::Value;
 use sourcemap_errors::errors::{Error, JsonFault, Result};
 use sourcemap_json::jsontypes::{DebugId, FacebookScopeMapping, MinimalRawSourceMap, RawSourceMap};
 use sourcemap_test_support::checks::{Checked, check, check_that};
-use sourcemap_test_support::records::record;
+use sourcemap_test_support::records::{boxed_record, value_text};
+use sourcemap_test_support::results::owned_text;
 use std::alloc::Global;
 
 // In each text a value has the wrong type, a number is not a `u32`, a debug id is invalid, or a
@@ -27,7 +28,7 @@ static WRONG_SHAPE: [&str; 15] = [
 ];
 
 fn is_of_wrong_shape(alloc: Global, text: &str) -> Result<bool> {
-    match record(alloc, text) {
+    match boxed_record(alloc, text) {
         Err(Error::OutOfMemory) => Err(Error::OutOfMemory),
         answer => Ok(matches!(answer, Err(Error::BadJson(JsonFault::Shape)))),
     }
@@ -87,12 +88,8 @@ static WRITTEN: [(&str, &str, &str); 5] = [
     ),
 ];
 
-fn value_text(alloc: Global, value: Result<Value>) -> Result<String> {
-    Ok(value?.to_string(alloc)?)
-}
-
 fn by_reference(alloc: Global, text: &str) -> Result<Value> {
-    record(alloc, text)?.to_value(alloc)
+    boxed_record(alloc, text)?.to_value(alloc)
 }
 
 fn by_moving(alloc: Global, text: &str) -> Result<Value> {
@@ -101,13 +98,13 @@ fn by_moving(alloc: Global, text: &str) -> Result<Value> {
 }
 
 fn is_that_of(alloc: Global, one: &RawSourceMap, text: &str) -> Result<bool> {
-    let other = record(alloc, text)?;
-    Ok(other == *one)
+    let other = boxed_record(alloc, text)?;
+    Ok(*other == *one)
 }
 
 fn are_equal(alloc: Global, one: &str, other: &str) -> Result<bool> {
-    let record = record(alloc, one)?;
-    is_that_of(alloc, &record, other)
+    let record = boxed_record(alloc, one)?;
+    is_that_of(alloc, &*record, other)
 }
 
 #[test]
@@ -150,13 +147,14 @@ static IDS: [(&str, &str, &str); 4] = [
 
 fn id_text(alloc: Global, id: Option<DebugId>) -> Result<String> {
     match id {
-        None => Ok(String::from_str(alloc, "none")?),
-        Some(id) => Ok(format!(in alloc; "{}", DebugId::from_uuid(id.uuid()))?),
+        None => owned_text(String::from_str(alloc, "none")),
+        Some(id) => owned_text(format!(in alloc; "{}", DebugId::from_uuid(id.uuid()))),
     }
 }
 
 fn id_in(alloc: Global, text: &str) -> Result<String> {
-    id_text(alloc, record(alloc, text)?.debug_id)
+    let record = boxed_record(alloc, text)?;
+    id_text(alloc, record.debug_id)
 }
 
 #[test]
@@ -186,14 +184,17 @@ fn names_text(alloc: Global, names: &[Value]) -> Result<String> {
 }
 
 fn names_in(alloc: Global, text: &str) -> Result<String> {
-    let names = record(alloc, text)?.names;
-    names_text(alloc, names.as_ref().map_or(&[], |names| names.as_slice()))
+    let record = boxed_record(alloc, text)?;
+    match &record.names {
+        Some(names) => names_text(alloc, names.as_slice()),
+        None => names_text(alloc, &[]),
+    }
 }
 
 fn keys_in(alloc: Global, text: &str) -> Result<String> {
     let value = Value::from_str(alloc, text)?;
     let keys = MinimalRawSourceMap::from_value(&value)?;
-    Ok(format!(in alloc; "{:?} {} {}", keys.version, keys.names, keys.mappings)?)
+    owned_text(format!(in alloc; "{:?} {} {}", keys.version, keys.names, keys.mappings))
 }
 
 #[test]

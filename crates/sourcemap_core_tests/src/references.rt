@@ -10,7 +10,7 @@ use sourcemap_json::detector::{
 use sourcemap_source_views::sourceview::SourceView;
 use sourcemap_test_support::checks::{Checked, check, check_that};
 use sourcemap_test_support::readers::{HaltingReader, NarrowReader};
-use sourcemap_test_support::results::{error_text, text_or_none};
+use sourcemap_test_support::results::{error_text, owned_text, text_or_none};
 use std::alloc::Global;
 use std::io::ErrorKind;
 use std::str;
@@ -100,9 +100,9 @@ static LOCATED: [(&str, &[u8], &str); 18] = [
 
 fn reference_text(alloc: Global, found: Result<Option<SourceMapRef>>) -> Result<String> {
     match found {
-        Ok(Some(SourceMapRef::Ref(url))) => Ok(format!(in alloc; "#{url}")?),
-        Ok(Some(SourceMapRef::LegacyRef(url))) => Ok(format!(in alloc; "@{url}")?),
-        Ok(None) => Ok(String::from_str(alloc, "none")?),
+        Ok(Some(SourceMapRef::Ref(url))) => owned_text(format!(in alloc; "#{url}")),
+        Ok(Some(SourceMapRef::LegacyRef(url))) => owned_text(format!(in alloc; "@{url}")),
+        Ok(None) => owned_text(String::from_str(alloc, "none")),
         Err(error) => error_text(alloc, &error),
     }
 }
@@ -268,7 +268,7 @@ fn slice_and_reader(alloc: Global, head: &[u8], piece: &[u8], tail: &[u8]) -> Re
     if sliced == read {
         return Ok(sliced);
     }
-    Ok(format!(in alloc; "{sliced}, but {read} by a reader")?)
+    owned_text(format!(in alloc; "{sliced}, but {read} by a reader"))
 }
 
 #[test]
@@ -352,7 +352,7 @@ fn compare(alloc: Global, a: &str, b: &str) -> Result<String> {
     let same = are_equal(&usual, &other);
     let mixed = are_equal(&legacy, &other);
     let url = usual.get_url();
-    Ok(format!(in alloc; "{url} {same} {mixed}")?)
+    owned_text(format!(in alloc; "{url} {same} {mixed}"))
 }
 
 #[test]
@@ -380,15 +380,15 @@ static FAILED: [(ErrorKind, &str, &str); 2] = [
 
 fn locate_failing(alloc: Global, kind: ErrorKind) -> Result<String> {
     match locate_sourcemap_reference(alloc, failing_reader(kind)) {
-        Ok(found) => Ok(format!(in alloc; "{found:?}")?),
-        Err(error) => Ok(format!(in alloc; "{error:?}")?),
+        Ok(found) => owned_text(format!(in alloc; "{found:?}")),
+        Err(error) => owned_text(format!(in alloc; "{error:?}")),
     }
 }
 
 fn detect_failing(alloc: Global, kind: ErrorKind) -> Result<String> {
     match is_sourcemap(alloc, failing_reader(kind)) {
-        Ok(found) => Ok(format!(in alloc; "{found}")?),
-        Err(error) => Ok(format!(in alloc; "{error:?}")?),
+        Ok(found) => owned_text(format!(in alloc; "{found}")),
+        Err(error) => owned_text(format!(in alloc; "{error:?}")),
     }
 }
 

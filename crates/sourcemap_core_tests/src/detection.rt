@@ -4,6 +4,7 @@ use sourcemap_errors::errors::{Error, Result};
 use sourcemap_json::detector::{is_sourcemap, is_sourcemap_slice};
 use sourcemap_test_support::checks::{Checked, check, check_that};
 use sourcemap_test_support::readers::{HaltingReader, NarrowReader};
+use sourcemap_test_support::results::owned_text;
 use std::alloc::Global;
 use std::io::ErrorKind;
 
@@ -80,7 +81,7 @@ fn detect(alloc: Global, bytes: &[u8]) -> Result<String> {
     let is_read = is_sourcemap(alloc, narrow)?;
     let halting = HaltingReader::new(bytes, usize::MAX, ErrorKind::TimedOut);
     let is_read_on = is_sourcemap(alloc, halting)?;
-    Ok(format!(in alloc; "{is_map}, {is_read}, {is_read_on}")?)
+    owned_text(format!(in alloc; "{is_map}, {is_read}, {is_read_on}"))
 }
 
 #[test]

@@ -2,7 +2,7 @@
 use crate::folders::{count_or_error, expand_folder, fill, folder, load};
 use sourcemap::{Result, SourceMapBuilder};
 use sourcemap_test_support::checks::{Checked, check};
-use sourcemap_test_support::results::push_optional;
+use sourcemap_test_support::results::{owned_text, push_optional};
 use std::alloc::Global;
 use std::os::fd::AsRawFd;
 use std::rt::Files;
@@ -300,7 +300,7 @@ fn load_long<F: Files>(rt: &F, alloc: Global, folder: &str, bytes: &[u8]) -> Res
     let count = builder.load_local_source_contents(rt, folder, None)?;
     let contents = builder.get_source_contents(0).unwrap_or("");
     let is_same = contents.as_bytes() == bytes;
-    Ok(format!(in alloc; "{count} {} {is_same}", contents.len())?)
+    owned_text(format!(in alloc; "{count} {} {is_same}", contents.len()))
 }
 
 #[test]

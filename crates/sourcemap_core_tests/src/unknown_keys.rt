@@ -6,6 +6,8 @@ use sourcemap_json::detector::is_sourcemap_slice;
 use sourcemap_json::jsontypes::RawSourceMap;
 use sourcemap_records::bytes::read_record;
 use sourcemap_test_support::checks::{Checked, check, check_that};
+use sourcemap_test_support::records::record_text;
+use sourcemap_test_support::results::{box_result, owned_text};
 use std::alloc::Global;
 
 // A label, a text, and what its record is written as.
@@ -79,17 +81,13 @@ static READ: [(&str, &str, &str); 11] = [
     ),
 ];
 
-fn written(alloc: Global, record: RawSourceMap) -> Result<String> {
-    Ok(record.into_value(alloc)?.to_string(alloc)?)
-}
-
 fn read_bytes(alloc: Global, bytes: &[u8]) -> Result<String> {
-    written(alloc, read_record(alloc, bytes)?)
+    record_text(alloc, read_record(alloc, bytes))
 }
 
 fn read_value(alloc: Global, text: &str) -> Result<String> {
     let value = Value::from_str(alloc, text)?;
-    written(alloc, RawSourceMap::from_value(alloc, &value)?)
+    record_text(alloc, RawSourceMap::from_value(alloc, &value))
 }
 
 #[test]
@@ -115,10 +113,12 @@ fn with_members(alloc: Global, before: &[u8], x: &[u8], after: &[u8]) -> Result<
 // What reading and detecting say of bytes.
 fn answers(alloc: Global, bytes: &[u8]) -> Result<String> {
     let is_map = is_sourcemap_slice(alloc, bytes)?;
-    match read_record(alloc, bytes) {
-        Ok(_) => Ok(format!(in alloc; "record, {is_map}")?),
-        Err(Error::BadJson(JsonFault::Parse)) => Ok(format!(in alloc; "no JSON, {is_map}")?),
-        Err(Error::BadJson(JsonFault::Shape)) => Ok(format!(in alloc; "no record, {is_map}")?),
+    match box_result(alloc, read_record(alloc, bytes)) {
+        Ok(_) => owned_text(format!(in alloc; "record, {is_map}")),
+        Err(Error::BadJson(JsonFault::Parse)) => owned_text(format!(in alloc; "no JSON, {is_map}")),
+        Err(Error::BadJson(JsonFault::Shape)) => owned_text(format!(in alloc;
+            "no record, {is_map}"
+        )),
         Err(error) => Err(error),
     }
 }

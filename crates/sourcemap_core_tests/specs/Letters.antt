@@ -2,8 +2,8 @@
 use Rattle.std.specs.Prelude.{Option, Some, None, if◌then◌else◌, codes}
 use Rattle.std.specs.Str.{bytes_eq}
 use Rattle.sourcemap_json_read.specs.Kept.{Part, at_key, all_items}
-use Rattle.sourcemap_json_values_tests.specs.declared.letters.Letters.{Letters}
-use Rattle.sourcemap_json_values_tests.specs.declared.letters.Letters.TheVariants.{Outer, Whole, Flat, Bare}
+use Rattle.sourcemap_core_tests.specs.declared.letters.Letters.{Letters}
+use Rattle.sourcemap_core_tests.specs.declared.letters.Letters.TheVariants.{Outer, Whole, Flat, Bare}
 
 abbrev pub letters_inside : Letters → Part → Option Letters
 letters_inside Whole part = Some Whole

@@ -3,7 +3,7 @@ use sourcemap_errors::errors::{Error, Result};
 use sourcemap_json::decoder::{StripHeaderReader, strip_junk_header};
 use sourcemap_test_support::checks::{Checked, check};
 use sourcemap_test_support::readers::NarrowReader;
-use sourcemap_test_support::results::error_text;
+use sourcemap_test_support::results::{error_text, owned_text};
 use std::alloc::Global;
 use std::io::{ErrorKind, Read};
 use std::{io, str};
@@ -28,7 +28,7 @@ static READ: [(&str, &[u8], &str); 6] = [
 
 fn text_or_error(alloc: Global, bytes: &[u8], outcome: io::Result<usize>) -> Result<String> {
     match outcome {
-        Ok(_) => Ok(String::from_str(alloc, str::from_utf8(bytes)?)?),
+        Ok(_) => owned_text(String::from_str(alloc, str::from_utf8(bytes)?)),
         Err(error) => error_text(alloc, &Error::from(error)),
     }
 }
@@ -69,7 +69,7 @@ static STRIPPED: [(&str, &[u8], &str); 3] = [
 
 fn strip(alloc: Global, text: &[u8]) -> Result<String> {
     match strip_junk_header(text) {
-        Ok(bytes) => Ok(String::from_str(alloc, str::from_utf8(bytes)?)?),
+        Ok(bytes) => owned_text(String::from_str(alloc, str::from_utf8(bytes)?)),
         Err(error) => error_text(alloc, &Error::from(error)),
     }
 }

@@ -14,7 +14,7 @@ pub enum Letters {
 }
 
 impl Level for Letters {
-    ghost use Rattle.sourcemap_json_values_tests.specs.Letters.{letters_inside};
+    ghost use Rattle.sourcemap_core_tests.specs.Letters.{letters_inside};
 
     ghost inside = { letters_inside };
 

@@ -1,5 +1,6 @@
 // Folders that tests write to, and helpers to compare results.
 use sourcemap::{Error, Result, SourceMapBuilder};
+use sourcemap_test_support::results::owned_text;
 use std::alloc::Global;
 use std::os::unix::fs::symlink;
 use std::rt::{Env, Files};
@@ -11,7 +12,7 @@ pub fn folder<R: Files + Env + AllocGlobal>(rt: &R, name: &str) -> io::Result<St
     let _ = fs::remove_dir_all(rt, name);
     fs::create_dir(rt, name)?;
     let current = env::current_dir(rt)?.into_string();
-    Ok(format!(in rt.alloc(); "{current}/{name}")?)
+    owned_text(format!(in rt.alloc(); "{current}/{name}"))
 }
 
 // The files of a folder and their contents.
@@ -51,8 +52,8 @@ fn link<R: Files + AllocGlobal>(rt: &R, folder: &str, path: &str, to: &str) -> i
 /// Replaces `@` at the start of a text by the path of the folder.
 pub fn expand_folder(alloc: Global, folder: &str, text: &str) -> Result<String> {
     match text.strip_prefix('@') {
-        Some(rest) => Ok(format!(in alloc; "{folder}{rest}")?),
-        None => Ok(String::from_str(alloc, text)?),
+        Some(rest) => owned_text(format!(in alloc; "{folder}{rest}")),
+        None => owned_text(String::from_str(alloc, text)),
     }
 }
 
@@ -60,11 +61,11 @@ pub fn expand_folder(alloc: Global, folder: &str, text: &str) -> Result<String> 
 /// `InvalidInput` is `invalid input`.
 pub fn count_or_error(alloc: Global, loaded: Result<usize>) -> Result<String> {
     match loaded {
-        Ok(count) => Ok(format!(in alloc; "{count}")?),
+        Ok(count) => owned_text(format!(in alloc; "{count}")),
         Err(Error::Io(cause)) if cause.kind() == io::ErrorKind::InvalidInput => {
-            Ok(String::from_str(alloc, "invalid input")?)
+            owned_text(String::from_str(alloc, "invalid input"))
         }
-        Err(error) => Ok(format!(in alloc; "{error}")?),
+        Err(error) => owned_text(format!(in alloc; "{error}")),
     }
 }
 

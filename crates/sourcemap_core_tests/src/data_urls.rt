@@ -3,7 +3,7 @@
 use sourcemap_errors::errors::Result;
 use sourcemap_json::data_url::{data_url, data_url_bytes};
 use sourcemap_test_support::checks::{Checked, check};
-use sourcemap_test_support::results::error_text;
+use sourcemap_test_support::results::{error_text, owned_text};
 use std::alloc::Global;
 use std::str;
 
@@ -56,7 +56,7 @@ static READ: [(&str, &str, &str); 9] = [
 
 fn read(alloc: Global, url: &str) -> Result<String> {
     match data_url_bytes(alloc, url) {
-        Ok(bytes) => Ok(String::from_str(alloc, str::from_utf8(bytes.as_slice())?)?),
+        Ok(bytes) => owned_text(String::from_str(alloc, str::from_utf8(bytes.as_slice())?)),
         Err(error) => error_text(alloc, &error),
     }
 }
