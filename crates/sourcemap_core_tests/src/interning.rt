@@ -70,14 +70,18 @@ fn count_numbered<'a>(index: &mut TextIndex<&'a str>, texts: &'a [String]) -> Re
 fn numbering_text(alloc: Global, start: &str, end: &str, count: usize) -> Result<String> {
     let texts = numbered_texts(alloc, start, end, count)?;
     let other = format!(in alloc; "{start}{:08}{end}", count)?;
+    number_twice(alloc, texts.as_slice(), other.as_str())
+}
+
+fn number_twice(alloc: Global, texts: &[String], other: &str) -> Result<String> {
     let mut index = TextIndex::new(alloc)?;
-    let first = count_numbered(&mut index, texts.as_slice())?;
-    let again = count_numbered(&mut index, texts.as_slice())?;
+    let first = count_numbered(&mut index, texts)?;
+    let again = count_numbered(&mut index, texts)?;
     let is_there = match texts.last() {
         Some(text) => index.contains(text.as_str()),
         None => false,
     };
-    let is_other = index.contains(other.as_str());
+    let is_other = index.contains(other);
     owned_text(format!(in alloc; "{first} {again} {is_there} {is_other}"))
 }
 

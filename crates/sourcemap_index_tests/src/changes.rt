@@ -8,7 +8,7 @@ use sourcemap::encoder::Encodable;
 use sourcemap::errors::{Error, Result};
 use sourcemap::types::{DecodedMap, SourceMapIndex, SourceMapSection};
 use sourcemap_test_support::checks::{Checked, check};
-use sourcemap_test_support::results::box_result;
+use sourcemap_test_support::results::{box_result, owned_text};
 use std::alloc::Global;
 
 // A change to an index map that has two sections, or to one of these sections. Sections are
@@ -133,7 +133,7 @@ fn change_text(alloc: Global, index: &mut SourceMapIndex, change: Change) -> Res
     apply_whole(alloc, index, change)?;
     let sections = sections_text(alloc, index)?;
     let has_id = has_debug_id(index.get_section(1));
-    Ok(format!(in alloc; "{:?} {sections} {has_id}", index.get_file())?)
+    owned_text(format!(in alloc; "{:?} {sections} {has_id}", index.get_file()))
 }
 
 fn apply_change(alloc: Global, change: Change) -> Result<String> {
@@ -254,7 +254,7 @@ fn is_read_from(alloc: Global, text: &str, index: &SourceMapIndex) -> Result<boo
 fn writing_text(alloc: Global, index: &SourceMapIndex) -> Result<String> {
     let text = record_text(alloc, index.as_raw_sourcemap())?;
     let is_read_back = is_read_from(alloc, text.as_str(), index)?;
-    Ok(format!(in alloc; "{text} {is_read_back}")?)
+    owned_text(format!(in alloc; "{text} {is_read_back}"))
 }
 
 fn made_index_text(alloc: Global, index: Result<Box<SourceMapIndex>>) -> Result<String> {

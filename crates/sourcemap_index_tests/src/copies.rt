@@ -4,7 +4,7 @@ use crate::samples::{BUNDLE, HERMES, LINKED, NEITHER, NESTED, TWO};
 use sourcemap::errors::Result;
 use sourcemap::types::{DecodedMap, SourceMapIndex, SourceMapSection};
 use sourcemap_test_support::checks::{Checked, check};
-use sourcemap_test_support::results::box_result;
+use sourcemap_test_support::results::{box_result, owned_text};
 use std::alloc::Global;
 
 fn equals_copy(alloc: Global, map: &DecodedMap) -> Result<bool> {
@@ -18,7 +18,7 @@ fn equals(alloc: Global, map: &DecodedMap, other: &str) -> Result<bool> {
 fn compared_text(alloc: Global, map: &DecodedMap, other: &str) -> Result<String> {
     let copied = equals_copy(alloc, map)?;
     let same = equals(alloc, map, other)?;
-    Ok(format!(in alloc; "{copied} {same}")?)
+    owned_text(format!(in alloc; "{copied} {same}"))
 }
 
 fn compare_maps(alloc: Global, text: &str, other: &str) -> Result<String> {
@@ -69,7 +69,7 @@ fn section_equals_copy(alloc: Global, section: Option<&SourceMapSection>) -> Res
 fn copies_text(alloc: Global, index: &SourceMapIndex) -> Result<String> {
     let index_copied = index_equals_copy(alloc, index)?;
     let section_copied = section_equals_copy(alloc, index.get_section(0))?;
-    Ok(format!(in alloc; "{index_copied} {section_copied}")?)
+    owned_text(format!(in alloc; "{index_copied} {section_copied}"))
 }
 
 fn copy_parts(alloc: Global, text: &str) -> Result<String> {

@@ -6,7 +6,7 @@ use sourcemap::errors::Result;
 use sourcemap::jsontypes::DebugId;
 use sourcemap::types::DecodedMap;
 use sourcemap_test_support::checks::{Checked, check};
-use sourcemap_test_support::results::{box_result, error_of, text_or_none};
+use sourcemap_test_support::results::{box_result, error_of, owned_text, text_or_none};
 use std::alloc::Global;
 
 const ID: &str = "0123456789abcdef0123456789abcdef";
@@ -20,7 +20,7 @@ pub fn id_text(alloc: Global, map: &DecodedMap) -> Result<String> {
 fn id_and_text(alloc: Global, map: &DecodedMap) -> Result<String> {
     let id = id_text(alloc, map)?;
     let text = value_text(alloc, map.to_value())?;
-    Ok(format!(in alloc; "{id} {text}")?)
+    owned_text(format!(in alloc; "{id} {text}"))
 }
 
 fn read(alloc: Global, text: &str) -> Result<String> {
@@ -173,7 +173,7 @@ fn made_text(alloc: Global, map: &mut DecodedMap) -> Result<String> {
         r#"{"version":3,"file":"test.js","sections":[],"debugId":"0123456789abcdef0123456789abcdef"}"#;
     let is_read = *map == *map_of(alloc, text)?;
     let has_it = map.debug_id() == DebugId::parse(ID);
-    Ok(format!(in alloc; "{had_none} {is_read} {has_it}")?)
+    owned_text(format!(in alloc; "{had_none} {is_read} {has_it}"))
 }
 
 fn empty_index_text(alloc: Global) -> Result<String> {

@@ -6,7 +6,7 @@ use sourcemap::errors::Result;
 use sourcemap::types::DecodedMap;
 use sourcemap::{SourceMap, SourceMapHermes};
 use sourcemap_test_support::checks::{Checked, check};
-use sourcemap_test_support::results::error_of;
+use sourcemap_test_support::results::{error_of, owned_text};
 use std::alloc::Global;
 
 const TWO_FUNCTIONS: &str = concat!(
@@ -59,7 +59,7 @@ fn name_text(map: &DecodedMap, offset: u32) -> &str {
 }
 
 fn copy_name(alloc: Global, map: &DecodedMap, offset: u32) -> Result<String> {
-    Ok(String::from_str(alloc, name_text(map, offset))?)
+    owned_text(String::from_str(alloc, name_text(map, offset)))
 }
 
 fn name_at(alloc: Global, text: &str, offset: u32) -> Result<String> {
@@ -116,7 +116,7 @@ fn ids_text(alloc: Global, map: &mut DecodedMap) -> Result<String> {
     let old = id_text(alloc, map)?;
     map.set_debug_id(None);
     let new = id_text(alloc, map)?;
-    Ok(format!(in alloc; "{old} {new} {}", name_text(map, 0))?)
+    owned_text(format!(in alloc; "{old} {new} {}", name_text(map, 0)))
 }
 
 fn ids(alloc: Global, text: &str) -> Result<String> {
@@ -137,7 +137,7 @@ fn debug_ids_of_hermes_maps_are_set(rt: HostRuntime) -> Checked {
 fn kinds(alloc: Global, text: &str) -> Result<String> {
     let regular = error_of(alloc, SourceMap::from_slice(alloc, text.as_bytes()))?;
     let hermes = error_of(alloc, SourceMapHermes::from_slice(alloc, text.as_bytes()))?;
-    Ok(format!(in alloc; "{regular}; {hermes}")?)
+    owned_text(format!(in alloc; "{regular}; {hermes}"))
 }
 
 // A text, and the errors of reading the text as a regular map and as a Hermes map.

@@ -8,7 +8,7 @@ use sourcemap::errors::{Error, Result};
 use sourcemap::types::{DecodedMap, SourceMap, SourceMapIndex};
 use sourcemap_test_support::checks::{Checked, check, check_that};
 use sourcemap_test_support::readers::HaltingReader;
-use sourcemap_test_support::results::{again, box_result, error_of};
+use sourcemap_test_support::results::{again, box_result, error_of, owned_text};
 use std::alloc::Global;
 use std::io::ErrorKind;
 
@@ -46,7 +46,7 @@ fn is_as_from_slice(alloc: Global, map: &DecodedMap, text: &str) -> Result<bool>
 fn is_read_alike(alloc: Global, text: &str) -> Result<String> {
     let reader = halting_reader(text, usize::MAX, ErrorKind::TimedOut);
     let map = box_result(alloc, DecodedMap::from_reader(alloc, reader))?;
-    Ok(format!(in alloc; "{}", is_as_from_slice(alloc, &*map, text)?)?)
+    owned_text(format!(in alloc; "{}", is_as_from_slice(alloc, &*map, text)?))
 }
 
 #[test]

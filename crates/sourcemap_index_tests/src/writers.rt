@@ -6,6 +6,7 @@ use sourcemap::encoder::encode;
 use sourcemap::errors::{Error, Result};
 use sourcemap::types::DecodedMap;
 use sourcemap_test_support::checks::{Checked, check};
+use sourcemap_test_support::results::owned_text;
 use sourcemap_test_support::writers::{HaltingWriter, NarrowWriter};
 use std::alloc::Global;
 use std::io::{BufWriter, Write};
@@ -47,9 +48,9 @@ fn put<W: Write + Drop>(map: &DecodedMap, writer: W) -> Result<()> {
 fn held_text(alloc: Global, held: &[u8], outcome: Result<()>) -> Result<String> {
     let held = str::from_utf8(held)?;
     match outcome {
-        Ok(()) => Ok(String::from_str(alloc, held)?),
+        Ok(()) => owned_text(String::from_str(alloc, held)),
         Err(Error::OutOfMemory) => Err(Error::OutOfMemory),
-        Err(error) => Ok(format!(in alloc; "{held} {error}")?),
+        Err(error) => owned_text(format!(in alloc; "{held} {error}")),
     }
 }
 

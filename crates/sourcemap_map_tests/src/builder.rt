@@ -6,7 +6,7 @@ use sourcemap::jsontypes::DebugId;
 use sourcemap::types::{RawToken, SourceMap};
 use sourcemap_test_support::checks::{Checked, check};
 use sourcemap_test_support::records::record_text;
-use sourcemap_test_support::results::owned_text;
+use sourcemap_test_support::results::{box_result, owned_text};
 use std::alloc::Global;
 
 // A call of a builder method. If the name of a variant does not suggest the method, a comment names
@@ -374,21 +374,27 @@ fn describe(alloc: Global, builder: Result<SourceMapBuilder>) -> Result<String> 
     owned_text(format!(in alloc; "{head:?} {sources:?} {contents:?}"))
 }
 
+fn describe_after(alloc: Global, steps: &[Step<'_>]) -> Result<String> {
+    describe(alloc, builder_after(alloc, steps))
+}
+
+fn write_after(alloc: Global, steps: &[Step<'_>]) -> Result<String> {
+    write_built(alloc, builder_after(alloc, steps))
+}
+
 #[test]
 fn builders_return_and_are_written(rt: HostRuntime) -> Checked {
     let alloc = rt.alloc();
     for row in ROWS.iter() {
         check(row.about, answers(alloc, row.steps), row.answers)?;
-        let got = describe(alloc, builder_after(alloc, row.steps));
-        check(row.about, got, row.getters)?;
-        let got = write_built(alloc, builder_after(alloc, row.steps));
-        check(row.about, got, row.written)?;
+        check(row.about, describe_after(alloc, row.steps), row.getters)?;
+        check(row.about, write_after(alloc, row.steps), row.written)?;
     }
     Ok(())
 }
 
 fn builder_text(alloc: Global, builder: Result<SourceMapBuilder>) -> Result<String> {
-    let map = Box::new(alloc, builder?.into_sourcemap()?)?;
+    let map = box_result(alloc, builder?.into_sourcemap())?;
     let sources = (map.get_source(0), map.get_source(1), map.get_source(2));
     owned_text(format!(in alloc; "{sources:?} {}", map.get_token_count()))
 }

@@ -12,7 +12,7 @@ pub fn folder<R: Files + Env + AllocGlobal>(rt: &R, name: &str) -> io::Result<St
     let _ = fs::remove_dir_all(rt, name);
     fs::create_dir(rt, name)?;
     let current = env::current_dir(rt)?.into_string();
-    owned_text(format!(in rt.alloc(); "{current}/{name}"))
+    Ok(format!(in rt.alloc(); "{current}/{name}")?)
 }
 
 // The files of a folder and their contents.

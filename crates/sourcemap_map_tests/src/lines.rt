@@ -2,7 +2,7 @@
 use sourcemap::Result;
 use sourcemap_core::lines::{LineTable, utf16_offset};
 use sourcemap_test_support::checks::{Checked, check};
-use sourcemap_test_support::results::owned_text;
+use sourcemap_test_support::results::{box_result, owned_text};
 use std::alloc::Global;
 
 // A text. Then the number of its lines, and the range of each line.
@@ -19,7 +19,7 @@ static TEXTS: [(&str, &str); 9] = [
 ];
 
 fn describe(alloc: Global, text: &str) -> Result<String> {
-    let table = LineTable::new(alloc, text)?;
+    let table = box_result(alloc, LineTable::new(alloc, text))?;
     let count = table.count();
     let mut answer = format!(in alloc; "{count}:")?;
     for line in 0..5 {
@@ -112,7 +112,7 @@ fn lines_by_character(alloc: Global, text: &str) -> Result<String> {
 }
 
 fn all_ranges(alloc: Global, text: &str) -> Result<String> {
-    let table = LineTable::new(alloc, text)?;
+    let table = box_result(alloc, LineTable::new(alloc, text))?;
     let mut answer = String::new(alloc);
     let count = u32::try_from(table.count()).unwrap_or(u32::MAX);
     for line in 0..count {

@@ -74,11 +74,9 @@ static SLICES: [(&str, (u32, u32, u32), &str); 49] = [
 ];
 
 fn slice_text(alloc: Global, text: &str, position: (u32, u32, u32)) -> Result<String> {
-    let view = SourceView::new(alloc, text)?;
-    optional_text(
-        alloc,
-        view.get_line_slice(position.0, position.1, position.2),
-    )
+    let view = box_result(alloc, SourceView::new(alloc, text))?;
+    let (line, col, length) = position;
+    optional_text(alloc, view.get_line_slice(line, col, length))
 }
 
 #[test]
@@ -153,7 +151,8 @@ static LINES_BY_INDEX: [(&str, u32, &str); 21] = [
 ];
 
 fn line_at(alloc: Global, text: &str, line: u32) -> Result<String> {
-    let view = SourceView::from_string(alloc, String::from_str(alloc, text)?)?;
+    let text = String::from_str(alloc, text)?;
+    let view = box_result(alloc, SourceView::from_string(alloc, text))?;
     optional_text(alloc, view.get_line(line))
 }
 
@@ -167,8 +166,8 @@ fn lines_out_of_turn(rt: HostRuntime) -> Checked {
 }
 
 fn is_view_of(alloc: Global, view: &SourceView, text: &str) -> Result<bool> {
-    let other = SourceView::new(alloc, text)?;
-    Ok(other == *view)
+    let other = box_result(alloc, SourceView::new(alloc, text))?;
+    Ok(*other == *view)
 }
 
 fn copy_text(alloc: Global, copy: &SourceView, is_copy: bool, is_other: bool) -> Result<String> {
@@ -177,14 +176,14 @@ fn copy_text(alloc: Global, copy: &SourceView, is_copy: bool, is_other: bool) ->
 }
 
 fn compare_views(alloc: Global, view: &SourceView, is_other: bool) -> Result<String> {
-    let copy = view.clone()?;
-    copy_text(alloc, &copy, copy == *view, is_other)
+    let copy = box_result(alloc, view.clone())?;
+    copy_text(alloc, &*copy, *copy == *view, is_other)
 }
 
 fn copy_view(alloc: Global, text: &str, other: &str) -> Result<String> {
-    let view = SourceView::new(alloc, text)?;
-    let is_other = is_view_of(alloc, &view, other)?;
-    again(|| compare_views(alloc, &view, is_other))
+    let view = box_result(alloc, SourceView::new(alloc, text))?;
+    let is_other = is_view_of(alloc, &*view, other)?;
+    again(|| compare_views(alloc, &*view, is_other))
 }
 
 #[test]
@@ -209,8 +208,8 @@ fn reference_text(alloc: Global, view: &SourceView) -> Result<String> {
 }
 
 fn reference_of(alloc: Global, text: &str) -> Result<String> {
-    let view = SourceView::new(alloc, text)?;
-    again(|| reference_text(alloc, &view))
+    let view = box_result(alloc, SourceView::new(alloc, text))?;
+    again(|| reference_text(alloc, &*view))
 }
 
 #[test]
