@@ -30,9 +30,9 @@ OUT_OF_MEMORY = re.compile(
     rb'|(Err\(|: Ok\(")[^\n]*(OutOfMemory|AllocError|AllocFailed|out of memory)[^\n]*\)\s*\Z', re.MULTILINE)
 
 # the tests that allocate nothing; any other in which no allocation is intercepted was not swept
-WITHOUT_MEMORY = {'sourcemap_hermes_tests indexed::tests_of_bytes', 'sourcemap_uses_tests uses::errors_have_advice',
-                  'sourcemap_compiled_tests lookups::constants', 'sourcemap_compiled_tests lookups::debug_ids',
-                  'sourcemap_compiled_tests lookups::getters_of_tokens'}
+WITHOUT_MEMORY = {'sourcemap_hermes_tests indexed::tests_of_bytes', 'sourcemap_tool_tests uses::errors_have_advice',
+                  'sourcemap_core_tests compiled_lookups::constants', 'sourcemap_core_tests compiled_lookups::debug_ids',
+                  'sourcemap_core_tests compiled_lookups::getters_of_tokens'}
 
 # what the kit adds to the message of a test that returned an error
 RETURNED = re.compile(rb'\nthe test failed: its result gives status 1\s*\Z')

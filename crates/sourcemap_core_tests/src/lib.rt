@@ -1,7 +1,7 @@
 //! Tests of what maps are made of. They cover the items of `sourcemap_core`, `sourcemap_compose`,
-//! `sourcemap_line_index` and `sourcemap_interning`; JSON values that are read and written; and junk
-//! headers, data URLs, records, references and the detection of source maps. Some test data come
-//! from other implementations of source maps.
+//! `sourcemap_line_index` and `sourcemap_interning`; JSON values that are read and written; junk
+//! headers, data URLs, records, references and the detection of source maps; and compiled maps
+//! whose bytes were made by hand. Some test data come from other implementations of source maps.
 #![tactic(auto)]
 
 #[cfg(test)]
@@ -13,7 +13,15 @@ mod bytes;
 #[cfg(test)]
 mod common_prefixes;
 #[cfg(test)]
+mod compiled_lookups;
+#[cfg(test)]
+mod compiled_maps;
+#[cfg(test)]
+mod compiled_texts;
+#[cfg(test)]
 mod composition;
+#[cfg(test)]
+mod damaged_files;
 #[cfg(test)]
 mod data_urls;
 #[cfg(test)]

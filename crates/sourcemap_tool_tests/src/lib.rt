@@ -1,4 +1,5 @@
-//! Tests of the program's runs.
+//! Tests of what calls the library: runs of the program, and the functions of `sourcemap_uses`,
+//! which are called with enough memory.
 #![tactic(auto)]
 
 #[cfg(test)]
@@ -7,6 +8,8 @@ mod applied;
 mod arguments;
 #[cfg(test)]
 mod composes;
+#[cfg(test)]
+mod facades;
 #[cfg(test)]
 mod fake_files;
 #[cfg(test)]
@@ -18,4 +21,8 @@ mod refusals;
 #[cfg(test)]
 mod runs;
 #[cfg(test)]
+mod stored;
+#[cfg(test)]
 mod traces;
+#[cfg(test)]
+mod uses;

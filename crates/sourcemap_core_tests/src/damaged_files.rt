@@ -1,6 +1,6 @@
 // Maps with some bytes changed, cut maps, and longer ones.
-use crate::maps::{ONE, map_named};
-use crate::texts::{lookup_text, parsed_texts, verified};
+use crate::compiled_maps::{ONE, map_named};
+use crate::compiled_texts::{lookup_text, parsed_texts, verified};
 use sourcemap_test_support::checks::{Checked, check};
 use std::alloc::{AllocError, Global};
 

@@ -7,7 +7,7 @@ use sourcemap::{
     SourceView, decode_slice,
 };
 use sourcemap_test_support::checks::{Checked, check, check_that};
-use sourcemap_test_support::results::box_result;
+use sourcemap_test_support::results::{box_result, error_text, owned_text};
 use sourcemap_uses::adjusting::lookup_adjusted;
 use sourcemap_uses::building::lookup_once_written;
 use sourcemap_uses::data_urls::inline_map;
@@ -38,8 +38,19 @@ fn text_or_empty(alloc: Global, position: Result<Option<String>>) -> Result<Stri
     Ok(position?.unwrap_or(String::new(alloc)))
 }
 
-fn map_of(alloc: Global, bytes: &[u8]) -> Result<Box<SourceMap>> {
+/// The regular map that is decoded from bytes.
+pub fn map_of(alloc: Global, bytes: &[u8]) -> Result<Box<SourceMap>> {
     box_result(alloc, SourceMap::from_slice(alloc, bytes))
+}
+
+/// The map of any kind that is decoded from a text.
+pub fn decoded(alloc: Global, text: &str) -> Result<Box<DecodedMap>> {
+    box_result(alloc, decode_slice(alloc, text.as_bytes()))
+}
+
+/// A view of a text.
+pub fn view_of(alloc: Global, text: &str) -> Result<Box<SourceView>> {
+    box_result(alloc, SourceView::new(alloc, text))
 }
 
 #[test]
@@ -65,7 +76,7 @@ fn a_bytecode_offset_has_its_function(rt: HostRuntime) -> Checked {
 fn token_text(alloc: Global, map: &SourceMap) -> Result<String> {
     match map.lookup_token(0, 5) {
         None => Ok(String::new(alloc)),
-        Some(token) => Ok(token.to_string(alloc)?),
+        Some(token) => owned_text(token.to_string(alloc)),
     }
 }
 
@@ -75,7 +86,7 @@ fn quick_lookup_text(alloc: Global, map: &SourceMap, line: u32, col: u32) -> Res
     let is_quick = 1 <= steps && steps <= 42;
     match token {
         None => Ok(String::new(alloc)),
-        Some(token) => Ok(format!(in alloc; "{token} {is_quick}")?),
+        Some(token) => owned_text(format!(in alloc; "{token} {is_quick}")),
     }
 }
 
@@ -94,7 +105,7 @@ fn summary(alloc: Global, map: &SourceMap) -> Result<String> {
     let position = token_text(alloc, map)?;
     let count = map.get_source_count();
     let has_text = map.get_source_contents(0).is_some();
-    Ok(format!(in alloc; "{position} {count} {has_text}")?)
+    owned_text(format!(in alloc; "{position} {count} {has_text}"))
 }
 
 fn summary_of(alloc: Global, map: Result<Box<SourceMap>>) -> Result<String> {
@@ -128,7 +139,7 @@ fn a_map_is_shrunk(rt: HostRuntime) -> Checked {
 fn look_up_shrunk<F: Files>(rt: &F, alloc: Global, bytes: &[u8]) -> Result<String> {
     let map = SourceMap::from_slice(alloc, bytes)?;
     let position = lookup_once_shrunk(rt, alloc, map, 0, 5)?;
-    Ok(format!(in alloc; "{position:?}")?)
+    owned_text(format!(in alloc; "{position:?}"))
 }
 
 #[test]
@@ -226,7 +237,7 @@ fn lookup_after(alloc: Global, text: &str, later: &str, position: (u32, u32)) ->
     let later = map_of(alloc, later.as_bytes())?;
     let map = SourceMap::from_slice(alloc, text.as_bytes())?;
     let found = lookup_adjusted(alloc, map, &*later, position.0, position.1)?;
-    Ok(format!(in alloc; "{found:?}")?)
+    owned_text(format!(in alloc; "{found:?}"))
 }
 
 #[test]
@@ -287,16 +298,16 @@ static FOUND: [(&str, &str); 4] = [
 
 fn found_text(alloc: Global, found: &FoundMap) -> Result<String> {
     match found {
-        FoundMap::Embedded(_) => Ok(String::from_str(alloc, "in the text")?),
-        FoundMap::File(path) => Ok(String::from_str(alloc, path.as_str())?),
-        FoundMap::Nowhere => Ok(String::from_str(alloc, "nowhere")?),
+        FoundMap::Embedded(_) => owned_text(String::from_str(alloc, "in the text")),
+        FoundMap::File(path) => owned_text(String::from_str(alloc, path.as_str())),
+        FoundMap::Nowhere => owned_text(String::from_str(alloc, "nowhere")),
     }
 }
 
 fn find_map_text(alloc: Global, text: &str) -> Result<String> {
     match box_result(alloc, find_map(alloc, text.as_bytes(), "/out/a.js")) {
         Ok(found) => found_text(alloc, &*found),
-        Err(error) => Ok(format!(in alloc; "{error}")?),
+        Err(error) => error_text(alloc, &error),
     }
 }
 
@@ -336,7 +347,7 @@ fn sources_are_merged(rt: HostRuntime) -> Checked {
 fn displayed_source(alloc: Global) -> Result<String> {
     let mut builder = SourceMapBuilder::new(alloc, None)?;
     let id = add_source_displayed_as(&mut builder, "/home/me/a.js", "a.js")?;
-    Ok(String::from_str(alloc, builder.get_source(id).unwrap_or("none"))?)
+    owned_text(String::from_str(alloc, builder.get_source(id).unwrap_or("none")))
 }
 
 #[test]
@@ -364,7 +375,7 @@ fn statuses(alloc: Global) -> Result<String> {
         exit_status(&Error::BadNameReference(3)),
         exit_status(&Error::OutOfMemory),
     );
-    Ok(format!(in alloc; "{statuses:?}")?)
+    owned_text(format!(in alloc; "{statuses:?}"))
 }
 
 #[test]
@@ -398,11 +409,9 @@ const LATE: &str = r#"{"sections":[
 {"offset":{"line":1,"column":0},"map":{"sources":["a.js"],"mappings":"AAAA"}},
 {"offset":{"line":3,"column":0},"map":{"sources":["b.js"],"mappings":";AAAA"}}]}"#;
 
-fn index_of(alloc: Global, text: &str) -> Result<Box<SourceMapIndex>> {
-    match decode_slice(alloc, text.as_bytes())? {
-        DecodedMap::Index(index) => Ok(Box::new(alloc, index)?),
-        _ => Err(Error::IncompatibleSourceMap),
-    }
+/// The index map that is decoded from a text.
+pub fn index_of(alloc: Global, text: &str) -> Result<Box<SourceMapIndex>> {
+    box_result(alloc, SourceMapIndex::from_slice(alloc, text.as_bytes()))
 }
 
 // Decodes an index map and compares it with its flattened map at a position.
@@ -474,9 +483,14 @@ fn a_section_is_linked(rt: HostRuntime) -> Checked {
     check_that(APART, is_linked_in(rt.alloc(), APART)?)
 }
 
+fn saved(alloc: Global, text: &str) -> Result<Vec<u8>> {
+    let map = decoded(alloc, text)?;
+    save(alloc, &*map)
+}
+
 // Decodes the map in `text`, encodes it with `save`, and looks up a position in the encoded map.
 fn lookup_once_saved(alloc: Global, text: &str, line: u32, col: u32) -> Result<Option<String>> {
-    let bytes = save(alloc, &decode_slice(alloc, text.as_bytes())?)?;
+    let bytes = saved(alloc, text)?;
     lookup_text(alloc, bytes.as_slice(), line, col)
 }
 
@@ -500,7 +514,7 @@ const BUNDLE: &str = concat!(
 
 fn line_of_function(alloc: Global, text: &str) -> Result<String> {
     let map = map_of(alloc, text.as_bytes())?;
-    Ok(String::from_str(alloc, source_line(&*map, 0, 9).unwrap_or(""))?)
+    owned_text(String::from_str(alloc, source_line(&*map, 0, 9).unwrap_or("")))
 }
 
 #[test]
@@ -518,8 +532,8 @@ fn a_function_has_its_name(rt: HostRuntime) -> Checked {
 static LINE_TOTALS: [(&str, &str); 4] = [("", "1"), ("a", "1"), ("a\r\nb\n", "3"), ("\n\r", "3")];
 
 fn line_total_text(alloc: Global, text: &str) -> Result<String> {
-    let view = SourceView::new(alloc, text)?;
-    Ok(format!(in alloc; "{}", line_total(&view))?)
+    let view = view_of(alloc, text)?;
+    owned_text(format!(in alloc; "{}", line_total(&*view)))
 }
 
 #[test]
@@ -533,7 +547,7 @@ fn lines_are_counted_by_their_ends(rt: HostRuntime) -> Checked {
 fn export_text(alloc: Global, text: &str) -> Result<String> {
     let mut file = Vec::new(alloc);
     export(alloc, &*map_of(alloc, text.as_bytes())?, &mut file)?;
-    Ok(String::from_utf8_lossy(alloc, file.as_slice())?)
+    owned_text(String::from_utf8_lossy(alloc, file.as_slice()))
 }
 
 #[test]
@@ -551,15 +565,8 @@ const BUNDLE_MAP: &str = concat!(
     r#""mappings":";;;;;AAAA,EAAE;AAAA"}}],"x_facebook_offsets":[5]}"#,
 );
 
-fn bundle_map(alloc: Global) -> Result<Box<SourceMapIndex>> {
-    box_result(
-        alloc,
-        SourceMapIndex::from_slice(alloc, BUNDLE_MAP.as_bytes()),
-    )
-}
-
 fn trace_position(alloc: Global, line: u32, col: u32) -> Result<String> {
-    let map = bundle_map(alloc)?;
+    let map = index_of(alloc, BUNDLE_MAP)?;
     let bundle = RamBundle::parse_indexed_from_slice(INDEXED_BUNDLE)?;
     trace_first_module(alloc, &bundle, &*map, line, col)
 }
@@ -571,7 +578,7 @@ fn a_position_in_a_module_is_traced(rt: HostRuntime) -> Checked {
 }
 
 fn stored_position(alloc: Global, line: u32, col: u32) -> Result<String> {
-    let map = bundle_map(alloc)?;
+    let map = index_of(alloc, BUNDLE_MAP)?;
     let bundle = RamBundle::parse_indexed_from_slice(INDEXED_BUNDLE)?;
     let text = store_first_module(alloc, &bundle, &*map)?.unwrap_or(Vec::new(alloc));
     text_or_empty(alloc, lookup_text(alloc, text.as_slice(), line, col))

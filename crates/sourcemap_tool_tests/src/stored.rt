@@ -1,8 +1,9 @@
 // Tests of maps that are stored, flattened or composed, and of traces by them.
+use crate::uses::{decoded, index_of};
 use sourcemap::types::RawToken;
-use sourcemap::{DecodedMap, Error, Result, SourceMap, SourceMapIndex, decode_slice};
+use sourcemap::{DecodedMap, Error, Result, SourceMap, SourceMapIndex};
 use sourcemap_test_support::checks::{Checked, check, check_that};
-use sourcemap_test_support::results::{box_result, text_or_none};
+use sourcemap_test_support::results::{box_result, owned_text, text_or_none};
 use sourcemap_uses::composing::compose_steps;
 use sourcemap_uses::publishing::publish_index;
 use sourcemap_uses::tracing::{trace_flat, trace_stored};
@@ -16,12 +17,8 @@ const INDEX: &str = r#"{"sections":[
 {"offset":{"line":10,"column":4},"map":{"sources":["b.js"],"sourcesContent":["text"],
 "names":["n"],"mappings":"AAAAA"}}]}"#;
 
-fn map_of(alloc: Global, text: &str) -> Result<Box<DecodedMap>> {
-    box_result(alloc, decode_slice(alloc, text.as_bytes()))
-}
-
 fn stored_token(alloc: Global, line: u32, col: u32) -> Result<String> {
-    let map = map_of(alloc, INDEX)?;
+    let map = decoded(alloc, INDEX)?;
     let back = box_result(alloc, through_value(alloc, &*map))?;
     text_or_none(alloc, back.lookup_token(line, col))
 }
@@ -39,16 +36,12 @@ const ANSWERS: &str = "a.js:0:0\nb.js:0:0 name=n\nbad position\n";
 #[test]
 fn a_stored_map_is_traced(rt: HostRuntime) -> Checked {
     let alloc = rt.alloc();
-    let map = map_of(alloc, INDEX)?;
+    let map = decoded(alloc, INDEX)?;
     check("an index", trace_stored(alloc, &*map, POSITIONS), ANSWERS)
 }
 
-fn index_of(alloc: Global) -> Result<SourceMapIndex> {
-    SourceMapIndex::from_slice(alloc, INDEX.as_bytes())
-}
-
 fn flat_trace(alloc: Global) -> Result<String> {
-    let index = box_result(alloc, index_of(alloc))?;
+    let index = index_of(alloc, INDEX)?;
     trace_flat(alloc, &*index, POSITIONS)
 }
 
@@ -62,12 +55,13 @@ fn bare_text(alloc: Global, map: &SourceMap) -> Result<String> {
     let token = text_or_none(alloc, map.lookup_token(10, 9))?;
     let names = map.get_name_count();
     let has_text = map.get_source_contents(0).is_some() || map.get_source_contents(1).is_some();
-    Ok(format!(in alloc; "{token} {names} {has_text}")?)
+    owned_text(format!(in alloc; "{token} {names} {has_text}"))
 }
 
 fn published_text<F: Files>(rt: &F, alloc: Global) -> Result<String> {
-    let index = index_of(alloc)?;
-    bare_text(alloc, &*box_result(alloc, publish_index(rt, index))?)
+    let index = SourceMapIndex::from_slice(alloc, INDEX.as_bytes())?;
+    let map = box_result(alloc, publish_index(rt, index))?;
+    bare_text(alloc, &*map)
 }
 
 #[test]

@@ -1,10 +1,12 @@
 // Tests of the functions in `sourcemap_uses` that import from one facade alone.
+use crate::uses::{map_of, view_of};
 use serde_json::Value;
 use sourcemap::types::RawToken;
-use sourcemap::{DecodedMap, Result, SourceMap, SourceMapBuilder, SourceView, decode_data_url};
+use sourcemap::{DecodedMap, Result, SourceMap, SourceMapBuilder, decode_data_url};
 use sourcemap_test_support::checks::{Checked, check, check_that};
 use sourcemap_test_support::readers::HaltingReader;
-use sourcemap_test_support::results::{box_result, error_of, text_or_none};
+use sourcemap_test_support::records::value_text;
+use sourcemap_test_support::results::{box_result, error_of, owned_text, text_or_none};
 use sourcemap_uses::records::{normalized, referenced_file, url_holds_map};
 use sourcemap_uses::regular::{
     adjusted_url, finish_loaded, first_line, reads_same_map, url_of_tokens, word_at,
@@ -42,7 +44,7 @@ fn a_reference_leads_to_a_file(rt: HostRuntime) -> Checked {
 
 fn normalized_text(alloc: Global, text: &str) -> Result<String> {
     let value = Value::from_slice(alloc, text.as_bytes())?;
-    Ok(normalized(alloc, &value)?.to_string(alloc)?)
+    value_text(alloc, normalized(alloc, &value))
 }
 
 #[test]
@@ -58,10 +60,6 @@ const MAP: &str = r#"{"version":3,"sources":["a.js"],"mappings":"AAAA,GAAI"}"#;
 // Maps 3:0 in the output of a later build step to 0:3 in the generated text of `MAP`.
 const LATER: &str = r#"{"version":3,"sources":["mid.js"],"mappings":";;;AAAG"}"#;
 
-fn map_of(alloc: Global, text: &str) -> Result<Box<SourceMap>> {
-    box_result(alloc, SourceMap::from_slice(alloc, text.as_bytes()))
-}
-
 // The text of the closest token in the map of a data URL.
 fn token_in_url(alloc: Global, url: &str, line: u32, col: u32) -> Result<String> {
     let map = box_result(alloc, decode_data_url(alloc, url))?;
@@ -69,7 +67,7 @@ fn token_in_url(alloc: Global, url: &str, line: u32, col: u32) -> Result<String>
 }
 
 fn adjusted_token(alloc: Global) -> Result<String> {
-    let later = map_of(alloc, LATER)?;
+    let later = map_of(alloc, LATER.as_bytes())?;
     let url = adjusted_url(SourceMap::from_slice(alloc, MAP.as_bytes())?, &*later)?;
     token_in_url(alloc, url.as_str(), 3, 0)
 }
@@ -128,8 +126,8 @@ fn a_builder_is_finished(rt: HostRuntime) -> Checked {
 }
 
 fn line_text(alloc: Global, text: &str) -> Result<String> {
-    let view = SourceView::new(alloc, text)?;
-    text_or_none(alloc, first_line(&view))
+    let view = view_of(alloc, text)?;
+    text_or_none(alloc, first_line(&*view))
 }
 
 #[test]
@@ -139,11 +137,11 @@ fn the_first_line_is_read(rt: HostRuntime) -> Checked {
 }
 
 fn word_text(alloc: Global, col: u32) -> Result<String> {
-    let map = map_of(alloc, r#"{"sources":["a.js"],"mappings":"AAAA,SAAA"}"#)?;
-    let view = SourceView::new(alloc, "function b(){}")?;
+    let map = map_of(alloc, br#"{"sources":["a.js"],"mappings":"AAAA,SAAA"}"#)?;
+    let view = view_of(alloc, "function b(){}")?;
     match map.lookup_token(0, col) {
-        None => Ok(String::from_str(alloc, "no token")?),
-        Some(token) => text_or_none(alloc, word_at(&view, token)),
+        None => owned_text(String::from_str(alloc, "no token")),
+        Some(token) => text_or_none(alloc, word_at(&*view, token)),
     }
 }
 

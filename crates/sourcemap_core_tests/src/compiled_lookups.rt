@@ -1,9 +1,9 @@
 // Lookups in maps that are in order.
-use crate::maps::{EMPTY, GREATEST, ONE, map_named};
-use crate::texts::{lookup_text, parsed_counts, parsed_texts, verified};
+use crate::compiled_maps::{EMPTY, GREATEST, ONE, map_named};
+use crate::compiled_texts::{lookup_text, parsed_counts, parsed_texts, verified};
 use sourcemap_compiled::map::{COMPILED_MAGIC, COMPILED_VERSION, CompiledMap};
+use sourcemap_core::tokens::{NO_ID, RawToken};
 use sourcemap_test_support::checks::{Checked, check, check_that};
-use sourcemap_tokens::tokens::{NO_ID, RawToken};
 
 // Each row: a map, a line, a column, and the wanted text of the token.
 static LOOKUPS: [(&str, u32, u32, &str); 37] = [
