@@ -41,6 +41,14 @@ pub fn check_row(alloc: Global, text: &str, want: &str) -> Checked {
     check_long(text, kit_answer(alloc, text.as_bytes()), want)
 }
 
+/// Checks each row, a text and what `check_row` wants.
+pub fn check_rows(alloc: Global, rows: &[(&str, &str)]) -> Checked {
+    for (text, want) in rows {
+        check_row(alloc, text, want)?;
+    }
+    Ok(())
+}
+
 /// Checks as `check` does. The error of `got` is returned as it is, since the message of a long row
 /// would cut it off.
 pub fn check_long(row: &str, got: Result<String>, want: &str) -> Checked {

@@ -1,5 +1,5 @@
 // Strings, numbers and literals, each a JSON text of its own.
-use crate::answers::{answer, kit_answer};
+use crate::answers::{answer, check_rows, kit_answer};
 use sourcemap_test_support::checks::{Checked, check};
 
 // A JSON text, and its value in compact JSON, or `none` if the text is invalid.
@@ -111,20 +111,12 @@ static LITERALS: [(&str, &str); 13] = [
 
 #[test]
 fn strings_are_read_and_invalid_ones_refused(rt: HostRuntime) -> Checked {
-    for (text, want) in STRINGS.iter() {
-        check(text, answer(rt.alloc(), text.as_bytes()), want)?;
-        check(text, kit_answer(rt.alloc(), text.as_bytes()), want)?;
-    }
-    Ok(())
+    check_rows(rt.alloc(), &STRINGS)
 }
 
 #[test]
 fn numbers_are_read_and_invalid_ones_refused(rt: HostRuntime) -> Checked {
-    for (text, want) in NUMBERS.iter() {
-        check(text, answer(rt.alloc(), text.as_bytes()), want)?;
-        check(text, kit_answer(rt.alloc(), text.as_bytes()), want)?;
-    }
-    Ok(())
+    check_rows(rt.alloc(), &NUMBERS)
 }
 
 #[test]
@@ -138,9 +130,5 @@ fn numbers_past_64_bits_are_read_as_the_kit_reads_them(rt: HostRuntime) -> Check
 
 #[test]
 fn only_null_true_and_false_are_literals(rt: HostRuntime) -> Checked {
-    for (text, want) in LITERALS.iter() {
-        check(text, answer(rt.alloc(), text.as_bytes()), want)?;
-        check(text, kit_answer(rt.alloc(), text.as_bytes()), want)?;
-    }
-    Ok(())
+    check_rows(rt.alloc(), &LITERALS)
 }

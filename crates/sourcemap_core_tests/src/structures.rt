@@ -1,7 +1,7 @@
 // Arrays and objects. Also texts with white space or other characters around a value, and texts
 // without a value.
-use crate::answers::{answer, kit_answer};
-use sourcemap_test_support::checks::{Checked, check};
+use crate::answers::check_rows;
+use sourcemap_test_support::checks::Checked;
 
 // A JSON text, and its value in compact JSON with sorted keys, or `none` if the text is invalid.
 static ARRAYS: [(&str, &str); 20] = [
@@ -97,27 +97,15 @@ static AROUND: [(&str, &str); 22] = [
 
 #[test]
 fn arrays_are_read_and_invalid_ones_refused(rt: HostRuntime) -> Checked {
-    for (text, want) in ARRAYS.iter() {
-        check(text, answer(rt.alloc(), text.as_bytes()), want)?;
-        check(text, kit_answer(rt.alloc(), text.as_bytes()), want)?;
-    }
-    Ok(())
+    check_rows(rt.alloc(), &ARRAYS)
 }
 
 #[test]
 fn objects_are_read_and_invalid_ones_refused(rt: HostRuntime) -> Checked {
-    for (text, want) in OBJECTS.iter() {
-        check(text, answer(rt.alloc(), text.as_bytes()), want)?;
-        check(text, kit_answer(rt.alloc(), text.as_bytes()), want)?;
-    }
-    Ok(())
+    check_rows(rt.alloc(), &OBJECTS)
 }
 
 #[test]
 fn only_white_space_may_surround_a_value(rt: HostRuntime) -> Checked {
-    for (text, want) in AROUND.iter() {
-        check(text, answer(rt.alloc(), text.as_bytes()), want)?;
-        check(text, kit_answer(rt.alloc(), text.as_bytes()), want)?;
-    }
-    Ok(())
+    check_rows(rt.alloc(), &AROUND)
 }

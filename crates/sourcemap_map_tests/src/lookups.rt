@@ -1,10 +1,11 @@
 // Lookups in maps made from tokens, and the JSON text of these maps. Each lookup is repeated after
 // the map was converted to a record and decoded again.
 use crate::samples::{Made, bare, map_text, range_map, readme, record_of};
-use sourcemap::decoder::decode_regular;
+use crate::writing::decode_record;
 use sourcemap::errors::Result;
+use sourcemap::types::SourceMap;
 use sourcemap_test_support::checks::{Checked, check};
-use sourcemap_test_support::results::{box_result, text_or_none};
+use sourcemap_test_support::results::text_or_none;
 use std::alloc::Global;
 
 // A position, and the text of the token closest to it.
@@ -35,32 +36,33 @@ pub fn lookup_text(alloc: Global, map: Made, line: u32, col: u32) -> Result<Stri
 }
 
 fn read_back(alloc: Global, map: Made) -> Made {
-    let record = record_of(map)?;
-    box_result(alloc, decode_regular(alloc, record))
+    decode_record(alloc, record_of(map))
+}
+
+fn check_lookups(alloc: Global, map: &SourceMap, rows: &[Lookup]) -> Checked {
+    for (line, col, want) in rows {
+        let got = text_or_none(alloc, map.lookup_token(*line, *col));
+        check(want, got, want)?;
+    }
+    Ok(())
+}
+
+fn check_made(alloc: Global, map: Made, rows: &[Lookup]) -> Checked {
+    check_lookups(alloc, &*map?, rows)
 }
 
 #[test]
 fn tokens_out_of_order_are_looked_up(rt: HostRuntime) -> Checked {
     let alloc = rt.alloc();
-    for (line, col, want) in README.iter() {
-        let got = lookup_text(alloc, readme(alloc), *line, *col);
-        check(want, got, want)?;
-        let back = read_back(alloc, readme(alloc));
-        check(want, lookup_text(alloc, back, *line, *col), want)?;
-    }
-    Ok(())
+    check_made(alloc, readme(alloc), &README)?;
+    check_made(alloc, read_back(alloc, readme(alloc)), &README)
 }
 
 #[test]
 fn ranges_reach_along_their_line(rt: HostRuntime) -> Checked {
     let alloc = rt.alloc();
-    for (line, col, want) in RANGED.iter() {
-        let got = lookup_text(alloc, range_map(alloc), *line, *col);
-        check(want, got, want)?;
-        let back = read_back(alloc, range_map(alloc));
-        check(want, lookup_text(alloc, back, *line, *col), want)?;
-    }
-    Ok(())
+    check_made(alloc, range_map(alloc), &RANGED)?;
+    check_made(alloc, read_back(alloc, range_map(alloc)), &RANGED)
 }
 
 #[test]

@@ -67,8 +67,15 @@ fn steps_text(alloc: Global, map: &SourceMap, row: &Counted) -> Result<String> {
     owned_text(format!(in alloc; "{col:?} {is_counted}"))
 }
 
-fn describe(alloc: Global, map: Made, row: &Counted) -> Result<String> {
-    steps_text(alloc, &*map?, row)
+fn check_steps(alloc: Global, about: &str, map: &SourceMap, rows: &[Counted]) -> Checked {
+    for row in rows {
+        check(about, steps_text(alloc, map, row), row.3)?;
+    }
+    Ok(())
+}
+
+fn check_made(alloc: Global, about: &str, map: Made, rows: &[Counted]) -> Checked {
+    check_steps(alloc, about, &*map?, rows)
 }
 
 // The largest number of comparisons that a lookup makes at one of the columns 0 to 8999 of line 2.
@@ -128,47 +135,32 @@ static ON_A_LONG_LINE: [Counted; 13] = [
 
 #[test]
 fn no_tokens_take_two_comparisons(rt: HostRuntime) -> Checked {
-    for row in AMONG_NONE.iter() {
-        let got = describe(rt.alloc(), equal_tokens(rt.alloc(), 0), row);
-        check("none", got, row.3)?;
-    }
-    Ok(())
+    let map = equal_tokens(rt.alloc(), 0);
+    check_made(rt.alloc(), "none", map, &AMONG_NONE)
 }
 
 #[test]
 fn a_thousand_equal_tokens_take_few_comparisons(rt: HostRuntime) -> Checked {
-    for row in AMONG_THOUSAND.iter() {
-        let got = describe(rt.alloc(), equal_tokens(rt.alloc(), 1000), row);
-        check("thousand", got, row.3)?;
-    }
-    Ok(())
+    let map = equal_tokens(rt.alloc(), 1000);
+    check_made(rt.alloc(), "thousand", map, &AMONG_THOUSAND)
 }
 
 #[test]
 fn a_million_equal_tokens_take_few_comparisons(rt: HostRuntime) -> Checked {
-    for row in AMONG_MILLION.iter() {
-        let got = describe(rt.alloc(), equal_tokens(rt.alloc(), 1000000), row);
-        check("million", got, row.3)?;
-    }
-    Ok(())
+    let map = equal_tokens(rt.alloc(), 1000000);
+    check_made(rt.alloc(), "million", map, &AMONG_MILLION)
 }
 
 #[test]
 fn lines_without_tokens_take_few_comparisons(rt: HostRuntime) -> Checked {
-    for row in ON_TWO_LINES.iter() {
-        let got = describe(rt.alloc(), two_lines(rt.alloc()), row);
-        check("two lines", got, row.3)?;
-    }
-    Ok(())
+    let map = two_lines(rt.alloc());
+    check_made(rt.alloc(), "two lines", map, &ON_TWO_LINES)
 }
 
 #[test]
 fn tokens_of_a_long_line_take_few_comparisons(rt: HostRuntime) -> Checked {
-    for row in ON_A_LONG_LINE.iter() {
-        let got = describe(rt.alloc(), long_line(rt.alloc()), row);
-        check("long line", got, row.3)?;
-    }
-    Ok(())
+    let map = long_line(rt.alloc());
+    check_made(rt.alloc(), "long line", map, &ON_A_LONG_LINE)
 }
 
 #[test]

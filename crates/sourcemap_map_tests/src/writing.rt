@@ -4,6 +4,7 @@ use crate::samples::{Made, map_text, record_of};
 use serde_json::Value;
 use sourcemap::decoder::decode_regular;
 use sourcemap::encoder::{Encodable, encode, encode_to};
+use sourcemap::jsontypes::RawSourceMap;
 use sourcemap::{DecodedMap, Error, Result, SourceMap, decode_slice};
 use sourcemap_test_support::checks::{Checked, check};
 use sourcemap_test_support::records::{record, record_text, value_text};
@@ -91,10 +92,14 @@ pub static WRITTEN: [Row; 11] = [
     ),
 ];
 
+/// The map that a record is decoded to, or the error of `record`.
+pub fn decode_record(alloc: Global, record: Result<RawSourceMap>) -> Made {
+    box_result(alloc, decode_regular(alloc, record?))
+}
+
 /// A map that is decoded from this JSON text.
 pub fn regular(alloc: Global, text: &str) -> Made {
-    let record = record(alloc, text)?;
-    box_result(alloc, decode_regular(alloc, record))
+    decode_record(alloc, record(alloc, text))
 }
 
 /// A map of any kind that is decoded from this JSON text.
