@@ -1,8 +1,9 @@
 // Maps that are compiled, and what the files answer. Expected values are worked out by hand.
-use sourcemap::{DecodedMap, Error, Result, decode_slice};
+use crate::maps::map_of;
+use sourcemap::{DecodedMap, Error, Result};
 use sourcemap_cache::{CompiledMap, CompiledMapError, CompiledToken, WithContents, compile};
 use sourcemap_test_support::checks::{Checked, check};
-use sourcemap_test_support::results::{box_result, error_of};
+use sourcemap_test_support::results::{error_of, owned_text};
 use std::alloc::Global;
 
 // Tokens at columns 0, 4, 9 of line 0 and at column 2 of line 1.
@@ -61,13 +62,9 @@ static CONTENTS: [(&str, u32, &str, &str); 4] = [
     (INDEX, 0, "x", "-"),
 ];
 
-fn map_of(alloc: Global, text: &str) -> Result<Box<DecodedMap>> {
-    box_result(alloc, decode_slice(alloc, text.as_bytes()))
-}
-
 fn file_of(alloc: Global, text: &str, contents: WithContents) -> Result<Vec<u8>> {
     let map = map_of(alloc, text)?;
-    let file = compile(alloc, &map, contents)?;
+    let file = compile(alloc, &*map, contents)?;
     Ok(file)
 }
 
@@ -81,19 +78,19 @@ fn shown(found: std::result::Result<Option<&str>, CompiledMapError>) -> &str {
 
 fn token_text(alloc: Global, token: Option<CompiledToken<'_>>) -> Result<String> {
     let Some(token) = token else {
-        return Ok(String::from_str(alloc, "none")?);
+        return owned_text(String::from_str(alloc, "none"));
     };
     let source = shown(token.get_source());
     let (line, column) = token.get_src();
     let name = shown(token.get_name());
     let scope = shown(token.get_scope());
-    Ok(format!(in alloc; "{source}:{line}:{column} {name} {scope}")?)
+    owned_text(format!(in alloc; "{source}:{line}:{column} {name} {scope}"))
 }
 
 fn answer_of(alloc: Global, file: &[u8], line: u32, column: u32) -> Result<String> {
     match CompiledMap::parse(file) {
         Ok(map) => token_text(alloc, map.lookup_token(line, column)),
-        Err(error) => Ok(format!(in alloc; "{error}")?),
+        Err(error) => owned_text(format!(in alloc; "{error}")),
     }
 }
 
@@ -115,7 +112,7 @@ fn contents_in(alloc: Global, file: &[u8], id: u32) -> Result<String> {
         Ok(map) => shown(map.source_contents(id)),
         Err(_) => "?",
     };
-    Ok(String::from_str(alloc, text)?)
+    owned_text(String::from_str(alloc, text))
 }
 
 fn contents(alloc: Global, text: &str, id: u32, choice: WithContents) -> Result<String> {
@@ -146,7 +143,7 @@ fn name_of_file(alloc: Global, text: &str) -> Result<String> {
         Ok(map) => shown(map.file()),
         Err(_) => "?",
     };
-    Ok(String::from_str(alloc, name)?)
+    owned_text(String::from_str(alloc, name))
 }
 
 #[test]
