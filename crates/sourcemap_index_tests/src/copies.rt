@@ -15,14 +15,11 @@ fn equals(alloc: Global, map: &DecodedMap, other: &str) -> Result<bool> {
     Ok(*map == *map_of(alloc, other)?)
 }
 
-fn compared_text(alloc: Global, map: &DecodedMap, other: &str) -> Result<String> {
-    let copied = equals_copy(alloc, map)?;
-    let same = equals(alloc, map, other)?;
-    owned_text(format!(in alloc; "{copied} {same}"))
-}
-
 fn compare_maps(alloc: Global, text: &str, other: &str) -> Result<String> {
-    compared_text(alloc, &*map_of(alloc, text)?, other)
+    let map = map_of(alloc, text)?;
+    let copied = equals_copy(alloc, &*map)?;
+    let same = equals(alloc, &*map, other)?;
+    owned_text(format!(in alloc; "{copied} {same}"))
 }
 
 // Two maps, whether the first equals its copy, and whether the two are equal.
@@ -66,14 +63,11 @@ fn section_equals_copy(alloc: Global, section: Option<&SourceMapSection>) -> Res
     }
 }
 
-fn copies_text(alloc: Global, index: &SourceMapIndex) -> Result<String> {
-    let index_copied = index_equals_copy(alloc, index)?;
+fn copy_parts(alloc: Global, text: &str) -> Result<String> {
+    let index = index_of(alloc, text)?;
+    let index_copied = index_equals_copy(alloc, &*index)?;
     let section_copied = section_equals_copy(alloc, index.get_section(0))?;
     owned_text(format!(in alloc; "{index_copied} {section_copied}"))
-}
-
-fn copy_parts(alloc: Global, text: &str) -> Result<String> {
-    copies_text(alloc, &*index_of(alloc, text)?)
 }
 
 #[test]

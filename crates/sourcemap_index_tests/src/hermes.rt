@@ -58,12 +58,9 @@ fn name_text(map: &DecodedMap, offset: u32) -> &str {
     }
 }
 
-fn copy_name(alloc: Global, map: &DecodedMap, offset: u32) -> Result<String> {
-    owned_text(String::from_str(alloc, name_text(map, offset)))
-}
-
 fn name_at(alloc: Global, text: &str, offset: u32) -> Result<String> {
-    copy_name(alloc, &*map_of(alloc, text)?, offset)
+    let map = map_of(alloc, text)?;
+    owned_text(String::from_str(alloc, name_text(&*map, offset)))
 }
 
 // A map, a bytecode offset, and the name of the function at this offset, or `none`. For an index

@@ -107,32 +107,25 @@ fn read_back(alloc: Global, depth: usize) -> Result<String> {
     again(|| read_back_text(alloc, &*map))
 }
 
-fn copy_text(alloc: Global, map: &DecodedMap) -> Result<String> {
-    text_beside(alloc, map, &*box_result(alloc, map.clone())?)
-}
-
 fn copy_nested(alloc: Global, depth: usize) -> Result<String> {
-    copy_text(alloc, &*nested_index(alloc, depth)?)
-}
-
-fn moved_text(alloc: Global, map: &DecodedMap, value: Result<Value>) -> Result<String> {
-    text_beside(alloc, map, &*read_value(alloc, value)?)
+    let map = nested_index(alloc, depth)?;
+    let copy = box_result(alloc, map.clone())?;
+    text_beside(alloc, &*map, &*copy)
 }
 
 fn move_nested(alloc: Global, depth: usize) -> Result<String> {
     let value = wrap_often(alloc, depth)?.into_value();
-    moved_text(alloc, &*nested_index(alloc, depth)?, value)
+    let made = read_value(alloc, value)?;
+    let map = nested_index(alloc, depth)?;
+    text_beside(alloc, &*map, &*made)
 }
 
 // How many sections occur in the `Debug` text of a map.
-fn count_sections(alloc: Global, map: &DecodedMap) -> Result<String> {
-    let text = format!(in alloc; "{map:?}")?;
+fn print_nested(alloc: Global, depth: usize) -> Result<String> {
+    let map = nested_index(alloc, depth)?;
+    let text = format!(in alloc; "{:?}", &*map)?;
     let count = text.split("SourceMapSection {").skip(1).count();
     owned_text(format!(in alloc; "{count}"))
-}
-
-fn print_nested(alloc: Global, depth: usize) -> Result<String> {
-    count_sections(alloc, &*nested_index(alloc, depth)?)
 }
 
 #[test]
@@ -158,13 +151,10 @@ fn bytes_of(alloc: Global, map: &DecodedMap) -> Result<Vec<u8>> {
     Ok(bytes)
 }
 
-fn written_text(alloc: Global, map: &DecodedMap) -> Result<String> {
-    let bytes = bytes_of(alloc, map)?;
-    text_of_bytes(alloc, map, bytes.as_slice())
-}
-
 fn write_nested(alloc: Global, depth: usize) -> Result<String> {
-    written_text(alloc, &*nested_index(alloc, depth)?)
+    let map = nested_index(alloc, depth)?;
+    let bytes = bytes_of(alloc, &*map)?;
+    text_of_bytes(alloc, &*map, bytes.as_slice())
 }
 
 // The number of nested index maps, and the result of decoding the JSON text written for them. The

@@ -38,15 +38,12 @@ fn decode_halting(alloc: Global, text: &str, reads: usize) -> Result<String> {
     first_token_text(alloc, box_result(alloc, decode(alloc, reader)))
 }
 
-fn is_as_from_slice(alloc: Global, map: &DecodedMap, text: &str) -> Result<bool> {
-    Ok(*map_of(alloc, text)? == *map)
-}
-
 // Whether a reader of a text decodes to the same map as a slice of its bytes.
 fn is_read_alike(alloc: Global, text: &str) -> Result<String> {
     let reader = halting_reader(text, usize::MAX, ErrorKind::TimedOut);
     let map = box_result(alloc, DecodedMap::from_reader(alloc, reader))?;
-    owned_text(format!(in alloc; "{}", is_as_from_slice(alloc, &*map, text)?))
+    let sliced = map_of(alloc, text)?;
+    owned_text(format!(in alloc; "{}", *sliced == *map))
 }
 
 #[test]

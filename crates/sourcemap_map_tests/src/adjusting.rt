@@ -125,13 +125,10 @@ fn adjust_by(alloc: Global, map: &mut SourceMap, by: &SourceMap) -> Result<()> {
     adjust_again(map, &*before, by)
 }
 
-fn adjust(alloc: Global, map: &mut SourceMap, adjustments: &[Row]) -> Result<()> {
-    adjust_by(alloc, map, &*adjustment(alloc, adjustments)?)
-}
-
 fn adjust_rows(alloc: Global, originals: &[Row], adjustments: &[Row]) -> Made {
     let mut map = original(alloc, originals)?;
-    adjust(alloc, &mut *map, adjustments)?;
+    let by = adjustment(alloc, adjustments)?;
+    adjust_by(alloc, &mut *map, &*by)?;
     Ok(map)
 }
 
@@ -337,14 +334,11 @@ fn push_tokens(out: &mut String, map: &SourceMap) -> Result<()> {
     Ok(())
 }
 
-fn tokens_text(alloc: Global, map: &SourceMap) -> Result<String> {
-    let mut out = String::new(alloc);
-    push_tokens(&mut out, map)?;
-    Ok(out)
-}
-
 fn tokens_of(alloc: Global, map: Made) -> Result<String> {
-    tokens_text(alloc, &*map?)
+    let map = map?;
+    let mut out = String::new(alloc);
+    push_tokens(&mut out, &*map)?;
+    Ok(out)
 }
 
 #[test]
@@ -494,19 +488,11 @@ fn is_refused(map: &mut SourceMap, before: &SourceMap, by: &SourceMap) -> Result
     }
 }
 
-fn is_refused_by_last(alloc: Global, map: &mut SourceMap, before: &SourceMap) -> Result<bool> {
-    let by = adjustment(alloc, &LAST)?;
-    is_refused(map, before, &*by)
-}
-
-fn is_refused_at(alloc: Global, map: &mut SourceMap) -> Result<bool> {
-    let before = box_result(alloc, map.clone())?;
-    is_refused_by_last(alloc, map, &*before)
-}
-
 fn is_refused_whole(alloc: Global) -> Result<bool> {
     let mut map = original(alloc, &NEIGHBOURS)?;
-    is_refused_at(alloc, &mut *map)
+    let before = original(alloc, &NEIGHBOURS)?;
+    let by = adjustment(alloc, &LAST)?;
+    is_refused(&mut *map, &*before, &*by)
 }
 
 #[test]

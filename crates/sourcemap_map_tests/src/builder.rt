@@ -111,7 +111,7 @@ fn find_in(
     col: u32,
     with_name: bool,
 ) -> Result<RawToken> {
-    let map = Box::new(alloc, SourceMap::from_slice(alloc, text.as_bytes())?)?;
+    let map = box_result(alloc, SourceMap::from_slice(alloc, text.as_bytes()))?;
     match map.lookup_token(0, col) {
         None => Err(Error::VlqNoValues),
         Some(token) => builder.add_token(&token, with_name),
@@ -229,8 +229,9 @@ fn answers(alloc: Global, steps: &[Step<'_>]) -> Result<String> {
     Ok(out)
 }
 
-fn write_built(alloc: Global, builder: Result<SourceMapBuilder>) -> Result<String> {
-    record_text(alloc, builder?.into_sourcemap()?.into_raw_sourcemap())
+fn write_after(alloc: Global, steps: &[Step<'_>]) -> Result<String> {
+    let map = builder_after(alloc, steps)?.into_sourcemap()?;
+    record_text(alloc, map.into_raw_sourcemap())
 }
 
 // Steps of a builder, and what they lead to.
@@ -363,8 +364,8 @@ static ROWS: [Row; 7] = [
 ];
 
 // File and `sourceRoot`, sources 0 and 2, whether source 0 has contents, contents of source 0.
-fn describe(alloc: Global, builder: Result<SourceMapBuilder>) -> Result<String> {
-    let builder = builder?;
+fn describe(alloc: Global, steps: &[Step<'_>]) -> Result<String> {
+    let builder = builder_after(alloc, steps)?;
     let head = (builder.get_file(), builder.get_source_root());
     let sources = (builder.get_source(0), builder.get_source(2));
     let contents = (
@@ -374,27 +375,19 @@ fn describe(alloc: Global, builder: Result<SourceMapBuilder>) -> Result<String> 
     owned_text(format!(in alloc; "{head:?} {sources:?} {contents:?}"))
 }
 
-fn describe_after(alloc: Global, steps: &[Step<'_>]) -> Result<String> {
-    describe(alloc, builder_after(alloc, steps))
-}
-
-fn write_after(alloc: Global, steps: &[Step<'_>]) -> Result<String> {
-    write_built(alloc, builder_after(alloc, steps))
-}
-
 #[test]
 fn builders_return_and_are_written(rt: HostRuntime) -> Checked {
     let alloc = rt.alloc();
     for row in ROWS.iter() {
         check(row.about, answers(alloc, row.steps), row.answers)?;
-        check(row.about, describe_after(alloc, row.steps), row.getters)?;
+        check(row.about, describe(alloc, row.steps), row.getters)?;
         check(row.about, write_after(alloc, row.steps), row.written)?;
     }
     Ok(())
 }
 
-fn builder_text(alloc: Global, builder: Result<SourceMapBuilder>) -> Result<String> {
-    let map = box_result(alloc, builder?.into_sourcemap())?;
+fn sources_after(alloc: Global, steps: &[Step<'_>]) -> Result<String> {
+    let map = box_result(alloc, builder_after(alloc, steps)?.into_sourcemap())?;
     let sources = (map.get_source(0), map.get_source(1), map.get_source(2));
     owned_text(format!(in alloc; "{sources:?} {}", map.get_token_count()))
 }
@@ -402,8 +395,7 @@ fn builder_text(alloc: Global, builder: Result<SourceMapBuilder>) -> Result<Stri
 #[test]
 fn sources_are_resolved_against_the_root(rt: HostRuntime) -> Checked {
     let want = r#"(Some("r/x.js"), Some("r/x.js"), Some("r/y.js")) 2"#;
-    let got = builder_text(rt.alloc(), builder_after(rt.alloc(), ROWS[0].steps));
-    check(want, got, want)
+    check(want, sources_after(rt.alloc(), ROWS[0].steps), want)
 }
 
 // Label, prefixes, a source, and the source after `strip_prefixes` was called with the prefixes.

@@ -168,14 +168,11 @@ fn push_lists(out: &mut String, map: &SourceMap) -> Result<()> {
     push_names(out, map)
 }
 
-fn lists_text(alloc: Global, map: &SourceMap) -> Result<String> {
-    let mut out = String::new(alloc);
-    push_lists(&mut out, map)?;
-    Ok(out)
-}
-
 fn lists_of(alloc: Global, map: Made) -> Result<String> {
-    lists_text(alloc, &*map?)
+    let map = map?;
+    let mut out = String::new(alloc);
+    push_lists(&mut out, &*map)?;
+    Ok(out)
 }
 
 // A `sourceRoot`, and what `lists_of` returns for `mixed_map` with this `sourceRoot`.

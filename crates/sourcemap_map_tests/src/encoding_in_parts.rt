@@ -50,15 +50,11 @@ impl Write for LineCounter {
     }
 }
 
-fn far(alloc: Global) -> Made {
-    let row = ((FAR, 0), (NONE, NONE, NONE), NONE, true);
-    make_map(alloc, &[row], &[], &[])
-}
-
 // Encodes the map with the far token. Returns the bytes that end no line, the number of line ends,
 // and whether no write was longer than 65536 bytes.
 fn far_text(alloc: Global) -> Result<String> {
-    let map = far(alloc)?;
+    let row = ((FAR, 0), (NONE, NONE, NONE), NONE, true);
+    let map = make_map(alloc, &[row], &[], &[])?;
     let mut writer = LineCounter {
         line_ends: 0,
         others: Vec::new(alloc),
@@ -109,17 +105,14 @@ fn parts_are_the_text(rt: HostRuntime) -> Checked {
 
 // Checks that `encode_in_parts` writes the bytes that `encode_to_vec` returns.
 fn check_same(alloc: Global, about: &str, map: Made) -> Checked {
-    check_that(about, is_same_of(alloc, map)?)
+    check_that(about, is_same(alloc, map)?)
 }
 
-fn is_same_of(alloc: Global, map: Made) -> Result<bool> {
-    is_same(alloc, &*map?)
-}
-
-fn is_same(alloc: Global, map: &SourceMap) -> Result<bool> {
-    let whole = encode_to_vec(alloc, map)?;
+fn is_same(alloc: Global, map: Made) -> Result<bool> {
+    let map = map?;
+    let whole = encode_to_vec(alloc, &*map)?;
     let mut parts = Vec::new(alloc);
-    encode_in_parts(alloc, map, &mut parts)?;
+    encode_in_parts(alloc, &*map, &mut parts)?;
     Ok(whole.as_slice() == parts.as_slice())
 }
 

@@ -67,33 +67,14 @@ struct Row {
 
 fn answer<F: Files>(rt: &F, alloc: Global, folder: &str, row: &Row) -> Result<String> {
     let current = expand_folder(alloc, folder, row.current)?;
-    match row.base {
-        Some(base) => answer_with_base(rt, alloc, folder, row, (current.as_str(), base)),
-        None => answer_at(rt, alloc, folder, row, (current.as_str(), None)),
-    }
-}
-
-fn answer_with_base<F: Files>(
-    rt: &F,
-    alloc: Global,
-    folder: &str,
-    row: &Row,
-    (current, base): (&str, &str),
-) -> Result<String> {
-    let base = expand_folder(alloc, folder, base)?;
-    answer_at(rt, alloc, folder, row, (current, Some(base.as_str())))
-}
-
-fn answer_at<F: Files>(
-    rt: &F,
-    alloc: Global,
-    folder: &str,
-    row: &Row,
-    (current, base): (&str, Option<&str>),
-) -> Result<String> {
+    let base = expand_folder(alloc, folder, row.base.unwrap_or(""))?;
     let mut builder = builder(alloc, folder, row.sources, row.contents)?;
     let count = row.sources.len().min(100) as u32;
-    load_text(rt, alloc, &mut builder, current, base, count)
+    let base = match row.base {
+        Some(_) => Some(base.as_str()),
+        None => None,
+    };
+    load_text(rt, alloc, &mut builder, current.as_str(), base, count)
 }
 
 static ROWS: [Row; 21] = [

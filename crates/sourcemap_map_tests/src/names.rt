@@ -246,17 +246,12 @@ fn push_walked(out: &mut String, token: Token<'_>, identifier: Option<&str>) -> 
     Ok(())
 }
 
-fn push_walk(out: &mut String, view: &SourceView, last: Token<'_>) -> Result<()> {
-    for (token, identifier) in view.rev_token_iter(last) {
-        push_walked(out, token, identifier)?;
-    }
-    Ok(())
-}
-
 fn walk_text(alloc: Global, view: &SourceView, last: Option<Token<'_>>) -> Result<String> {
     let mut out = String::new(alloc);
     if let Some(last) = last {
-        push_walk(&mut out, view, last)?;
+        for (token, identifier) in view.rev_token_iter(last) {
+            push_walked(&mut out, token, identifier)?;
+        }
     }
     Ok(out)
 }

@@ -1,6 +1,6 @@
 // Equality of records and sections, field by field.
 use sourcemap::errors::Result;
-use sourcemap::jsontypes::{RawSection, RawSourceMap};
+use sourcemap::jsontypes::RawSection;
 use sourcemap_test_support::checks::{Checked, check, check_that};
 use sourcemap_test_support::records::boxed_record;
 use sourcemap_test_support::results::owned_text;
@@ -33,14 +33,10 @@ fn verdict(is_equal: bool, is_different: bool) -> char {
     }
 }
 
-fn compare_with(alloc: Global, one: &RawSourceMap, text: &str) -> Result<char> {
-    let other = boxed_record(alloc, text)?;
-    Ok(verdict(*one == *other, *one != *other))
-}
-
 fn compare_records(alloc: Global, one: &str, other: &str) -> Result<char> {
     let one = boxed_record(alloc, one)?;
-    compare_with(alloc, &*one, other)
+    let other = boxed_record(alloc, other)?;
+    Ok(verdict(*one == *other, *one != *other))
 }
 
 #[test]

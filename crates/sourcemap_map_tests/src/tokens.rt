@@ -16,12 +16,9 @@ fn compare_tokens(map: &SourceMap) -> Option<(bool, bool, bool)> {
     Some((first == second, is_same_raw, second < third))
 }
 
-fn compared_text(alloc: Global, map: &SourceMap) -> Result<String> {
-    owned_text(format!(in alloc; "{:?}", compare_tokens(map)))
-}
-
 fn compare_mixed(alloc: Global) -> Result<String> {
-    compared_text(alloc, &*mixed_map(alloc)?)
+    let map = mixed_map(alloc)?;
+    owned_text(format!(in alloc; "{:?}", compare_tokens(&*map)))
 }
 
 #[test]
@@ -51,14 +48,11 @@ fn next_text(alloc: Global, found: bool, mut left: TokenIter<'_>) -> Result<Stri
     }
 }
 
-fn seek_text(alloc: Global, map: &SourceMap, line: u32, col: u32) -> Result<String> {
+fn seek_in_map(alloc: Global, map: Made, line: u32, col: u32) -> Result<String> {
+    let map = map?;
     let mut left = map.tokens();
     let found = left.seek(line, col);
     next_text(alloc, found, left)
-}
-
-fn seek_in_map(alloc: Global, map: Made, line: u32, col: u32) -> Result<String> {
-    seek_text(alloc, &*map?, line, col)
 }
 
 #[test]

@@ -170,20 +170,17 @@ fn is_view_of(alloc: Global, view: &SourceView, text: &str) -> Result<bool> {
     Ok(*other == *view)
 }
 
-fn copy_text(alloc: Global, copy: &SourceView, is_copy: bool, is_other: bool) -> Result<String> {
-    let source = copy.source();
-    owned_text(format!(in alloc; "{is_copy} {is_other} {source} {copy:?}"))
-}
-
-fn compare_views(alloc: Global, view: &SourceView, is_other: bool) -> Result<String> {
+fn copy_text(alloc: Global, view: &SourceView, is_other: bool) -> Result<String> {
     let copy = box_result(alloc, view.clone())?;
-    copy_text(alloc, &*copy, *copy == *view, is_other)
+    let is_copy = *copy == *view;
+    let source = copy.source();
+    owned_text(format!(in alloc; "{is_copy} {is_other} {source} {:?}", &*copy))
 }
 
 fn copy_view(alloc: Global, text: &str, other: &str) -> Result<String> {
     let view = box_result(alloc, SourceView::new(alloc, text))?;
     let is_other = is_view_of(alloc, &*view, other)?;
-    again(|| compare_views(alloc, &*view, is_other))
+    again(|| copy_text(alloc, &*view, is_other))
 }
 
 #[test]

@@ -5,7 +5,7 @@ use serde_json::Value;
 use sourcemap::decoder::decode_regular;
 use sourcemap::encoder::{Encodable, encode, encode_to};
 use sourcemap::jsontypes::RawSourceMap;
-use sourcemap::{DecodedMap, Error, Result, SourceMap, decode_slice};
+use sourcemap::{DecodedMap, Error, Result, decode_slice};
 use sourcemap_test_support::checks::{Checked, check};
 use sourcemap_test_support::records::{record, record_text, value_text};
 use sourcemap_test_support::results::{again, box_result, owned_text};
@@ -172,50 +172,27 @@ static CALLS: [Call; 5] = [
     Call::AnyToWriter,
 ];
 
-fn put_regular(
-    alloc: Global,
-    map: &SourceMap,
-    call: Call,
-    writer: &mut NarrowWriter,
-) -> Result<()> {
+fn put_regular(alloc: Global, text: &str, call: Call, writer: &mut NarrowWriter) -> Result<()> {
+    let map = regular(alloc, text)?;
     match call {
-        Call::Encode => encode(alloc, map, writer),
-        Call::EncodeTo => encode_to(alloc, map, writer),
+        Call::Encode => encode(alloc, &*map, writer),
+        Call::EncodeTo => encode_to(alloc, &*map, writer),
         _ => map.to_writer(writer),
     }
 }
 
-fn put_any(alloc: Global, map: &DecodedMap, call: Call, writer: &mut NarrowWriter) -> Result<()> {
+fn put_any(alloc: Global, text: &str, call: Call, writer: &mut NarrowWriter) -> Result<()> {
+    let map = decode_boxed(alloc, text)?;
     match call {
-        Call::EncodeAnyTo => encode_to(alloc, map, writer),
+        Call::EncodeAnyTo => encode_to(alloc, &*map, writer),
         _ => map.to_writer(writer),
     }
-}
-
-fn read_and_put_regular(
-    alloc: Global,
-    text: &str,
-    call: Call,
-    writer: &mut NarrowWriter,
-) -> Result<()> {
-    put_regular(alloc, &*regular(alloc, text)?, call, writer)
-}
-
-fn read_and_put_any(
-    alloc: Global,
-    text: &str,
-    call: Call,
-    writer: &mut NarrowWriter,
-) -> Result<()> {
-    put_any(alloc, &*decode_boxed(alloc, text)?, call, writer)
 }
 
 fn put(alloc: Global, text: &str, call: Call, writer: &mut NarrowWriter) -> Result<()> {
     match call {
-        Call::Encode | Call::EncodeTo | Call::ToWriter => {
-            read_and_put_regular(alloc, text, call, writer)
-        }
-        Call::EncodeAnyTo | Call::AnyToWriter => read_and_put_any(alloc, text, call, writer),
+        Call::Encode | Call::EncodeTo | Call::ToWriter => put_regular(alloc, text, call, writer),
+        Call::EncodeAnyTo | Call::AnyToWriter => put_any(alloc, text, call, writer),
     }
 }
 

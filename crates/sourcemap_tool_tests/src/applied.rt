@@ -1,11 +1,10 @@
 // Tests of `apply` on maps of each kind.
 use crate::runs::TWO;
-use sourcemap::{DecodedMap, Error, decode_slice};
+use sourcemap::{Error, decode_slice};
 use sourcemap_cli::command::Command;
 use sourcemap_cli::output::apply;
 use sourcemap_test_support::checks::{Checked, check, check_that};
 use sourcemap_trace::Counting;
-use std::test::Fail;
 
 const RANGED: &str = r#"{"sources":["a.js"],"mappings":"AAAO","rangeMappings":"B"}"#;
 
@@ -25,34 +24,16 @@ static LOOKUPS: [(&str, (u32, u32), &str); 6] = [
     (TWO, (10, 3), "a.js:0:0\n"),
 ];
 
-fn is_text(answer: Result<String, Error>, want: &str) -> Result<bool, Fail> {
-    Ok(answer?.as_str() == want)
-}
-
-fn lookup_prints(
-    rt: &HostRuntime,
-    map: DecodedMap,
-    (line, col): (u32, u32),
-    want: &str,
-) -> Result<bool, Fail> {
+fn lookup(rt: &HostRuntime, text: &str, (line, col): (u32, u32)) -> Result<String, Error> {
     let command = Command::Lookup(Counting::From0, line, col);
-    is_text(apply(rt, rt.alloc(), &command, map, None), want)
-}
-
-fn lookup_of_text_prints(
-    rt: &HostRuntime,
-    text: &str,
-    position: (u32, u32),
-    want: &str,
-) -> Result<bool, Fail> {
     let map = decode_slice(rt.alloc(), text.as_bytes())?;
-    lookup_prints(rt, map, position, want)
+    apply(rt, rt.alloc(), &command, map, None)
 }
 
 #[test]
 fn lookups_are_applied(rt: HostRuntime) -> Checked {
     for (text, position, want) in LOOKUPS.iter() {
-        check_that(want, lookup_of_text_prints(&rt, text, *position, want)?)?;
+        check(want, lookup(&rt, text, *position), want)?;
     }
     Ok(())
 }

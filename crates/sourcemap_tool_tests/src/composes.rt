@@ -247,7 +247,8 @@ fn read_errors_of_files_are_reported(rt: HostRuntime) -> Checked {
     check_that("a missing file", is_reported(&rt, words.as_slice())?)
 }
 
-fn is_reported(rt: &HostRuntime, words: &[String]) -> Result<bool, Error> {
+/// Whether `reply_to` reports that the file of these words is missing.
+pub fn is_reported(rt: &HostRuntime, words: &[String]) -> Result<bool, Error> {
     let bytes = Vec::from_slice(rt.alloc(), MAP.as_bytes())?;
     let cause = io::Error::from(ErrorKind::NotFound);
     let reply = reply_to(rt, rt.alloc(), words, bytes, Err(cause.into()))?;

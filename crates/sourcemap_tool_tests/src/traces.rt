@@ -1,4 +1,5 @@
 // `trace_text`, `trace_text_from`, and runs of `trace FILE` and `trace --from-1 FILE`.
+use crate::composes::is_reported;
 use crate::fake_files::{FakeFiles, files_with};
 use crate::memory::{check_after, unless_out};
 use crate::runs::{MAP, TWO, words_of};
@@ -7,8 +8,6 @@ use sourcemap_cli::program::{reply_to, run};
 use sourcemap_test_support::checks::{Checked, check, check_that};
 use sourcemap_trace::{Counting, trace_text, trace_text_from};
 use std::alloc::Global;
-use std::io;
-use std::io::ErrorKind;
 use std::test::Fail;
 
 // The flat map of `TWO`. For the same positions, traces of `FLAT` and `TWO` print the same text.
@@ -326,11 +325,4 @@ fn maps_are_decoded_before_positions_are_read(rt: HostRuntime) -> Checked {
 fn read_errors_of_positions_are_reported(rt: HostRuntime) -> Checked {
     let words = words_of(rt.alloc(), "trace a.txt")?;
     check_that("a missing file", is_reported(&rt, words.as_slice())?)
-}
-
-fn is_reported(rt: &HostRuntime, words: &[String]) -> Result<bool, Error> {
-    let bytes = Vec::from_slice(rt.alloc(), MAP.as_bytes())?;
-    let cause = io::Error::from(ErrorKind::NotFound);
-    let reply = reply_to(rt, rt.alloc(), words, bytes, Err(cause.into()))?;
-    Ok(reply.status == 1 && reply.text.as_str() == "entity not found\n")
 }

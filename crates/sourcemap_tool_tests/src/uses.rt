@@ -81,17 +81,14 @@ fn token_text(alloc: Global, map: &SourceMap) -> Result<String> {
 }
 
 // The text of the closest token, and whether its lookup took 1 to 42 comparisons.
-fn quick_lookup_text(alloc: Global, map: &SourceMap, line: u32, col: u32) -> Result<String> {
-    let (token, steps) = quick_lookup(map, line, col);
+fn look_up_quickly(alloc: Global, text: &str) -> Result<String> {
+    let map = map_of(alloc, text.as_bytes())?;
+    let (token, steps) = quick_lookup(&*map, 0, 5);
     let is_quick = 1 <= steps && steps <= 42;
     match token {
         None => Ok(String::new(alloc)),
         Some(token) => owned_text(format!(in alloc; "{token} {is_quick}")),
     }
-}
-
-fn look_up_quickly(alloc: Global, text: &str) -> Result<String> {
-    quick_lookup_text(alloc, &*map_of(alloc, text.as_bytes())?, 0, 5)
 }
 
 #[test]
@@ -101,15 +98,12 @@ fn lookups_are_quick(rt: HostRuntime) -> Checked {
 }
 
 // The text of the token for 0:5, how many sources the map has, and whether the first has contents.
-fn summary(alloc: Global, map: &SourceMap) -> Result<String> {
-    let position = token_text(alloc, map)?;
+fn summary_of(alloc: Global, map: Result<Box<SourceMap>>) -> Result<String> {
+    let map = map?;
+    let position = token_text(alloc, &*map)?;
     let count = map.get_source_count();
     let has_text = map.get_source_contents(0).is_some();
     owned_text(format!(in alloc; "{position} {count} {has_text}"))
-}
-
-fn summary_of(alloc: Global, map: Result<Box<SourceMap>>) -> Result<String> {
-    summary(alloc, &*map?)
 }
 
 fn published_map<F: Files>(rt: &F, alloc: Global, bytes: &[u8]) -> Result<Box<SourceMap>> {
