@@ -2,7 +2,7 @@
 // runs are as long as such a block, or one byte longer or shorter.
 use crate::answers::check_row;
 use serde_json::Result;
-use sourcemap_test_support::checks::Checked;
+use sourcemap_test_support::checks::{Checked, check_each};
 use std::alloc::Global;
 
 static LENGTHS: [usize; 8] = [0, 1, 31, 32, 33, 63, 64, 65];
@@ -48,30 +48,38 @@ fn around(alloc: Global, before: usize, inner: &str, after: usize) -> Result<Str
     Ok(format!(in alloc; "\"{first}{inner}{last}\"")?)
 }
 
+// Checks an escape, as it is spelled and as it is written, between two runs of these lengths.
+fn check_around(alloc: Global, escape: &(&str, &str), before: usize, after: usize) -> Checked {
+    let text = around(alloc, before, escape.0, after)?;
+    let want = around(alloc, before, escape.1, after)?;
+    check_row(alloc, text.as_str(), want.as_str())
+}
+
+fn check_after(alloc: Global, escape: &(&str, &str), before: usize) -> Checked {
+    check_each(&LENGTHS, |after| check_around(alloc, escape, before, *after))
+}
+
+fn check_lengths(alloc: Global, escape: &(&str, &str)) -> Checked {
+    check_each(&LENGTHS, |before| check_after(alloc, escape, *before))
+}
+
 #[test]
 fn escapes_among_plain_runs_are_read(rt: HostRuntime) -> Checked {
-    for (spelled, written) in ESCAPES.iter() {
-        for before in LENGTHS.iter() {
-            for after in LENGTHS.iter() {
-                let text = around(rt.alloc(), *before, spelled, *after)?;
-                let want = around(rt.alloc(), *before, written, *after)?;
-                check_row(rt.alloc(), text.as_str(), want.as_str())?;
-            }
-        }
+    let alloc = rt.alloc();
+    check_each(&ESCAPES, |escape| check_lengths(alloc, escape))
+}
+
+fn check_wide(alloc: Global, wide: &(&str, &str)) -> Checked {
+    for before in 0..40 {
+        check_around(alloc, wide, before, 3)?;
     }
     Ok(())
 }
 
 #[test]
 fn wide_characters_between_escapes_are_read(rt: HostRuntime) -> Checked {
-    for (spelled, written) in WIDE.iter() {
-        for before in 0..40 {
-            let text = around(rt.alloc(), before, spelled, 3)?;
-            let want = around(rt.alloc(), before, written, 3)?;
-            check_row(rt.alloc(), text.as_str(), want.as_str())?;
-        }
-    }
-    Ok(())
+    let alloc = rt.alloc();
+    check_each(&WIDE, |wide| check_wide(alloc, wide))
 }
 
 fn without_end(alloc: Global, before: usize, inner: &str) -> Result<String> {
@@ -79,13 +87,16 @@ fn without_end(alloc: Global, before: usize, inner: &str) -> Result<String> {
     Ok(format!(in alloc; "\"{first}{inner}")?)
 }
 
-#[test]
-fn invalid_escapes_after_plain_runs_are_refused(rt: HostRuntime) -> Checked {
-    for error in ERRORS.iter() {
-        for before in 0..70 {
-            let text = without_end(rt.alloc(), before, error)?;
-            check_row(rt.alloc(), text.as_str(), "none")?;
-        }
+fn check_refused(alloc: Global, error: &str) -> Checked {
+    for before in 0..70 {
+        let text = without_end(alloc, before, error)?;
+        check_row(alloc, text.as_str(), "none")?;
     }
     Ok(())
+}
+
+#[test]
+fn invalid_escapes_after_plain_runs_are_refused(rt: HostRuntime) -> Checked {
+    let alloc = rt.alloc();
+    check_each(&ERRORS, |error| check_refused(alloc, error))
 }

@@ -1,6 +1,6 @@
 // Bytes that are UTF-8, and bytes that are not.
 use crate::answers::{answer, kit_answer};
-use sourcemap_test_support::checks::{Checked, check, check_that};
+use sourcemap_test_support::checks::{Checked, check, check_each, check_that};
 use std::alloc::{AllocError, Global};
 use std::result::Result as StdResult;
 
@@ -35,11 +35,11 @@ static BYTES: [(&[u8], &str); 23] = [
 
 #[test]
 fn only_bytes_of_utf8_are_read(rt: HostRuntime) -> Checked {
-    for (bytes, want) in BYTES.iter() {
-        check(want, answer(rt.alloc(), bytes), want)?;
-        check(want, kit_answer(rt.alloc(), bytes), want)?;
-    }
-    Ok(())
+    let alloc = rt.alloc();
+    check_each(&BYTES, |(bytes, want)| {
+        check(want, answer(alloc, bytes), want)?;
+        check(want, kit_answer(alloc, bytes), want)
+    })
 }
 
 // Bytes for the middle of an ASCII string, and whether these bytes are UTF-8.
@@ -66,16 +66,25 @@ fn surround(alloc: Global, letters: usize, inner: &[u8]) -> StdResult<Vec<u8>, A
     Ok(text)
 }
 
-#[test]
-fn characters_at_each_index_of_a_block_are_tested(rt: HostRuntime) -> Checked {
-    for (inner, is_read) in AMID.iter() {
-        for letters in 0..140 {
-            let text = surround(rt.alloc(), letters, inner)?;
-            let found = answer(rt.alloc(), text.as_slice())?;
-            check_that(found.as_str(), (found.as_str() != "none") == *is_read)?;
-            let got = kit_answer(rt.alloc(), text.as_slice());
-            check("as the kit", got, found.as_str())?;
-        }
+fn check_amid(alloc: Global, inner: &[u8], is_read: bool, letters: usize) -> Checked {
+    let text = surround(alloc, letters, inner)?;
+    let found = answer(alloc, text.as_slice())?;
+    check_that(found.as_str(), (found.as_str() != "none") == is_read)?;
+    let got = kit_answer(alloc, text.as_slice());
+    check("as the kit", got, found.as_str())
+}
+
+fn check_each_index(alloc: Global, inner: &[u8], is_read: bool) -> Checked {
+    for letters in 0..140 {
+        check_amid(alloc, inner, is_read, letters)?;
     }
     Ok(())
+}
+
+#[test]
+fn characters_at_each_index_of_a_block_are_tested(rt: HostRuntime) -> Checked {
+    let alloc = rt.alloc();
+    check_each(&AMID, |(inner, is_read)| {
+        check_each_index(alloc, inner, *is_read)
+    })
 }

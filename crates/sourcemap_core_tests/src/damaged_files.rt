@@ -1,7 +1,7 @@
 // Maps with some bytes changed, cut maps, and longer ones.
 use crate::compiled_maps::{ONE, map_named};
 use crate::compiled_texts::{lookup_text, parsed_texts, verified};
-use sourcemap_test_support::checks::{Checked, check};
+use sourcemap_test_support::checks::{Checked, check, check_each};
 use std::alloc::{AllocError, Global};
 
 type Change = (usize, u8);
@@ -289,11 +289,11 @@ fn changed(alloc: Global, bytes: &[u8], changes: &[Change]) -> Result<Vec<u8>, A
 
 #[test]
 fn refused_maps(rt: HostRuntime) -> Checked {
-    for (row, changes, want) in &REFUSED {
-        let bytes = changed(rt.alloc(), &ONE, changes)?;
-        check(row, parsed_texts(rt.alloc(), &bytes), want)?;
-    }
-    Ok(())
+    let alloc = rt.alloc();
+    check_each(&REFUSED, |(row, changes, want)| {
+        let bytes = changed(alloc, &ONE, changes)?;
+        check(row, parsed_texts(alloc, &bytes), want)
+    })
 }
 
 #[test]
@@ -316,27 +316,27 @@ fn cut_and_longer_maps(rt: HostRuntime) -> Checked {
 
 #[test]
 fn verified_maps(rt: HostRuntime) -> Checked {
-    for (row, map, changes, want) in &VERIFIED {
-        let bytes = changed(rt.alloc(), map_named(map), changes)?;
-        check(row, verified(rt.alloc(), &bytes), want)?;
-    }
-    Ok(())
+    let alloc = rt.alloc();
+    check_each(&VERIFIED, |(row, map, changes, want)| {
+        let bytes = changed(alloc, map_named(map), changes)?;
+        check(row, verified(alloc, &bytes), want)
+    })
 }
 
 #[test]
 fn damaged_texts(rt: HostRuntime) -> Checked {
-    for (row, changes, want) in &TEXTS {
-        let bytes = changed(rt.alloc(), &ONE, changes)?;
-        check(row, parsed_texts(rt.alloc(), &bytes), want)?;
-    }
-    Ok(())
+    let alloc = rt.alloc();
+    check_each(&TEXTS, |(row, changes, want)| {
+        let bytes = changed(alloc, &ONE, changes)?;
+        check(row, parsed_texts(alloc, &bytes), want)
+    })
 }
 
 #[test]
 fn damaged_lookups(rt: HostRuntime) -> Checked {
-    for (row, map, changes, line, column, want) in &LOOKUPS {
-        let bytes = changed(rt.alloc(), map_named(map), changes)?;
-        check(row, lookup_text(rt.alloc(), &bytes, *line, *column), want)?;
-    }
-    Ok(())
+    let alloc = rt.alloc();
+    check_each(&LOOKUPS, |(row, map, changes, line, column, want)| {
+        let bytes = changed(alloc, map_named(map), changes)?;
+        check(row, lookup_text(alloc, &bytes, *line, *column), want)
+    })
 }

@@ -2,7 +2,7 @@
 // Some readers are interrupted or fail.
 use sourcemap_errors::errors::{Error, Result};
 use sourcemap_json::detector::{is_sourcemap, is_sourcemap_slice};
-use sourcemap_test_support::checks::{Checked, check, check_that};
+use sourcemap_test_support::checks::{Checked, check, check_each, check_that};
 use sourcemap_test_support::readers::{HaltingReader, NarrowReader};
 use sourcemap_test_support::results::owned_text;
 use std::alloc::Global;
@@ -86,15 +86,13 @@ fn detect(alloc: Global, bytes: &[u8]) -> Result<String> {
 
 #[test]
 fn maps_and_other_texts(rt: HostRuntime) -> Checked {
-    for (about, text) in MAPS.iter() {
-        let got = detect(rt.alloc(), text.as_bytes());
-        check(about, got, "true, true, true")?;
-    }
-    for (about, text) in OTHERS.iter() {
-        let got = detect(rt.alloc(), text.as_bytes());
-        check(about, got, "false, false, false")?;
-    }
-    Ok(())
+    let alloc = rt.alloc();
+    check_each(&MAPS, |(about, text)| {
+        check(about, detect(alloc, text.as_bytes()), "true, true, true")
+    })?;
+    check_each(&OTHERS, |(about, text)| {
+        check(about, detect(alloc, text.as_bytes()), "false, false, false")
+    })
 }
 
 // Calls `is_sourcemap` on a reader that returns the first `count` bytes and then fails.

@@ -3,7 +3,7 @@
 // buffer more than once.
 use crate::answers::check_row;
 use serde_json::Result;
-use sourcemap_test_support::checks::Checked;
+use sourcemap_test_support::checks::{Checked, check_each};
 use std::alloc::Global;
 
 // A JSON string that is read, and the same string in compact JSON, both without enclosing quotes.
@@ -37,44 +37,59 @@ fn surround(alloc: Global, before: usize, inner: &str, rest: usize) -> Result<St
     Ok(format!(in alloc; "[\"{first}{inner}b\",\"{last}\"]")?)
 }
 
-#[test]
-fn escapes_at_each_index_of_a_block_are_read(rt: HostRuntime) -> Checked {
-    for (spelled, written) in SPELLED.iter() {
-        for (first, last) in OFFSETS.iter() {
-            for before in *first..*last {
-                let text = surround(rt.alloc(), before, spelled, 300)?;
-                let want = surround(rt.alloc(), before, written, 300)?;
-                check_row(rt.alloc(), text.as_str(), want.as_str())?;
-            }
-        }
+fn check_around(alloc: Global, escape: &(&str, &str), before: usize, rest: usize) -> Checked {
+    let text = surround(alloc, before, escape.0, rest)?;
+    let want = surround(alloc, before, escape.1, rest)?;
+    check_row(alloc, text.as_str(), want.as_str())
+}
+
+fn check_range(alloc: Global, escape: &(&str, &str), first: usize, last: usize) -> Checked {
+    for before in first..last {
+        check_around(alloc, escape, before, 300)?;
     }
     Ok(())
 }
 
+fn check_ranges(alloc: Global, escape: &(&str, &str)) -> Checked {
+    check_each(&OFFSETS, |(first, last)| {
+        check_range(alloc, escape, *first, *last)
+    })
+}
+
+#[test]
+fn escapes_at_each_index_of_a_block_are_read(rt: HostRuntime) -> Checked {
+    let alloc = rt.alloc();
+    check_each(&SPELLED, |escape| check_ranges(alloc, escape))
+}
+
 // The reader decodes blocks of 64 bytes only while more than 128 bytes of the text are left. The
-// test tries lengths of `rest` below and above this limit.
+// lengths of `rest` are below and above this limit.
+fn check_rests(alloc: Global, escape: &(&str, &str)) -> Checked {
+    for rest in 0..140 {
+        check_around(alloc, escape, 70, rest)?;
+    }
+    Ok(())
+}
+
 #[test]
 fn escapes_before_each_length_of_rest_are_read(rt: HostRuntime) -> Checked {
-    for (spelled, written) in SPELLED.iter() {
-        for rest in 0..140 {
-            let text = surround(rt.alloc(), 70, spelled, rest)?;
-            let want = surround(rt.alloc(), 70, written, rest)?;
-            check_row(rt.alloc(), text.as_str(), want.as_str())?;
-        }
+    let alloc = rt.alloc();
+    check_each(&SPELLED, |escape| check_rests(alloc, escape))
+}
+
+fn check_refused(alloc: Global, error: &str) -> Checked {
+    let inner = format!(in alloc; "\\n{error}")?;
+    for before in 0..140 {
+        let text = surround(alloc, before, inner.as_str(), 300)?;
+        check_row(alloc, text.as_str(), "none")?;
     }
     Ok(())
 }
 
 #[test]
 fn errors_at_each_index_of_a_block_are_refused(rt: HostRuntime) -> Checked {
-    for error in ERRORS.iter() {
-        for before in 0..140 {
-            let inner = format!(in rt.alloc(); "\\n{error}")?;
-            let text = surround(rt.alloc(), before, inner.as_str(), 300)?;
-            check_row(rt.alloc(), text.as_str(), "none")?;
-        }
-    }
-    Ok(())
+    let alloc = rt.alloc();
+    check_each(&ERRORS, |error| check_refused(alloc, error))
 }
 
 #[test]

@@ -4,7 +4,7 @@ use sourcemap_core::mappings::{
     parse_mappings, tokens_in_order, write_mappings, write_range_mappings,
 };
 use sourcemap_core::tokens::{NO_ID, RawToken};
-use sourcemap_test_support::checks::{Checked, check};
+use sourcemap_test_support::checks::{Checked, check, check_each};
 use sourcemap_test_support::results::{error_text, text_or_none};
 use sourcemap_test_support::tokens::{Row, tokens};
 use std::alloc::Global;
@@ -156,10 +156,10 @@ fn read(alloc: Global, texts: Texts) -> Result<String> {
 
 #[test]
 fn reads_mappings(rt: HostRuntime) -> Checked {
-    for (about, texts, want) in READ.iter() {
-        check(about, read(rt.alloc(), *texts), want)?;
-    }
-    Ok(())
+    let alloc = rt.alloc();
+    check_each(&READ, |(about, texts, want)| {
+        check(about, read(alloc, *texts), want)
+    })
 }
 
 /// No source and no original position.
@@ -238,10 +238,10 @@ fn write_ranges(alloc: Global, rows: &[Row]) -> Result<String> {
 
 #[test]
 fn writes_tokens(rt: HostRuntime) -> Checked {
-    for (about, rows, mappings, ranges) in WRITTEN.iter() {
-        check(about, write_rows(rt.alloc(), rows), mappings)?;
+    let alloc = rt.alloc();
+    check_each(&WRITTEN, |(about, rows, mappings, ranges)| {
+        check(about, write_rows(alloc, rows), mappings)?;
         let ranges = ranges.unwrap_or("none");
-        check(about, write_ranges(rt.alloc(), rows), ranges)?;
-    }
-    Ok(())
+        check(about, write_ranges(alloc, rows), ranges)
+    })
 }

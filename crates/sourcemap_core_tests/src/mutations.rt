@@ -4,7 +4,7 @@
 use crate::answers::{answer, kit_answer};
 use crate::kept::{copied_text, kept_text};
 use serde_json::Result;
-use sourcemap_test_support::checks::{Checked, check};
+use sourcemap_test_support::checks::{Checked, check, check_each};
 use std::alloc::Global;
 
 static TEXTS: [&str; 4] = [
@@ -38,17 +38,27 @@ fn change_bytes(alloc: Global, text: &str, mut number: u64) -> Result<Vec<u8>> {
     Ok(bytes)
 }
 
-#[test]
-fn changed_texts_are_read_as_the_kit_reads_them(rt: HostRuntime) -> Checked {
-    for text in TEXTS.iter() {
-        for number in 0..1000 {
-            let bytes = change_bytes(rt.alloc(), text, number)?;
-            let want = kit_answer(rt.alloc(), bytes.as_slice())?;
-            let got = answer(rt.alloc(), bytes.as_slice());
-            check(text, got, want.as_str())?;
-            let want = copied_text(rt.alloc(), bytes.as_slice())?;
-            check(text, kept_text(rt.alloc(), bytes.as_slice()), want.as_str())?;
-        }
+fn check_read(alloc: Global, text: &str, bytes: &[u8]) -> Checked {
+    let want = kit_answer(alloc, bytes)?;
+    check(text, answer(alloc, bytes), want.as_str())
+}
+
+fn check_kept(alloc: Global, text: &str, bytes: &[u8]) -> Checked {
+    let want = copied_text(alloc, bytes)?;
+    check(text, kept_text(alloc, bytes), want.as_str())
+}
+
+fn check_changes(alloc: Global, text: &str) -> Checked {
+    for number in 0..1000 {
+        let bytes = change_bytes(alloc, text, number)?;
+        check_read(alloc, text, bytes.as_slice())?;
+        check_kept(alloc, text, bytes.as_slice())?;
     }
     Ok(())
+}
+
+#[test]
+fn changed_texts_are_read_as_the_kit_reads_them(rt: HostRuntime) -> Checked {
+    let alloc = rt.alloc();
+    check_each(&TEXTS, |text| check_changes(alloc, text))
 }

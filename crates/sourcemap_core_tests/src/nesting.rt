@@ -1,12 +1,14 @@
 // Arrays and objects of up to 128 levels, and strings that begin with 0 to 99 letters `a`.
-use crate::answers::{answer, check_long, kit_answer};
+use crate::answers::{answer, check_long, check_row};
 use serde_json::Result;
-use sourcemap_test_support::checks::{Checked, check};
+use sourcemap_test_support::checks::{Checked, check, check_each};
 use std::alloc::Global;
 
 // A text that opens levels, the text that closes them, how often both are repeated, and what the
 // innermost level holds.
-static LEVELS: [(&str, &str, usize, &str); 7] = [
+type Row = (&'static str, &'static str, usize, &'static str);
+
+static LEVELS: [Row; 7] = [
     ("[", "]", 1, "7"),
     ("[", "]", 127, ""),
     ("[", "]", 127, "7"),
@@ -16,7 +18,7 @@ static LEVELS: [(&str, &str, usize, &str); 7] = [
     (r#"{"a":["#, "]}", 63, ""),
 ];
 
-static TOO_MANY: [(&str, &str, usize, &str); 5] = [
+static TOO_MANY: [Row; 5] = [
     ("[", "]", 128, ""),
     ("[", "]", 127, "[]"),
     ("[", "]", 127, "{}"),
@@ -24,28 +26,29 @@ static TOO_MANY: [(&str, &str, usize, &str); 5] = [
     (r#"[{"a":"#, "}]", 64, "7"),
 ];
 
-fn nest(alloc: Global, row: &(&str, &str, usize, &str)) -> Result<String> {
+fn nest(alloc: Global, row: &Row) -> Result<String> {
     let (open, close, levels, inner) = *row;
     let before = open.repeat(alloc, levels)?;
     let after = close.repeat(alloc, levels)?;
     Ok(format!(in alloc; "{before}{inner}{after}")?)
 }
 
+fn check_levels(alloc: Global, row: &Row) -> Checked {
+    let text = nest(alloc, row)?;
+    let got = answer(alloc, text.as_bytes());
+    check_long(text.as_str(), got, text.as_str())
+}
+
+fn check_too_many(alloc: Global, row: &Row) -> Checked {
+    let text = nest(alloc, row)?;
+    check_row(alloc, text.as_str(), "none")
+}
+
 #[test]
 fn values_are_read_up_to_127_levels_deep(rt: HostRuntime) -> Checked {
-    for row in LEVELS.iter() {
-        let text = nest(rt.alloc(), row)?;
-        let got = answer(rt.alloc(), text.as_bytes());
-        check_long(text.as_str(), got, text.as_str())?;
-    }
-    for row in TOO_MANY.iter() {
-        let text = nest(rt.alloc(), row)?;
-        let got = answer(rt.alloc(), text.as_bytes());
-        check_long(text.as_str(), got, "none")?;
-        let got = kit_answer(rt.alloc(), text.as_bytes());
-        check_long(text.as_str(), got, "none")?;
-    }
-    Ok(())
+    let alloc = rt.alloc();
+    check_each(&LEVELS, |row| check_levels(alloc, row))?;
+    check_each(&TOO_MANY, |row| check_too_many(alloc, row))
 }
 
 // The end of a string, after a run of plain bytes.
@@ -56,14 +59,17 @@ fn pad(alloc: Global, length: usize, end: &str) -> Result<String> {
     Ok(format!(in alloc; "\"{plain}{end}\"")?)
 }
 
-#[test]
-fn texts_of_each_length_are_read(rt: HostRuntime) -> Checked {
-    for end in ENDS.iter() {
-        for length in 0..100 {
-            let text = pad(rt.alloc(), length, end)?;
-            let got = answer(rt.alloc(), text.as_bytes());
-            check(text.as_str(), got, text.as_str())?;
-        }
+fn check_padded(alloc: Global, end: &str) -> Checked {
+    for length in 0..100 {
+        let text = pad(alloc, length, end)?;
+        let got = answer(alloc, text.as_bytes());
+        check(text.as_str(), got, text.as_str())?;
     }
     Ok(())
+}
+
+#[test]
+fn texts_of_each_length_are_read(rt: HostRuntime) -> Checked {
+    let alloc = rt.alloc();
+    check_each(&ENDS, |end| check_padded(alloc, end))
 }

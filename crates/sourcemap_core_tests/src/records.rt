@@ -2,7 +2,7 @@
 use serde_json::Value;
 use sourcemap_errors::errors::{Error, JsonFault, Result};
 use sourcemap_json::jsontypes::{DebugId, FacebookScopeMapping, MinimalRawSourceMap, RawSourceMap};
-use sourcemap_test_support::checks::{Checked, check, check_that};
+use sourcemap_test_support::checks::{Checked, check, check_each, check_that};
 use sourcemap_test_support::records::{boxed_record, value_text};
 use sourcemap_test_support::results::owned_text;
 use std::alloc::Global;
@@ -36,10 +36,10 @@ fn is_of_wrong_shape(alloc: Global, text: &str) -> Result<bool> {
 
 #[test]
 fn wrong_shapes(rt: HostRuntime) -> Checked {
-    for text in WRONG_SHAPE.iter() {
-        check_that(text, is_of_wrong_shape(rt.alloc(), text)?)?;
-    }
-    Ok(())
+    let alloc = rt.alloc();
+    check_each(&WRONG_SHAPE, |text| {
+        check_that(text, is_of_wrong_shape(alloc, text)?)
+    })
 }
 
 const NOTHING: &str = r#"{"sources":null,"version":null}"#;
@@ -97,28 +97,26 @@ fn by_moving(alloc: Global, text: &str) -> Result<Value> {
     RawSourceMap::from_value(alloc, &value)?.into_value(alloc)
 }
 
-fn is_that_of(alloc: Global, one: &RawSourceMap, text: &str) -> Result<bool> {
-    let other = boxed_record(alloc, text)?;
+fn are_equal(alloc: Global, one: &str, other: &str) -> Result<bool> {
+    let one = boxed_record(alloc, one)?;
+    let other = boxed_record(alloc, other)?;
     Ok(*other == *one)
 }
 
-fn are_equal(alloc: Global, one: &str, other: &str) -> Result<bool> {
-    let record = boxed_record(alloc, one)?;
-    is_that_of(alloc, &*record, other)
+fn check_written(alloc: Global, about: &str, text: &str, want: &str) -> Checked {
+    let got = value_text(alloc, by_reference(alloc, text));
+    check(about, got, want)?;
+    check(about, value_text(alloc, by_moving(alloc, text)), want)?;
+    check_that(about, are_equal(alloc, text, want)?)
 }
 
 #[test]
 fn written_texts(rt: HostRuntime) -> Checked {
     let alloc = rt.alloc();
-    for (about, text, want) in WRITTEN.iter() {
-        for text in [*text, *want] {
-            let got = value_text(alloc, by_reference(alloc, text));
-            check(about, got, want)?;
-            check(about, value_text(alloc, by_moving(alloc, text)), want)?;
-            check_that(about, are_equal(alloc, text, want)?)?;
-        }
-    }
-    Ok(())
+    check_each(&WRITTEN, |(about, text, want)| {
+        check_written(alloc, about, text, want)?;
+        check_written(alloc, about, want, want)
+    })
 }
 
 // A label, a text, and its debug id.
@@ -159,13 +157,14 @@ fn id_in(alloc: Global, text: &str) -> Result<String> {
 
 #[test]
 fn debug_ids(rt: HostRuntime) -> Checked {
-    for (about, text, want) in IDS.iter() {
-        check(about, id_text(rt.alloc(), DebugId::parse(text)), want)?;
-    }
+    let alloc = rt.alloc();
+    check_each(&IDS, |(about, text, want)| {
+        check(about, id_text(alloc, DebugId::parse(text)), want)
+    })?;
     // `debugId` wins
     let text =
         r#"{"debug_id":"11111111-1111-1111-1111-111111111111","debugId":"00000000000000000000000000000000"}"#;
-    let got = id_in(rt.alloc(), text);
+    let got = id_in(alloc, text);
     check(text, got, "00000000-0000-0000-0000-000000000000")
 }
 

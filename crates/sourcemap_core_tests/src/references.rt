@@ -8,9 +8,9 @@ use sourcemap_json::detector::{
     SourceMapRef, is_sourcemap, locate_sourcemap_reference, locate_sourcemap_reference_slice,
 };
 use sourcemap_source_views::sourceview::SourceView;
-use sourcemap_test_support::checks::{Checked, check, check_that};
+use sourcemap_test_support::checks::{Checked, check, check_each, check_that};
 use sourcemap_test_support::readers::{HaltingReader, NarrowReader};
-use sourcemap_test_support::results::{error_text, owned_text, text_or_none};
+use sourcemap_test_support::results::{box_result, error_text, owned_text, text_or_none};
 use std::alloc::Global;
 use std::io::ErrorKind;
 use std::str;
@@ -110,11 +110,10 @@ fn reference_text(alloc: Global, found: Result<Option<SourceMapRef>>) -> Result<
 #[test]
 fn locates_in_slices(rt: HostRuntime) -> Checked {
     let alloc = rt.alloc();
-    for (about, bytes, want) in LOCATED.iter() {
+    check_each(&LOCATED, |(about, bytes, want)| {
         let found = locate_sourcemap_reference_slice(alloc, bytes);
-        check(about, reference_text(alloc, found), want)?;
-    }
-    Ok(())
+        check(about, reference_text(alloc, found), want)
+    })
 }
 
 fn read(alloc: Global, bytes: &[u8], reads: usize) -> Result<String> {
@@ -128,10 +127,10 @@ fn read(alloc: Global, bytes: &[u8], reads: usize) -> Result<String> {
 
 #[test]
 fn locates_in_readers(rt: HostRuntime) -> Checked {
-    for (about, bytes, want) in LOCATED.iter() {
-        check(about, read(rt.alloc(), bytes, usize::MAX), want)?;
-    }
-    Ok(())
+    let alloc = rt.alloc();
+    check_each(&LOCATED, |(about, bytes, want)| {
+        check(about, read(alloc, bytes, usize::MAX), want)
+    })
 }
 
 #[test]
@@ -154,11 +153,11 @@ fn read_halting(alloc: Global, bytes: &[u8], reads: usize, kind: ErrorKind) -> R
 
 #[test]
 fn interrupted_reads_are_made_again(rt: HostRuntime) -> Checked {
-    for (about, bytes, want) in LOCATED.iter() {
-        let found = read_halting(rt.alloc(), bytes, usize::MAX, ErrorKind::TimedOut);
-        check(about, found, want)?;
-    }
-    Ok(())
+    let alloc = rt.alloc();
+    check_each(&LOCATED, |(about, bytes, want)| {
+        let found = read_halting(alloc, bytes, usize::MAX, ErrorKind::TimedOut);
+        check(about, found, want)
+    })
 }
 
 fn runs_out_of_memory(alloc: Global, reads: usize) -> bool {
@@ -180,16 +179,16 @@ fn a_read_that_runs_out_of_memory_is_out_of_memory(rt: HostRuntime) -> Checked {
 }
 
 fn read_view(alloc: Global, bytes: &[u8]) -> Result<String> {
-    let view = SourceView::new(alloc, str::from_utf8(bytes)?)?;
+    let view = box_result(alloc, SourceView::new(alloc, str::from_utf8(bytes)?))?;
     reference_text(alloc, view.sourcemap_reference())
 }
 
 #[test]
 fn views_have_the_same_reference(rt: HostRuntime) -> Checked {
-    for (about, bytes, want) in LOCATED[..13].iter() {
-        check(about, read_view(rt.alloc(), bytes), want)?;
-    }
-    Ok(())
+    let alloc = rt.alloc();
+    check_each(&LOCATED[..13], |(about, bytes, want)| {
+        check(about, read_view(alloc, bytes), want)
+    })
 }
 
 // A label. Then a long text: its start, the piece that it repeats 3,000 times, and its end. Then
@@ -273,11 +272,11 @@ fn slice_and_reader(alloc: Global, head: &[u8], piece: &[u8], tail: &[u8]) -> Re
 
 #[test]
 fn locates_in_long_texts(rt: HostRuntime) -> Checked {
-    for (about, head, piece, tail, want) in LONG.iter() {
-        let got = slice_and_reader(rt.alloc(), head, piece, tail);
-        check(about, got, want)?;
-    }
-    Ok(())
+    let alloc = rt.alloc();
+    check_each(&LONG, |(about, head, piece, tail, want)| {
+        let got = slice_and_reader(alloc, head, piece, tail);
+        check(about, got, want)
+    })
 }
 
 // The URL in a reference, the URL of the file that holds the reference, and the resolved URL, or
@@ -303,10 +302,10 @@ fn resolve(alloc: Global, url: &str, base: &str) -> Result<String> {
 
 #[test]
 fn leads_to_urls(rt: HostRuntime) -> Checked {
-    for (url, base, want) in RESOLVED.iter() {
-        check(url, resolve(rt.alloc(), url, base), want)?;
-    }
-    Ok(())
+    let alloc = rt.alloc();
+    check_each(&RESOLVED, |(url, base, want)| {
+        check(url, resolve(alloc, url, base), want)
+    })
 }
 
 // The URL in a reference, the path of the file that holds the reference, and the resolved path, or
@@ -332,11 +331,11 @@ fn resolve_path_of(alloc: Global, url: &str, base: &str, is_legacy: bool) -> Res
 
 #[test]
 fn leads_to_paths(rt: HostRuntime) -> Checked {
-    for (url, base, want) in PATHS.iter() {
-        check(url, resolve_path_of(rt.alloc(), url, base, false), want)?;
-        check(url, resolve_path_of(rt.alloc(), url, base, true), want)?;
-    }
-    Ok(())
+    let alloc = rt.alloc();
+    check_each(&PATHS, |(url, base, want)| {
+        check(url, resolve_path_of(alloc, url, base, false), want)?;
+        check(url, resolve_path_of(alloc, url, base, true), want)
+    })
 }
 
 fn are_equal(a: &SourceMapRef, b: &SourceMapRef) -> bool
@@ -394,9 +393,9 @@ fn detect_failing(alloc: Global, kind: ErrorKind) -> Result<String> {
 
 #[test]
 fn reads_that_fail_for_memory_are_out_of_memory(rt: HostRuntime) -> Checked {
-    for (kind, want, is_map) in FAILED.iter() {
-        check(want, locate_failing(rt.alloc(), *kind), want)?;
-        check(is_map, detect_failing(rt.alloc(), *kind), is_map)?;
-    }
-    Ok(())
+    let alloc = rt.alloc();
+    check_each(&FAILED, |(kind, want, is_map)| {
+        check(want, locate_failing(alloc, *kind), want)?;
+        check(is_map, detect_failing(alloc, *kind), is_map)
+    })
 }

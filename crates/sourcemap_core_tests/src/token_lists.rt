@@ -3,7 +3,7 @@ use sourcemap_core::errors::Result;
 use sourcemap_core::tokens::{NO_ID, RawToken, sort_tokens, tokens_in_order};
 use sourcemap_core::utils::greatest_lower_bound;
 use sourcemap_line_index::token_list::TokenList;
-use sourcemap_test_support::checks::{Checked, check, check_that};
+use sourcemap_test_support::checks::{Checked, check, check_each, check_that};
 use sourcemap_test_support::results::owned_text;
 use std::alloc::Global;
 
@@ -49,10 +49,10 @@ fn closest(alloc: Global, line: u32, col: u32) -> Result<String> {
 
 #[test]
 fn finds_the_closest_token(rt: HostRuntime) -> Checked {
-    for (about, line, col, want) in CLOSEST.iter() {
-        check(about, closest(rt.alloc(), *line, *col), want)?;
-    }
-    Ok(())
+    let alloc = rt.alloc();
+    check_each(&CLOSEST, |(about, line, col, want)| {
+        check(about, closest(alloc, *line, *col), want)
+    })
 }
 
 fn columns(alloc: Global, tokens: &[RawToken]) -> Result<String> {
@@ -143,8 +143,8 @@ fn bound(alloc: Global, count: usize, key: u32) -> Result<String> {
 
 #[test]
 fn finds_first_at_and_last_before(rt: HostRuntime) -> Checked {
-    for (count, key, want) in BOUNDS.iter() {
-        check(want, bound(rt.alloc(), *count, *key), want)?;
-    }
-    Ok(())
+    let alloc = rt.alloc();
+    check_each(&BOUNDS, |(count, key, want)| {
+        check(want, bound(alloc, *count, *key), want)
+    })
 }

@@ -5,7 +5,7 @@ use sourcemap_errors::errors::{Error, JsonFault, Result};
 use sourcemap_json::detector::is_sourcemap_slice;
 use sourcemap_json::jsontypes::RawSourceMap;
 use sourcemap_records::bytes::read_record;
-use sourcemap_test_support::checks::{Checked, check, check_that};
+use sourcemap_test_support::checks::{Checked, check, check_each};
 use sourcemap_test_support::records::record_text;
 use sourcemap_test_support::results::{box_result, owned_text};
 use std::alloc::Global;
@@ -92,11 +92,11 @@ fn read_value(alloc: Global, text: &str) -> Result<String> {
 
 #[test]
 fn unknown_keys_are_ignored(rt: HostRuntime) -> Checked {
-    for (about, text, want) in READ.iter() {
-        check(about, read_bytes(rt.alloc(), text.as_bytes()), want)?;
-        check(about, read_value(rt.alloc(), text), want)?;
-    }
-    Ok(())
+    let alloc = rt.alloc();
+    check_each(&READ, |(about, text, want)| {
+        check(about, read_bytes(alloc, text.as_bytes()), want)?;
+        check(about, read_value(alloc, text), want)
+    })
 }
 
 // An object that would be a map, with more members. `x` is in them, between these texts.
@@ -161,59 +161,48 @@ static FAULTY: [(&str, &[u8]); 20] = [
 
 #[test]
 fn unknown_keys_are_checked(rt: HostRuntime) -> Checked {
-    let got = answers_with_key(rt.alloc(), b"[{\"a\":1e308}]");
+    let alloc = rt.alloc();
+    let got = answers_with_key(alloc, b"[{\"a\":1e308}]");
     check("a value", got, "record, true")?;
-    for (about, x) in FAULTY.iter() {
-        check(about, answers_with_key(rt.alloc(), x), "no JSON, false")?;
-    }
-    Ok(())
+    check_each(&FAULTY, |(about, x)| {
+        check(about, answers_with_key(alloc, x), "no JSON, false")
+    })
 }
 
 #[test]
 fn arrays_among_sources_are_checked(rt: HostRuntime) -> Checked {
-    let got = answers_in_sources(rt.alloc(), b"[{\"a\":1e308}]");
+    let alloc = rt.alloc();
+    let got = answers_in_sources(alloc, b"[{\"a\":1e308}]");
     check("a value", got, "no record, true")?;
-    for (about, x) in FAULTY.iter() {
-        check(about, answers_in_sources(rt.alloc(), x), "no JSON, false")?;
-    }
-    Ok(())
+    check_each(&FAULTY, |(about, x)| {
+        check(about, answers_in_sources(alloc, x), "no JSON, false")
+    })
 }
 
 // As many times `open` as there are levels, then a 0, then as many times `close`.
-fn nested(alloc: Global, open: &str, close: &str, levels: usize) -> Result<Vec<u8>> {
-    let mut text = Vec::new(alloc);
-    for _ in 0..levels {
-        text.extend_from_slice(open.as_bytes())?;
-    }
-    text.extend_from_slice(b"0")?;
-    for _ in 0..levels {
-        text.extend_from_slice(close.as_bytes())?;
-    }
-    Ok(text)
+fn nested(alloc: Global, open: &str, close: &str, levels: usize) -> Result<String> {
+    let before = open.repeat(alloc, levels)?;
+    let after = close.repeat(alloc, levels)?;
+    owned_text(format!(in alloc; "{before}0{after}"))
 }
 
 fn answers_nested(alloc: Global, open: &str, close: &str, levels: usize) -> Result<String> {
     let x = nested(alloc, open, close, levels)?;
-    answers_with_key(alloc, x.as_slice())
+    answers_with_key(alloc, x.as_bytes())
+}
+
+fn check_nested(alloc: Global, open: &str, close: &str) -> Checked {
+    let got = answers_nested(alloc, open, close, 126);
+    check(open, got, "record, true")?;
+    let got = answers_nested(alloc, open, close, 127);
+    check(open, got, "no JSON, false")
 }
 
 // The object around the key is a level too.
 #[test]
 fn unknown_keys_nest_to_127_levels(rt: HostRuntime) -> Checked {
-    let alloc = rt.alloc();
-    for (open, close) in [("[", "]"), ("{\"\":", "}")] {
-        check(
-            open,
-            answers_nested(alloc, open, close, 126),
-            "record, true",
-        )?;
-        check(
-            open,
-            answers_nested(alloc, open, close, 127),
-            "no JSON, false",
-        )?;
-    }
-    Ok(())
+    check_nested(rt.alloc(), "[", "]")?;
+    check_nested(rt.alloc(), "{\"\":", "}")
 }
 
 // Texts with a value of a wrong type at a known key, and whether they are detected as maps.
@@ -262,8 +251,8 @@ static WRONG_TYPES: [(&str, &str); 13] = [
 
 #[test]
 fn wrong_types_are_refused(rt: HostRuntime) -> Checked {
-    for (text, want) in WRONG_TYPES.iter() {
-        check(text, answers(rt.alloc(), text.as_bytes()), want)?;
-    }
-    Ok(())
+    let alloc = rt.alloc();
+    check_each(&WRONG_TYPES, |(text, want)| {
+        check(text, answers(alloc, text.as_bytes()), want)
+    })
 }

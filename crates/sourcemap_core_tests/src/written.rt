@@ -2,7 +2,7 @@
 use crate::answers::check_long;
 use serde_json::{Result, Value};
 use sourcemap_json_write::writing::value_to_vec;
-use sourcemap_test_support::checks::{Checked, check};
+use sourcemap_test_support::checks::{Checked, check, check_each};
 use std::alloc::{AllocError, Global};
 use std::result::Result as StdResult;
 use std::str::from_utf8;
@@ -86,30 +86,21 @@ fn pair(alloc: Global, first: Value, second: Value) -> StdResult<Value, AllocErr
 // Checks how a value is written: alone, and next to a long string.
 fn check_written(alloc: Global, value: Value, want: &str) -> Checked {
     check_long(want, compact_text(alloc, &value), want)?;
-    let mut long = String::new(alloc);
-    for _ in 0..4096 {
-        long.push('x')?;
-    }
-    let mut wanted = String::from_str(alloc, "[")?;
-    for part in [want, ",\"", long.as_str(), "\"]"].iter() {
-        wanted.push_str(part)?;
-    }
-    let answer = compact_text(alloc, &pair(alloc, value, Value::String(long))?);
-    check_long(want, answer, wanted.as_str())
+    check_beside_long(alloc, value, want)
+}
+
+fn check_beside_long(alloc: Global, value: Value, want: &str) -> Checked {
+    let long = "x".repeat(alloc, 4096)?;
+    let wanted = format!(in alloc; "[{want},\"{long}\"]")?;
+    let both = pair(alloc, value, Value::String(long))?;
+    check_long(want, compact_text(alloc, &both), wanted.as_str())
 }
 
 // Returns `around`, then `len` times `run`, then `between`, then again `len` times `run`, then
-// `around`. `between` must differ from `run`.
+// `around`.
 fn two_runs(alloc: Global, run: &str, len: usize, between: &str, around: &str) -> Result<String> {
-    let mut text = String::from_str(alloc, around)?;
-    for part in [run, between, run].iter() {
-        let times = if *part == between { 1 } else { len };
-        for _ in 0..times {
-            text.push_str(part)?;
-        }
-    }
-    text.push_str(around)?;
-    Ok(text)
+    let run = run.repeat(alloc, len)?;
+    Ok(format!(in alloc; "{around}{run}{between}{run}{around}")?)
 }
 
 // A text of `len` characters: the letters `a` to `z` in order, repeated. If `index` is below `len`,
@@ -117,54 +108,60 @@ fn two_runs(alloc: Global, run: &str, len: usize, between: &str, around: &str) -
 fn letters(alloc: Global, len: u8, index: u8) -> Result<String> {
     let mut text = String::new(alloc);
     for at in 0..len {
-        if at != index {
-            text.push(char::from(b'a' + at % 26))?;
-        } else if at % 3 == 0 {
-            text.push('"')?;
-        } else if at % 3 == 1 {
-            text.push('\\')?;
-        } else {
-            text.push('\u{1f}')?;
-        }
+        text.push(letter(at, at == index))?;
     }
     Ok(text)
 }
 
+fn letter(at: u8, needs_escape: bool) -> char {
+    match (needs_escape, at % 3) {
+        (false, _) => char::from(b'a' + at % 26),
+        (true, 0) => '"',
+        (true, 1) => '\\',
+        _ => '\u{1f}',
+    }
+}
+
 #[test]
 fn strings_are_written_with_their_escapes(rt: HostRuntime) -> Checked {
-    for (text, want) in TEXTS.iter() {
-        let value = Value::String(String::from_str(rt.alloc(), text)?);
-        check_written(rt.alloc(), value, want)?;
-    }
-    Ok(())
+    let alloc = rt.alloc();
+    check_each(&TEXTS, |(text, want)| {
+        let value = Value::String(String::from_str(alloc, text)?);
+        check_written(alloc, value, want)
+    })
 }
 
 #[test]
 fn values_are_written_compactly(rt: HostRuntime) -> Checked {
-    for (text, want) in VALUES.iter() {
-        let value = Value::from_str(rt.alloc(), text)?;
-        check_written(rt.alloc(), value, want)?;
-    }
-    Ok(())
+    let alloc = rt.alloc();
+    check_each(&VALUES, |(text, want)| {
+        let value = Value::from_str(alloc, text)?;
+        check_written(alloc, value, want)
+    })
+}
+
+// A run, a text between two such runs, and what this text is written as.
+static RUNS: [(&str, &str, &str); 4] = [
+    ("a", "\n", "\\n"),
+    ("é", "\"", "\\\""),
+    ("€", "\\\t", "\\\\\\t"),
+    ("😀", "\u{1f}", "\\u001f"),
+];
+
+fn check_runs(alloc: Global, len: usize, row: &(&str, &str, &str)) -> Checked {
+    let text = two_runs(alloc, row.0, len, row.1, "")?;
+    let want = two_runs(alloc, row.0, len, row.2, "\"")?;
+    check_written(alloc, Value::String(text), want.as_str())
+}
+
+fn check_length(alloc: Global, len: usize) -> Checked {
+    check_each(&RUNS, |row| check_runs(alloc, len, row))
 }
 
 #[test]
 fn escapes_between_runs_of_each_length_are_written(rt: HostRuntime) -> Checked {
-    for len in LENGTHS.iter() {
-        for (run, byte, escape) in [
-            ("a", "\n", "\\n"),
-            ("é", "\"", "\\\""),
-            ("€", "\\\t", "\\\\\\t"),
-            ("😀", "\u{1f}", "\\u001f"),
-        ]
-        .iter()
-        {
-            let text = two_runs(rt.alloc(), run, *len, byte, "")?;
-            let want = two_runs(rt.alloc(), run, *len, escape, "\"")?;
-            check_written(rt.alloc(), Value::String(text), want.as_str())?;
-        }
-    }
-    Ok(())
+    let alloc = rt.alloc();
+    check_each(&LENGTHS, |len| check_length(alloc, *len))
 }
 
 // The writer checks a short string block by block for bytes that need an escape. Blocks may
@@ -174,12 +171,21 @@ fn escapes_between_runs_of_each_length_are_written(rt: HostRuntime) -> Checked {
 #[test]
 fn an_escape_at_each_index_of_a_short_string_is_written(rt: HostRuntime) -> Checked {
     for len in 0..71u8 {
-        for index in 0..72u8 {
-            let value = Value::String(letters(rt.alloc(), len, index)?);
-            let want = value.to_string(rt.alloc())?;
-            let got = compact_text(rt.alloc(), &value);
-            check(want.as_str(), got, want.as_str())?;
-        }
+        check_each_index(rt.alloc(), len)?;
     }
     Ok(())
+}
+
+fn check_each_index(alloc: Global, len: u8) -> Checked {
+    for index in 0..72u8 {
+        check_as_the_kit(alloc, letters(alloc, len, index)?)?;
+    }
+    Ok(())
+}
+
+fn check_as_the_kit(alloc: Global, text: String) -> Checked {
+    let value = Value::String(text);
+    let want = value.to_string(alloc)?;
+    let got = compact_text(alloc, &value);
+    check(want.as_str(), got, want.as_str())
 }

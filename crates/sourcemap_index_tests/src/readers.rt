@@ -6,7 +6,7 @@ use sourcemap::SourceMapHermes;
 use sourcemap::decoder::decode;
 use sourcemap::errors::{Error, Result};
 use sourcemap::types::{DecodedMap, SourceMap, SourceMapIndex};
-use sourcemap_test_support::checks::{Checked, check, check_that};
+use sourcemap_test_support::checks::{Checked, check, check_each, check_that};
 use sourcemap_test_support::readers::HaltingReader;
 use sourcemap_test_support::results::{again, box_result, error_of, owned_text};
 use std::alloc::Global;
@@ -46,26 +46,29 @@ fn is_read_alike(alloc: Global, text: &str) -> Result<String> {
     owned_text(format!(in alloc; "{}", *sliced == *map))
 }
 
+fn check_byte_by_byte(alloc: Global, text: &str) -> Checked {
+    check(text, again(|| is_read_alike(alloc, text)), "true")?;
+    let got = again(|| decode_halting(alloc, text, usize::MAX));
+    check(text, got, "a.js:0:0")
+}
+
 #[test]
 fn maps_are_read_byte_by_byte(rt: HostRuntime) -> Checked {
     let alloc = rt.alloc();
-    for text in TEXTS.iter() {
-        check(text, again(|| is_read_alike(alloc, text)), "true")?;
-        let got = again(|| decode_halting(alloc, text, usize::MAX));
-        check(text, got, "a.js:0:0")?;
+    check_each(&TEXTS, |text| check_byte_by_byte(alloc, text))
+}
+
+fn check_failing(alloc: Global, text: &str) -> Checked {
+    for reads in 0..=text.len() {
+        check(text, decode_halting(alloc, text, reads), "timed out")?;
     }
     Ok(())
 }
 
 #[test]
 fn each_read_may_fail(rt: HostRuntime) -> Checked {
-    for text in TEXTS.iter() {
-        for reads in 0..=text.len() {
-            let got = decode_halting(rt.alloc(), text, reads);
-            check(text, got, "timed out")?;
-        }
-    }
-    Ok(())
+    let alloc = rt.alloc();
+    check_each(&TEXTS, |text| check_failing(alloc, text))
 }
 
 // The kind of map that is read. Each kind has its own `from_reader`.
@@ -94,20 +97,24 @@ static KINDS: [(Kind, &str, &str); 3] = [
     (Kind::Index, INDEX, HERMES),
 ];
 
+fn check_failing_kind(alloc: Global, kind: Kind, text: &str) -> Checked {
+    for reads in 0..=text.len() {
+        check(text, read_error(alloc, kind, text, reads), "timed out")?;
+    }
+    Ok(())
+}
+
 #[test]
 fn maps_of_one_kind_are_read(rt: HostRuntime) -> Checked {
     let alloc = rt.alloc();
     let incompatible = "encountered incompatible sourcemap format";
-    for (kind, text, other) in KINDS.iter() {
+    check_each(&KINDS, |(kind, text, other)| {
         let got = read_error(alloc, *kind, text, usize::MAX);
         check(text, got, "no error")?;
         let got = read_error(alloc, *kind, other, usize::MAX);
         check(other, got, incompatible)?;
-        for reads in 0..=text.len() {
-            check(text, read_error(alloc, *kind, text, reads), "timed out")?;
-        }
-    }
-    Ok(())
+        check_failing_kind(alloc, *kind, text)
+    })
 }
 
 fn ran_out(alloc: Global, text: &str, reads: usize) -> bool {

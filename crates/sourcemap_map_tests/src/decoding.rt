@@ -2,7 +2,7 @@
 // of decoded maps, and the writing of data URLs.
 use sourcemap::errors::Result;
 use sourcemap::{DecodedMap, SourceMap, decode, decode_data_url, decode_slice};
-use sourcemap_test_support::checks::{Checked, check, check_that};
+use sourcemap_test_support::checks::{Checked, check, check_each, check_that};
 use sourcemap_test_support::readers::HaltingReader;
 use sourcemap_test_support::records::value_text;
 use sourcemap_test_support::results::{again, error_of, owned_text, text_or_none};
@@ -87,13 +87,14 @@ fn are_read_alike(alloc: Global, text: &str) -> Result<bool> {
 
 #[test]
 fn regular_maps_are_read_alone(rt: HostRuntime) -> Checked {
-    for (about, text, want) in REGULAR.iter() {
+    let alloc = rt.alloc();
+    check_each(&REGULAR, |(about, text, want)| {
         let bytes = text.as_bytes();
-        check(about, count_sliced(rt.alloc(), bytes), want)?;
-        check(about, count_read(rt.alloc(), bytes), want)?;
-        check(about, count_read_one_by_one(rt.alloc(), bytes), want)?;
-    }
-    check_that("slice and reader", are_read_alike(rt.alloc(), README)?)
+        check(about, count_sliced(alloc, bytes), want)?;
+        check(about, count_read(alloc, bytes), want)?;
+        check(about, count_read_one_by_one(alloc, bytes), want)
+    })?;
+    check_that("slice and reader", are_read_alike(alloc, README)?)
 }
 
 // Label and a text to decode. Then the text of the token closest to position 0:0 in the decoded
@@ -135,13 +136,13 @@ fn look_up_read_one_by_one(alloc: Global, bytes: &[u8]) -> Result<String> {
 
 #[test]
 fn maps_of_any_kind_are_read(rt: HostRuntime) -> Checked {
-    for (about, text, want) in ANY_KIND.iter() {
+    let alloc = rt.alloc();
+    check_each(&ANY_KIND, |(about, text, want)| {
         let bytes = text.as_bytes();
-        check(about, look_up_sliced(rt.alloc(), bytes), want)?;
-        check(about, look_up_read(rt.alloc(), bytes), want)?;
-        check(about, look_up_read_one_by_one(rt.alloc(), bytes), want)?;
-    }
-    Ok(())
+        check(about, look_up_sliced(alloc, bytes), want)?;
+        check(about, look_up_read(alloc, bytes), want)?;
+        check(about, look_up_read_one_by_one(alloc, bytes), want)
+    })
 }
 
 // Decodes the first `end` bytes of a text. Returns the text of the token closest to position 0:0,
@@ -208,10 +209,10 @@ fn debug_id(alloc: Global, text: &str) -> Result<String> {
 
 #[test]
 fn of_two_debug_ids_the_newer_key_wins(rt: HostRuntime) -> Checked {
-    for (about, text, want) in DEBUG_IDS.iter() {
-        check(about, debug_id(rt.alloc(), text), want)?;
-    }
-    Ok(())
+    let alloc = rt.alloc();
+    check_each(&DEBUG_IDS, |(about, text, want)| {
+        check(about, debug_id(alloc, text), want)
+    })
 }
 
 const WRITTEN: &str = r#"{"mappings":"A","names":[],"sources":[],"version":3}"#;
@@ -256,12 +257,16 @@ fn url_of(alloc: Global, text: &str) -> Result<String> {
     again(|| map.to_data_url())
 }
 
+fn read_url(alloc: Global, url: &str) -> Result<String> {
+    again(|| write_decoded(alloc, decode_data_url(alloc, url)))
+}
+
 #[test]
 fn data_urls_are_read_and_written(rt: HostRuntime) -> Checked {
-    for (about, url, want) in URLS.iter() {
-        let read = again(|| write_decoded(rt.alloc(), decode_data_url(rt.alloc(), url)));
-        check(about, read, want)?;
-    }
+    let alloc = rt.alloc();
+    check_each(&URLS, |(about, url, want)| {
+        check(about, read_url(alloc, url), want)
+    })?;
     let (about, url, text) = URLS[1];
-    check(about, url_of(rt.alloc(), text), url)
+    check(about, url_of(alloc, text), url)
 }

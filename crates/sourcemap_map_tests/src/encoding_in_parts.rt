@@ -5,7 +5,7 @@ use crate::samples::{Made, NONE, make_map, mixed_map, range_map, readme};
 use crate::writing::{BARE, WRITTEN, cut_writing, outcome_text, regular};
 use sourcemap::encoder::{encode_in_parts, encode_to_vec};
 use sourcemap::{Result, SourceMap};
-use sourcemap_test_support::checks::{Checked, check, check_that};
+use sourcemap_test_support::checks::{Checked, check, check_each, check_that};
 use sourcemap_test_support::results::owned_text;
 use sourcemap_test_support::writers::{HaltingWriter, NarrowWriter};
 use std::alloc::Global;
@@ -96,11 +96,10 @@ fn decoded_text(alloc: Global, text: &str, left: Option<usize>) -> Result<String
 #[test]
 fn parts_are_the_text(rt: HostRuntime) -> Checked {
     let alloc = rt.alloc();
-    for (about, text, want) in WRITTEN.iter() {
+    check_each(&WRITTEN, |(about, text, want)| {
         check(about, decoded_text(alloc, text, None), want)?;
-        check(about, decoded_text(alloc, want, None), want)?;
-    }
-    Ok(())
+        check(about, decoded_text(alloc, want, None), want)
+    })
 }
 
 // Checks that `encode_in_parts` writes the bytes that `encode_to_vec` returns.

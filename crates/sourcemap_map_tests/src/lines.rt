@@ -1,7 +1,7 @@
 //! Tables of lines, and positions by UTF-16 columns.
 use sourcemap::Result;
 use sourcemap_core::lines::{LineTable, utf16_offset};
-use sourcemap_test_support::checks::{Checked, check};
+use sourcemap_test_support::checks::{Checked, check, check_each};
 use sourcemap_test_support::results::{box_result, owned_text};
 use std::alloc::Global;
 
@@ -38,10 +38,10 @@ fn push_range(answer: &mut String, range: Option<(usize, usize)>) -> Result<()> 
 
 #[test]
 fn tables_hold_where_lines_begin_and_end(rt: HostRuntime) -> Checked {
-    for (text, want) in TEXTS.iter() {
-        check(text, describe(rt.alloc(), text), want)?;
-    }
-    Ok(())
+    let alloc = rt.alloc();
+    check_each(&TEXTS, |(text, want)| {
+        check(text, describe(alloc, text), want)
+    })
 }
 
 // Line ends, the position where they start, and the length of the text. The line ends are near
@@ -79,15 +79,10 @@ static ENDS: [(&str, usize, usize); 27] = [
 ];
 
 fn with_ends(alloc: Global, ends: &str, position: usize, length: usize) -> Result<String> {
-    let mut text = String::new(alloc);
-    for _ in 0..position {
-        text.push_str("a")?;
-    }
-    text.push_str(ends)?;
-    for _ in text.len()..length {
-        text.push_str("a")?;
-    }
-    Ok(text)
+    let before = "a".repeat(alloc, position)?;
+    let rest = length.saturating_sub(position.saturating_add(ends.len()));
+    let after = "a".repeat(alloc, rest)?;
+    owned_text(format!(in alloc; "{before}{ends}{after}"))
 }
 
 // The ranges of the lines of an ASCII text, found one character after the other.
@@ -128,11 +123,11 @@ fn check_ends(alloc: Global, text: &str) -> Checked {
 
 #[test]
 fn line_ends_at_the_edges_of_blocks_are_found(rt: HostRuntime) -> Checked {
-    for (ends, position, length) in ENDS.iter() {
-        let text = with_ends(rt.alloc(), ends, *position, *length)?;
-        check_ends(rt.alloc(), text.as_str())?;
-    }
-    Ok(())
+    let alloc = rt.alloc();
+    check_each(&ENDS, |(ends, position, length)| {
+        let text = with_ends(alloc, ends, *position, *length)?;
+        check_ends(alloc, text.as_str())
+    })
 }
 
 // A line, a column in UTF-16 units, and the byte offset of the column in the line.
@@ -160,8 +155,8 @@ fn offset_text(alloc: Global, line: &str, col: u64) -> Result<String> {
 
 #[test]
 fn utf16_columns_lead_to_byte_offsets(rt: HostRuntime) -> Checked {
-    for (line, col, want) in COLUMNS.iter() {
-        check(line, offset_text(rt.alloc(), line, *col), want)?;
-    }
-    Ok(())
+    let alloc = rt.alloc();
+    check_each(&COLUMNS, |(line, col, want)| {
+        check(line, offset_text(alloc, line, *col), want)
+    })
 }

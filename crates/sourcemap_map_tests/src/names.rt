@@ -1,7 +1,7 @@
 // Tests of the original names of functions, of the views of contents, and of `rev_token_iter`.
 use crate::writing::decode_boxed;
 use sourcemap::{DecodedMap, Result, SourceMap, SourceView, Token};
-use sourcemap_test_support::checks::{Checked, check};
+use sourcemap_test_support::checks::{Checked, check, check_each};
 use sourcemap_test_support::results::{box_result, owned_text};
 use std::alloc::Global;
 
@@ -78,11 +78,11 @@ fn describe(
 
 #[test]
 fn names_of_functions_are_guessed_by_maps(rt: HostRuntime) -> Checked {
-    for (map, position, minified, want) in NAMES.iter() {
-        let got = name_in(rt.alloc(), map, *position, minified);
-        check(minified, got, want)?;
-    }
-    Ok(())
+    let alloc = rt.alloc();
+    check_each(&NAMES, |(map, position, minified, want)| {
+        let got = name_in(alloc, map, *position, minified);
+        check(minified, got, want)
+    })
 }
 
 // A map, a generated position, whether a minified name is passed, whether a view is passed. Then
@@ -118,11 +118,11 @@ fn name_with(
 
 #[test]
 fn maps_but_hermes_maps_need_a_name_and_a_view(rt: HostRuntime) -> Checked {
-    for (map, position, with_name, with_view, want) in LESS.iter() {
-        let got = name_with(rt.alloc(), map, *position, *with_name, *with_view);
-        check(map, got, want)?;
-    }
-    Ok(())
+    let alloc = rt.alloc();
+    check_each(&LESS, |(map, position, with_name, with_view, want)| {
+        let got = name_with(alloc, map, *position, *with_name, *with_view);
+        check(map, got, want)
+    })
 }
 
 // Calls `get_original_function_name` of `SourceMap`, `SourceMapIndex` or `SourceMapHermes`, not of
@@ -161,15 +161,9 @@ static FAR: [(u32, &str); 4] = [(0, "foo"), (99, "foo"), (125, "foo"), (126, "no
 // `MAP` with a second generated line. This line has one token at each column from 0 to `last`. None
 // of these tokens has a source.
 fn with_second_line(alloc: Global, last: u32) -> Result<String> {
-    let mut text = String::from_str(
-        alloc,
-        r#"{"version":3,"sources":["a.js"],"names":["foo"],"mappings":"AAAA,SAASA;A"#,
-    )?;
-    for _ in 0..last {
-        text.push_str(",C")?;
-    }
-    text.push_str("\"}")?;
-    Ok(text)
+    let head = r#"{"version":3,"sources":["a.js"],"names":["foo"],"mappings":"AAAA,SAASA;A"#;
+    let tokens = ",C".repeat(alloc, last as usize)?;
+    owned_text(format!(in alloc; r#"{head}{tokens}"}}"#))
 }
 
 fn name_from_afar(alloc: Global, last: u32) -> Result<String> {
@@ -179,10 +173,10 @@ fn name_from_afar(alloc: Global, last: u32) -> Result<String> {
 
 #[test]
 fn walks_are_128_tokens_long(rt: HostRuntime) -> Checked {
-    for (last, want) in FAR.iter() {
-        check(want, name_from_afar(rt.alloc(), *last), want)?;
-    }
-    Ok(())
+    let alloc = rt.alloc();
+    check_each(&FAR, |(last, want)| {
+        check(want, name_from_afar(alloc, *last), want)
+    })
 }
 
 const WITH_CONTENTS: &str = concat!(
@@ -229,11 +223,11 @@ fn line_of_token(alloc: Global, id: u32, line: u32) -> Result<String> {
 
 #[test]
 fn contents_are_views(rt: HostRuntime) -> Checked {
-    for (id, line, want) in LINES.iter() {
-        check(want, line_of_source(rt.alloc(), *id, *line), want)?;
-        check(want, line_of_token(rt.alloc(), *id, *line), want)?;
-    }
-    Ok(())
+    let alloc = rt.alloc();
+    check_each(&LINES, |(id, line, want)| {
+        check(want, line_of_source(alloc, *id, *line), want)?;
+        check(want, line_of_token(alloc, *id, *line), want)
+    })
 }
 
 // A token at each of the columns 3, 4 and 5 of line 0.
@@ -273,8 +267,8 @@ static WALKS: [(usize, &str); 4] = [
 
 #[test]
 fn walks_along_the_tokens_of_a_map_find_identifiers(rt: HostRuntime) -> Checked {
-    for (last, want) in WALKS.iter() {
-        check(want, walk_tokens(rt.alloc(), "abc👌def", *last), want)?;
-    }
-    Ok(())
+    let alloc = rt.alloc();
+    check_each(&WALKS, |(last, want)| {
+        check(want, walk_tokens(alloc, "abc👌def", *last), want)
+    })
 }

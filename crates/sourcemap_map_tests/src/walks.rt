@@ -1,8 +1,8 @@
 //! Tests of walks back along tokens: `rev_token_iter` and `get_original_function_name`.
 use sourcemap::Result;
 use sourcemap::sourceview::{SourceView, WalkedToken};
-use sourcemap_test_support::checks::{Checked, check};
-use sourcemap_test_support::results::{optional_text, push_optional};
+use sourcemap_test_support::checks::{Checked, check, check_each};
+use sourcemap_test_support::results::{box_result, optional_text, push_optional};
 use std::alloc::Global;
 
 // One token of a `Chain`.
@@ -141,8 +141,8 @@ fn walk_text(alloc: Global, text: &str, positions: &[(u32, u32)]) -> Result<Stri
             name: None,
         })?;
     }
-    let view = SourceView::new(alloc, text)?;
-    along(alloc, &view, chain_tokens.as_slice())
+    let view = box_result(alloc, SourceView::new(alloc, text))?;
+    along(alloc, &*view, chain_tokens.as_slice())
 }
 
 fn along(alloc: Global, view: &SourceView, chain_tokens: &[ChainToken]) -> Result<String> {
@@ -161,10 +161,10 @@ fn along(alloc: Global, view: &SourceView, chain_tokens: &[ChainToken]) -> Resul
 
 #[test]
 fn walks_find_the_identifier_at_each_position(rt: HostRuntime) -> Checked {
-    for (text, positions, want) in WALKS.iter() {
-        check(text, walk_text(rt.alloc(), text, positions), want)?;
-    }
-    Ok(())
+    let alloc = rt.alloc();
+    check_each(&WALKS, |(text, positions, want)| {
+        check(text, walk_text(alloc, text, positions), want)
+    })
 }
 
 // A walk back over the text `function b(){}`. The walk can start with tokens on line 1, past the
@@ -247,7 +247,7 @@ fn guess_name(
     chain_tokens: &[ChainToken],
     name: &str,
 ) -> Result<String> {
-    let view = SourceView::new(alloc, text)?;
+    let view = box_result(alloc, SourceView::new(alloc, text))?;
     match chain_tokens.split_first() {
         None => optional_text(alloc, None),
         Some((here, earlier)) => {
@@ -262,10 +262,10 @@ fn guess_name(
 
 #[test]
 fn walks_guess_the_name_after_the_word_function(rt: HostRuntime) -> Checked {
-    for (about, name, walk, want) in NAMES.iter() {
-        check(about, name_by_walk(rt.alloc(), name, *walk), want)?;
-    }
-    Ok(())
+    let alloc = rt.alloc();
+    check_each(&NAMES, |(about, name, walk, want)| {
+        check(about, name_by_walk(alloc, name, *walk), want)
+    })
 }
 
 // A text, the minified name to look for, and the guessed original name, or `none`. Each walk has
@@ -301,8 +301,8 @@ fn compare_walks(alloc: Global, text: &str, name: &str) -> Result<String> {
 
 #[test]
 fn names_are_compared_whole(rt: HostRuntime) -> Checked {
-    for (text, name, want) in COMPARED.iter() {
-        check(text, compare_walks(rt.alloc(), text, name), want)?;
-    }
-    Ok(())
+    let alloc = rt.alloc();
+    check_each(&COMPARED, |(text, name, want)| {
+        check(text, compare_walks(alloc, text, name), want)
+    })
 }

@@ -6,7 +6,7 @@ use sourcemap::decoder::decode_regular;
 use sourcemap::encoder::{Encodable, encode, encode_to};
 use sourcemap::jsontypes::RawSourceMap;
 use sourcemap::{DecodedMap, Error, Result, decode_slice};
-use sourcemap_test_support::checks::{Checked, check};
+use sourcemap_test_support::checks::{Checked, check, check_each};
 use sourcemap_test_support::records::{record, record_text, value_text};
 use sourcemap_test_support::results::{again, box_result, owned_text};
 use sourcemap_test_support::writers::NarrowWriter;
@@ -147,11 +147,10 @@ fn check_each_way(alloc: Global, about: &str, text: &str, want: &str) -> Checked
 #[test]
 fn maps_are_written_as_expected(rt: HostRuntime) -> Checked {
     let alloc = rt.alloc();
-    for (about, text, want) in WRITTEN.iter() {
+    check_each(&WRITTEN, |(about, text, want)| {
         check_each_way(alloc, about, text, want)?;
-        check_each_way(alloc, about, want, want)?;
-    }
-    Ok(())
+        check_each_way(alloc, about, want, want)
+    })
 }
 
 // The calls that write a map's bytes.
@@ -229,18 +228,15 @@ fn check_each_call(
     (about, text, want): (&str, &str, &str),
     left: Option<usize>,
 ) -> Checked {
-    for call in CALLS.iter() {
-        check(about, held_text(alloc, text, *call, left), want)?;
-    }
-    Ok(())
+    check_each(&CALLS, |call| check(about, held_text(alloc, text, *call, left), want))
 }
 
 #[test]
 fn bytes_are_written_one_by_one(rt: HostRuntime) -> Checked {
-    for row in WRITTEN.iter() {
-        check_each_call(rt.alloc(), *row, None)?;
-    }
-    Ok(())
+    let alloc = rt.alloc();
+    check_each(&WRITTEN, |row| {
+        check_each_call(alloc, *row, None)
+    })
 }
 
 // Writes a map to an empty writer, and returns the `outcome_text`. The buffer of the writer has
@@ -277,23 +273,18 @@ fn encode_any(alloc: Global, text: &str, capacity: usize) -> Result<String> {
 #[test]
 fn nothing_is_written_without_memory(rt: HostRuntime) -> Checked {
     let alloc = rt.alloc();
-    for (about, text, want) in WRITTEN.iter() {
+    check_each(&WRITTEN, |(about, text, want)| {
         check(about, encode_regular(alloc, text, want.len()), want)?;
-        check(about, encode_any(alloc, text, want.len()), want)?;
-    }
-    Ok(())
+        check(about, encode_any(alloc, text, want.len()), want)
+    })
 }
 
-/// Returns the first `most` characters of `text`, then ` broken pipe`. `outcome_text` returns the
-/// same if a writer takes these characters and then fails with a broken pipe. The only error of
-/// this function is `OutOfMemory`.
+/// Returns the first `most` bytes of `text`, then ` broken pipe`. `outcome_text` returns the same
+/// if a writer takes these bytes and then fails with a broken pipe. The only error of this function
+/// is `OutOfMemory`.
 pub fn cut_writing(alloc: Global, text: &str, most: usize) -> Result<String> {
-    let mut out = String::new(alloc);
-    for letter in text.chars().take(most) {
-        out.push(letter)?;
-    }
-    out.push_str(" broken pipe")?;
-    Ok(out)
+    let held = text.get(..most).unwrap_or("none");
+    owned_text(format!(in alloc; "{held} broken pipe"))
 }
 
 #[test]

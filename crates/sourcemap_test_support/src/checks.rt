@@ -23,3 +23,13 @@ pub fn check_that(row: &str, holds: bool) -> Checked {
     }
     Err(Fail::new(format_args!("{row}: not as expected")))
 }
+
+/// Checks each row by `check_row`, and ends at the first row that fails.
+pub fn check_each<T, F: Fn(&T) -> Checked>(rows: &[T], check_row: F) -> Checked
+    requires { F.IsAlwaysCallable check_row }
+{
+    for row in rows {
+        check_row(row)?;
+    }
+    Ok(())
+}

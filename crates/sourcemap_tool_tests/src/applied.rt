@@ -3,7 +3,7 @@ use crate::runs::TWO;
 use sourcemap::{Error, decode_slice};
 use sourcemap_cli::command::Command;
 use sourcemap_cli::output::apply;
-use sourcemap_test_support::checks::{Checked, check, check_that};
+use sourcemap_test_support::checks::{Checked, check, check_each, check_that};
 use sourcemap_trace::Counting;
 
 const RANGED: &str = r#"{"sources":["a.js"],"mappings":"AAAO","rangeMappings":"B"}"#;
@@ -32,10 +32,9 @@ fn lookup(rt: &HostRuntime, text: &str, (line, col): (u32, u32)) -> Result<Strin
 
 #[test]
 fn lookups_are_applied(rt: HostRuntime) -> Checked {
-    for (text, position, want) in LOOKUPS.iter() {
-        check(want, lookup(&rt, text, *position), want)?;
-    }
-    Ok(())
+    check_each(&LOOKUPS, |(text, position, want)| {
+        check(want, lookup(&rt, text, *position), want)
+    })
 }
 
 const FLAT: &str =
@@ -71,10 +70,9 @@ fn is_refused(answer: Result<String, Error>, want: &str) -> Result<bool, Error> 
 #[test]
 fn flattening_is_applied(rt: HostRuntime) -> Checked {
     check(TWO, flatten(&rt, TWO), FLAT)?;
-    for (text, want) in REFUSED.iter() {
-        check_that(text, is_refused(flatten(&rt, text), want)?)?;
-    }
-    Ok(())
+    check_each(&REFUSED, |(text, want)| {
+        check_that(text, is_refused(flatten(&rt, text), want)?)
+    })
 }
 
 // A map, its adjustment, and the output of `compose`.
@@ -141,16 +139,14 @@ fn is_incompatible(answer: Result<String, Error>) -> Result<bool, Error> {
 
 #[test]
 fn composing_is_applied(rt: HostRuntime) -> Checked {
-    for (text, by, want) in COMPOSED.iter() {
-        check(text, compose(&rt, text, by), want)?;
-    }
-    Ok(())
+    check_each(&COMPOSED, |(text, by, want)| {
+        check(text, compose(&rt, text, by), want)
+    })
 }
 
 #[test]
 fn maps_that_cannot_be_composed_are_refused(rt: HostRuntime) -> Checked {
-    for (text, by) in INCOMPATIBLE.iter() {
-        check_that(text, is_incompatible(compose(&rt, text, by))?)?;
-    }
-    Ok(())
+    check_each(&INCOMPATIBLE, |(text, by)| {
+        check_that(text, is_incompatible(compose(&rt, text, by))?)
+    })
 }

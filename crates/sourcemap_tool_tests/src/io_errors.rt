@@ -4,7 +4,7 @@ use crate::runs::{MAP, USAGE, words_of};
 use sourcemap::{Error, decode};
 use sourcemap_cli::program::run;
 use sourcemap_cli::system::report_error;
-use sourcemap_test_support::checks::{Checked, check_that};
+use sourcemap_test_support::checks::{Checked, check_each, check_that};
 use sourcemap_test_support::readers::NarrowReader;
 use sourcemap_test_support::writers::{HaltingWriter, NarrowWriter};
 use std::io;
@@ -122,10 +122,9 @@ static LINES: [(&str, &str); 2] = [
 
 #[test]
 fn a_writer_that_fails_ends_the_run(rt: HostRuntime) -> Checked {
-    for (line, want) in LINES.iter() {
-        check_that(line, is_written_by(&rt, line, want.as_bytes())?)?;
-    }
-    Ok(())
+    check_each(&LINES, |(line, want)| {
+        check_that(line, is_written_by(&rt, line, want.as_bytes())?)
+    })
 }
 
 // The output of `lookup 0 5`.
@@ -208,10 +207,10 @@ static REPORTED: [(ErrorKind, &str); 2] = [
 
 #[test]
 fn errors_are_reported_unless_the_reader_is_gone(rt: HostRuntime) -> Checked {
-    for (kind, want) in REPORTED.iter() {
+    check_each(&REPORTED, |(kind, want)| {
         let error = Error::from(io::Error::from(*kind));
-        check_that(want, is_reported_as(&rt, &error, want.as_bytes())?)?;
-    }
+        check_that(want, is_reported_as(&rt, &error, want.as_bytes())?)
+    })?;
     let is_reported = is_reported_as(&rt, &Error::OutOfMemory, b"out of memory\n")?;
     check_that("out of memory", is_reported)
 }

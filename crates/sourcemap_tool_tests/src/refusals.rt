@@ -5,7 +5,7 @@ use crate::memory::{check_after, unless_out};
 use crate::runs::{MAP, is_run, words_of};
 use sourcemap::Error;
 use sourcemap_cli::program::run;
-use sourcemap_test_support::checks::{Checked, check_that};
+use sourcemap_test_support::checks::{Checked, check_each, check_that};
 use sourcemap_test_support::readers::HaltingReader;
 use sourcemap_test_support::results::owned_text;
 use std::alloc::Global;
@@ -63,12 +63,12 @@ static NESTED: [(usize, &str, u8, &str); 4] = [
 
 #[test]
 fn indexes_in_one_another_are_read_to_some_depth(rt: HostRuntime) -> Checked {
-    for (depth, line, status, text) in NESTED.iter() {
-        let map = nested_text(rt.alloc(), *depth)?;
+    let alloc = rt.alloc();
+    check_each(&NESTED, |(depth, line, status, text)| {
+        let map = nested_text(alloc, *depth)?;
         let is_so = is_answered(&rt, line, map.as_str(), *status, text)?;
-        check_that(line, is_so)?;
-    }
-    Ok(())
+        check_that(line, is_so)
+    })
 }
 
 // The map of a million tokens at position 0:0.
@@ -86,10 +86,9 @@ static LOOKUPS: [(&str, &str); 2] = [
 #[test]
 fn tokens_at_one_position_are_looked_up(rt: HostRuntime) -> Checked {
     let map = tokens_at_one_position(rt.alloc())?;
-    for (line, text) in LOOKUPS.iter() {
-        check_that(line, is_answered(&rt, line, map.as_str(), 0, text)?)?;
-    }
-    Ok(())
+    check_each(&LOOKUPS, |(line, text)| {
+        check_that(line, is_answered(&rt, line, map.as_str(), 0, text)?)
+    })
 }
 
 // Whether a run ends with this status and output. If the run runs out of memory and `text` is not
@@ -264,10 +263,9 @@ fn file_ends(rt: &HostRuntime, row: &Row) -> Result<bool, Fail> {
 
 #[test]
 fn unreadable_files_are_reported(rt: HostRuntime) -> Checked {
-    for row in FILES.iter() {
-        check_that(row.0, file_ends(&rt, row)?)?;
-    }
-    Ok(())
+    check_each(&FILES, |row| {
+        check_that(row.0, file_ends(&rt, row)?)
+    })
 }
 
 // The words of runs that name the current directory.
@@ -277,9 +275,8 @@ static FOLDERS: [&str; 2] = ["compose .", "trace ."];
 #[test]
 fn a_folder_is_no_file(rt: HostRuntime) -> Checked {
     let want = (1, "Is a directory (os error 21)\n");
-    for line in FOLDERS.iter() {
+    check_each(&FOLDERS, |line| {
         let mut reader = HaltingReader::new(MAP.as_bytes(), usize::MAX, ErrorKind::TimedOut);
-        check_that(line, ends(&rt, &rt, line, &mut reader, want)?)?;
-    }
-    Ok(())
+        check_that(line, ends(&rt, &rt, line, &mut reader, want)?)
+    })
 }
