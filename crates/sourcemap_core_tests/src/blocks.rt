@@ -2,7 +2,7 @@
 // runs are as long as such a block, or one byte longer or shorter.
 use crate::answers::check_row;
 use serde_json::Result;
-use sourcemap_test_support::checks::{Checked, check_each};
+use sourcemap_test_support::checks::{Checked, check_below, check_each};
 use std::alloc::Global;
 
 static LENGTHS: [usize; 8] = [0, 1, 31, 32, 33, 63, 64, 65];
@@ -70,10 +70,9 @@ fn escapes_among_plain_runs_are_read(rt: HostRuntime) -> Checked {
 }
 
 fn check_wide(alloc: Global, wide: &(&str, &str)) -> Checked {
-    for before in 0..40 {
-        check_around(alloc, wide, before, 3)?;
-    }
-    Ok(())
+    check_below(40, |before| {
+        check_around(alloc, wide, before, 3)
+    })
 }
 
 #[test]
@@ -88,11 +87,10 @@ fn without_end(alloc: Global, before: usize, inner: &str) -> Result<String> {
 }
 
 fn check_refused(alloc: Global, error: &str) -> Checked {
-    for before in 0..70 {
+    check_below(70, |before| {
         let text = without_end(alloc, before, error)?;
-        check_row(alloc, text.as_str(), "none")?;
-    }
-    Ok(())
+        check_row(alloc, text.as_str(), "none")
+    })
 }
 
 #[test]

@@ -1,6 +1,6 @@
 // Bytes that are UTF-8, and bytes that are not.
 use crate::answers::{answer, kit_answer};
-use sourcemap_test_support::checks::{Checked, check, check_each, check_that};
+use sourcemap_test_support::checks::{Checked, check, check_below, check_each, check_that};
 use std::alloc::{AllocError, Global};
 use std::result::Result as StdResult;
 
@@ -75,10 +75,9 @@ fn check_amid(alloc: Global, inner: &[u8], is_read: bool, letters: usize) -> Che
 }
 
 fn check_each_index(alloc: Global, inner: &[u8], is_read: bool) -> Checked {
-    for letters in 0..140 {
-        check_amid(alloc, inner, is_read, letters)?;
-    }
-    Ok(())
+    check_below(140, |letters| {
+        check_amid(alloc, inner, is_read, letters)
+    })
 }
 
 #[test]

@@ -2,7 +2,7 @@
 // Some readers are interrupted or fail.
 use sourcemap_errors::errors::{Error, Result};
 use sourcemap_json::detector::{is_sourcemap, is_sourcemap_slice};
-use sourcemap_test_support::checks::{Checked, check, check_each, check_that};
+use sourcemap_test_support::checks::{Checked, check, check_each, check_that, check_up_to};
 use sourcemap_test_support::readers::{HaltingReader, NarrowReader};
 use sourcemap_test_support::results::owned_text;
 use std::alloc::Global;
@@ -107,12 +107,12 @@ fn detect_failing(alloc: Global, bytes: &[u8], count: usize) -> Result<bool> {
 
 #[test]
 fn a_failed_read_is_no_map(rt: HostRuntime) -> Checked {
+    let alloc = rt.alloc();
     let bytes = r#"{"sections":[]}"#.as_bytes();
-    for count in 0..=bytes.len() {
-        let is_map = detect_failing(rt.alloc(), bytes, count)?;
-        check_that("a reader that fails", !is_map)?;
-    }
-    Ok(())
+    check_up_to(bytes.len(), |count| {
+        let is_map = detect_failing(alloc, bytes, count)?;
+        check_that("a reader that fails", !is_map)
+    })
 }
 
 // Whether detection returns `OutOfMemory` if the reader runs out of memory after `reads` reads that
@@ -124,10 +124,10 @@ fn runs_out_of_memory(alloc: Global, bytes: &[u8], reads: usize) -> bool {
 
 #[test]
 fn out_of_memory_alone_is_an_error(rt: HostRuntime) -> Checked {
+    let alloc = rt.alloc();
     let bytes = r#"{"sections":[]}"#.as_bytes();
-    for reads in 0..=bytes.len() {
-        let is_out = runs_out_of_memory(rt.alloc(), bytes, reads);
-        check_that("a reader that runs out of memory", is_out)?;
-    }
-    Ok(())
+    check_up_to(bytes.len(), |reads| {
+        let is_out = runs_out_of_memory(alloc, bytes, reads);
+        check_that("a reader that runs out of memory", is_out)
+    })
 }

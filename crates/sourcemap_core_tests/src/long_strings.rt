@@ -3,7 +3,7 @@
 // buffer more than once.
 use crate::answers::check_row;
 use serde_json::Result;
-use sourcemap_test_support::checks::{Checked, check_each};
+use sourcemap_test_support::checks::{Checked, check_below, check_each};
 use std::alloc::Global;
 
 // A JSON string that is read, and the same string in compact JSON, both without enclosing quotes.
@@ -65,10 +65,9 @@ fn escapes_at_each_index_of_a_block_are_read(rt: HostRuntime) -> Checked {
 // The reader decodes blocks of 64 bytes only while more than 128 bytes of the text are left. The
 // lengths of `rest` are below and above this limit.
 fn check_rests(alloc: Global, escape: &(&str, &str)) -> Checked {
-    for rest in 0..140 {
-        check_around(alloc, escape, 70, rest)?;
-    }
-    Ok(())
+    check_below(140, |rest| {
+        check_around(alloc, escape, 70, rest)
+    })
 }
 
 #[test]
@@ -79,11 +78,10 @@ fn escapes_before_each_length_of_rest_are_read(rt: HostRuntime) -> Checked {
 
 fn check_refused(alloc: Global, error: &str) -> Checked {
     let inner = format!(in alloc; "\\n{error}")?;
-    for before in 0..140 {
+    check_below(140, |before| {
         let text = surround(alloc, before, inner.as_str(), 300)?;
-        check_row(alloc, text.as_str(), "none")?;
-    }
-    Ok(())
+        check_row(alloc, text.as_str(), "none")
+    })
 }
 
 #[test]
@@ -94,25 +92,25 @@ fn errors_at_each_index_of_a_block_are_refused(rt: HostRuntime) -> Checked {
 
 #[test]
 fn texts_without_an_end_are_refused(rt: HostRuntime) -> Checked {
-    for after in 0..300 {
-        let last = "b".repeat(rt.alloc(), after)?;
-        let text = format!(in rt.alloc(); "\"a\\n{last}")?;
-        check_row(rt.alloc(), text.as_str(), "none")?;
-    }
-    Ok(())
+    let alloc = rt.alloc();
+    check_below(300, |after| {
+        let last = "b".repeat(alloc, after)?;
+        let text = format!(in alloc; "\"a\\n{last}")?;
+        check_row(alloc, text.as_str(), "none")
+    })
 }
 
 // For the first string of each text, the reader extends its buffer several times, by 4096 bytes
 // each time. The other strings of the text reuse the extended buffer.
 #[test]
 fn strings_longer_than_the_first_buffer_are_read(rt: HostRuntime) -> Checked {
-    for before in 0..70 {
-        let first = "a".repeat(rt.alloc(), before)?;
-        let lines = r#"some line \"é\" with no end\n"#.repeat(rt.alloc(), 500)?;
-        let text = format!(in rt.alloc();
+    let alloc = rt.alloc();
+    check_below(70, |before| {
+        let first = "a".repeat(alloc, before)?;
+        let lines = r#"some line \"é\" with no end\n"#.repeat(alloc, 500)?;
+        let text = format!(in alloc;
             "[\"{first}{lines}\",\"\\n{first}\",\"{lines}{first}\",\"x\\t\"]"
         )?;
-        check_row(rt.alloc(), text.as_str(), text.as_str())?;
-    }
-    Ok(())
+        check_row(alloc, text.as_str(), text.as_str())
+    })
 }

@@ -1,7 +1,7 @@
 // Arrays and objects of up to 128 levels, and strings that begin with 0 to 99 letters `a`.
 use crate::answers::{answer, check_long, check_row};
 use serde_json::Result;
-use sourcemap_test_support::checks::{Checked, check, check_each};
+use sourcemap_test_support::checks::{Checked, check, check_below, check_each};
 use std::alloc::Global;
 
 // A text that opens levels, the text that closes them, how often both are repeated, and what the
@@ -60,12 +60,11 @@ fn pad(alloc: Global, length: usize, end: &str) -> Result<String> {
 }
 
 fn check_padded(alloc: Global, end: &str) -> Checked {
-    for length in 0..100 {
+    check_below(100, |length| {
         let text = pad(alloc, length, end)?;
         let got = answer(alloc, text.as_bytes());
-        check(text.as_str(), got, text.as_str())?;
-    }
-    Ok(())
+        check(text.as_str(), got, text.as_str())
+    })
 }
 
 #[test]

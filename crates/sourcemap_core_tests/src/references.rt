@@ -8,7 +8,7 @@ use sourcemap_json::detector::{
     SourceMapRef, is_sourcemap, locate_sourcemap_reference, locate_sourcemap_reference_slice,
 };
 use sourcemap_source_views::sourceview::SourceView;
-use sourcemap_test_support::checks::{Checked, check, check_each, check_that};
+use sourcemap_test_support::checks::{Checked, check, check_below, check_each, check_that};
 use sourcemap_test_support::readers::{HaltingReader, NarrowReader};
 use sourcemap_test_support::results::{box_result, error_text, owned_text, text_or_none};
 use std::alloc::Global;
@@ -135,12 +135,13 @@ fn locates_in_readers(rt: HostRuntime) -> Checked {
 
 #[test]
 fn a_failed_read_is_no_reference(rt: HostRuntime) -> Checked {
+    let alloc = rt.alloc();
     let bytes = b"a\n//# sourceMappingURL=a.map";
-    for reads in 0..29 {
-        let got = read(rt.alloc(), bytes, reads);
-        check("a read that fails", got, "timed out")?;
-    }
-    let got = read(rt.alloc(), bytes, 29);
+    check_below(29, |reads| {
+        let got = read(alloc, bytes, reads);
+        check("a read that fails", got, "timed out")
+    })?;
+    let got = read(alloc, bytes, 29);
     check("no read that fails", got, "#a.map")
 }
 
@@ -171,11 +172,11 @@ fn runs_out_of_memory(alloc: Global, reads: usize) -> bool {
 
 #[test]
 fn a_read_that_runs_out_of_memory_is_out_of_memory(rt: HostRuntime) -> Checked {
-    for reads in 0..29 {
-        let is_out = runs_out_of_memory(rt.alloc(), reads);
-        check_that("a reader that runs out of memory", is_out)?;
-    }
-    Ok(())
+    let alloc = rt.alloc();
+    check_below(29, |reads| {
+        let is_out = runs_out_of_memory(alloc, reads);
+        check_that("a reader that runs out of memory", is_out)
+    })
 }
 
 fn read_view(alloc: Global, bytes: &[u8]) -> Result<String> {

@@ -6,7 +6,7 @@ use sourcemap::SourceMapHermes;
 use sourcemap::decoder::decode;
 use sourcemap::errors::{Error, Result};
 use sourcemap::types::{DecodedMap, SourceMap, SourceMapIndex};
-use sourcemap_test_support::checks::{Checked, check, check_each, check_that};
+use sourcemap_test_support::checks::{Checked, check, check_each, check_that, check_up_to};
 use sourcemap_test_support::readers::HaltingReader;
 use sourcemap_test_support::results::{again, box_result, error_of, owned_text};
 use std::alloc::Global;
@@ -59,10 +59,9 @@ fn maps_are_read_byte_by_byte(rt: HostRuntime) -> Checked {
 }
 
 fn check_failing(alloc: Global, text: &str) -> Checked {
-    for reads in 0..=text.len() {
-        check(text, decode_halting(alloc, text, reads), "timed out")?;
-    }
-    Ok(())
+    check_up_to(text.len(), |reads| {
+        check(text, decode_halting(alloc, text, reads), "timed out")
+    })
 }
 
 #[test]
@@ -98,10 +97,9 @@ static KINDS: [(Kind, &str, &str); 3] = [
 ];
 
 fn check_failing_kind(alloc: Global, kind: Kind, text: &str) -> Checked {
-    for reads in 0..=text.len() {
-        check(text, read_error(alloc, kind, text, reads), "timed out")?;
-    }
-    Ok(())
+    check_up_to(text.len(), |reads| {
+        check(text, read_error(alloc, kind, text, reads), "timed out")
+    })
 }
 
 #[test]
@@ -124,8 +122,8 @@ fn ran_out(alloc: Global, text: &str, reads: usize) -> bool {
 
 #[test]
 fn a_read_that_runs_out_of_memory_is_out_of_memory(rt: HostRuntime) -> Checked {
-    for reads in 0..=REGULAR.len() {
-        check_that("out of memory", ran_out(rt.alloc(), REGULAR, reads))?;
-    }
-    Ok(())
+    let alloc = rt.alloc();
+    check_up_to(REGULAR.len(), |reads| {
+        check_that("out of memory", ran_out(alloc, REGULAR, reads))
+    })
 }

@@ -5,7 +5,7 @@ use crate::maps::map_of;
 use sourcemap::encoder::encode;
 use sourcemap::errors::{Error, Result};
 use sourcemap::types::DecodedMap;
-use sourcemap_test_support::checks::{Checked, check, check_each};
+use sourcemap_test_support::checks::{Checked, check, check_below, check_each};
 use sourcemap_test_support::results::owned_text;
 use sourcemap_test_support::writers::{HaltingWriter, NarrowWriter};
 use std::alloc::Global;
@@ -138,12 +138,11 @@ fn check_cut(alloc: Global, text: &str, way: Way, (most, error): (usize, &str)) 
 }
 
 fn check_cuts(alloc: Global, text: &str) -> Checked {
-    for most in 0..text.len() {
+    check_below(text.len(), |most| {
         check_cut(alloc, text, Way::Failing(Some(most)), (most, "broken pipe"))?;
         let full = (most, "failed to write whole buffer");
-        check_cut(alloc, text, Way::Halting(Some(most)), full)?;
-    }
-    Ok(())
+        check_cut(alloc, text, Way::Halting(Some(most)), full)
+    })
 }
 
 #[test]

@@ -2,7 +2,7 @@
 // of decoded maps, and the writing of data URLs.
 use sourcemap::errors::Result;
 use sourcemap::{DecodedMap, SourceMap, decode, decode_data_url, decode_slice};
-use sourcemap_test_support::checks::{Checked, check, check_each, check_that};
+use sourcemap_test_support::checks::{Checked, check, check_below, check_each, check_that};
 use sourcemap_test_support::readers::HaltingReader;
 use sourcemap_test_support::records::value_text;
 use sourcemap_test_support::results::{again, error_of, owned_text, text_or_none};
@@ -157,11 +157,11 @@ fn read_beginning(alloc: Global, text: &str, end: usize) -> Result<String> {
 
 #[test]
 fn proper_beginnings_of_a_text_are_no_json(rt: HostRuntime) -> Checked {
+    let alloc = rt.alloc();
     let want = "bad json: the text is not JSON";
-    for end in 0..README.len() {
-        check(want, read_beginning(rt.alloc(), README, end), want)?;
-    }
-    Ok(())
+    check_below(README.len(), |end| {
+        check(want, read_beginning(alloc, README, end), want)
+    })
 }
 
 // Whether a map equals its copy. Then, after `set_debug_id(None)`, whether the map differs from the

@@ -5,7 +5,7 @@ use crate::samples::{Made, NONE, make_map, mixed_map, range_map, readme};
 use crate::writing::{BARE, WRITTEN, cut_writing, outcome_text, regular};
 use sourcemap::encoder::{encode_in_parts, encode_to_vec};
 use sourcemap::{Result, SourceMap};
-use sourcemap_test_support::checks::{Checked, check, check_each, check_that};
+use sourcemap_test_support::checks::{Checked, check, check_below, check_each, check_that};
 use sourcemap_test_support::results::owned_text;
 use sourcemap_test_support::writers::{HaltingWriter, NarrowWriter};
 use std::alloc::Global;
@@ -142,12 +142,11 @@ fn many_text(alloc: Global) -> Result<String> {
 fn parts_end_where_a_write_fails(rt: HostRuntime) -> Checked {
     let alloc = rt.alloc();
     let (about, text, want) = BARE;
-    for taken in 0..want.len() {
+    check_below(want.len(), |taken| {
         let due = cut_writing(alloc, want, taken)?;
         let out = decoded_text(alloc, text, Some(taken));
-        check(about, out, due.as_str())?;
-    }
-    Ok(())
+        check(about, out, due.as_str())
+    })
 }
 
 fn halted_text(alloc: Global, text: &str, left: Option<usize>) -> Result<String> {

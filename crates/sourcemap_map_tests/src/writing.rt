@@ -6,7 +6,7 @@ use sourcemap::decoder::decode_regular;
 use sourcemap::encoder::{Encodable, encode, encode_to};
 use sourcemap::jsontypes::RawSourceMap;
 use sourcemap::{DecodedMap, Error, Result, decode_slice};
-use sourcemap_test_support::checks::{Checked, check, check_each};
+use sourcemap_test_support::checks::{Checked, check, check_below, check_each};
 use sourcemap_test_support::records::{record, record_text, value_text};
 use sourcemap_test_support::results::{again, box_result, owned_text};
 use sourcemap_test_support::writers::NarrowWriter;
@@ -291,9 +291,8 @@ pub fn cut_writing(alloc: Global, text: &str, most: usize) -> Result<String> {
 fn each_write_may_fail(rt: HostRuntime) -> Checked {
     let alloc = rt.alloc();
     let (about, text, want) = BARE;
-    for taken in 0..want.len() {
+    check_below(want.len(), |taken| {
         let due = cut_writing(alloc, want, taken)?;
-        check_each_call(alloc, (about, text, due.as_str()), Some(taken))?;
-    }
-    Ok(())
+        check_each_call(alloc, (about, text, due.as_str()), Some(taken))
+    })
 }

@@ -4,7 +4,7 @@ use crate::memory::{check_after, unless_out};
 use crate::runs::words_of;
 use sourcemap::Error;
 use sourcemap_cli::program::{reply_to, run};
-use sourcemap_test_support::checks::{Checked, check_each, check_that};
+use sourcemap_test_support::checks::{Checked, check_each, check_that, check_up_to};
 use std::io;
 use std::io::ErrorKind;
 use std::test::Fail;
@@ -217,10 +217,9 @@ fn is_refused(rt: &HostRuntime, words: &[String], left: usize) -> Result<bool, F
 #[test]
 fn a_file_that_fails_is_refused(rt: HostRuntime) -> Checked {
     let words = words_of(rt.alloc(), "compose a.map")?;
-    for left in 0..=ADJUSTMENT.len() {
-        check_after(left, is_refused(&rt, words.as_slice(), left)?)?;
-    }
-    Ok(())
+    check_up_to(ADJUSTMENT.len(), |left| {
+        check_after(left, is_refused(&rt, words.as_slice(), left)?)
+    })
 }
 
 // A map, and the output of a run whose file is missing.

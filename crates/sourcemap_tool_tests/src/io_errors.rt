@@ -4,7 +4,7 @@ use crate::runs::{MAP, USAGE, words_of};
 use sourcemap::{Error, decode};
 use sourcemap_cli::program::run;
 use sourcemap_cli::system::report_error;
-use sourcemap_test_support::checks::{Checked, check_each, check_that};
+use sourcemap_test_support::checks::{Checked, check_below, check_each, check_that, check_up_to};
 use sourcemap_test_support::readers::NarrowReader;
 use sourcemap_test_support::writers::{HaltingWriter, NarrowWriter};
 use std::io;
@@ -55,10 +55,9 @@ fn is_refused(rt: &HostRuntime, words: &[String], left: usize) -> Result<bool, F
 #[test]
 fn a_run_on_a_reader_that_fails_is_refused(rt: HostRuntime) -> Checked {
     let words = words_of(rt.alloc(), "lookup 0 5")?;
-    for left in 0..=MAP.len() {
-        check_after(left, is_refused(&rt, words.as_slice(), left)?)?;
-    }
-    Ok(())
+    check_up_to(MAP.len(), |left| {
+        check_after(left, is_refused(&rt, words.as_slice(), left)?)
+    })
 }
 
 // Whether `decode` returns an `Io` error for a reader that fails after `left` bytes.
@@ -71,10 +70,9 @@ fn is_read_error(rt: &HostRuntime, left: usize) -> Result<bool, Error> {
 
 #[test]
 fn a_reader_that_fails_is_not_decoded(rt: HostRuntime) -> Checked {
-    for left in 0..=MAP.len() {
-        check_after(left, is_read_error(&rt, left)?)?;
-    }
-    Ok(())
+    check_up_to(MAP.len(), |left| {
+        check_after(left, is_read_error(&rt, left)?)
+    })
 }
 
 // The first run uses a writer that takes one byte per write. This run must print `want`. For each
@@ -160,10 +158,9 @@ fn a_writer_that_takes_nothing_ends_the_run(rt: HostRuntime) -> Checked {
     let words = words_of(rt.alloc(), "lookup 0 5")?;
     let is_written = is_written_when_interrupted(&rt, words.as_slice())?;
     check_that("interrupted", is_written)?;
-    for left in 0..LOOKED_UP.len() {
-        check_after(left, is_cut_off(&rt, words.as_slice(), left)?)?;
-    }
-    Ok(())
+    check_below(LOOKED_UP.len(), |left| {
+        check_after(left, is_cut_off(&rt, words.as_slice(), left)?)
+    })
 }
 
 // Each writer takes one byte per write. The first call of `report_error` uses a writer that does
@@ -253,8 +250,7 @@ fn a_writer_that_takes_nothing_ends_the_report(rt: HostRuntime) -> Checked {
     let full = Error::from(io::Error::from(ErrorKind::StorageFull));
     let is_reported = is_reported_when_interrupted(&rt, &full, None, FULL)?;
     check_that("interrupted", is_reported)?;
-    for left in 0..FULL.len() {
-        check_after(left, is_report_cut_off(&rt, &full, left)?)?;
-    }
-    Ok(())
+    check_below(FULL.len(), |left| {
+        check_after(left, is_report_cut_off(&rt, &full, left)?)
+    })
 }

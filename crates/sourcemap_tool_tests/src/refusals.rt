@@ -5,7 +5,7 @@ use crate::memory::{check_after, unless_out};
 use crate::runs::{MAP, is_run, words_of};
 use sourcemap::Error;
 use sourcemap_cli::program::run;
-use sourcemap_test_support::checks::{Checked, check_each, check_that};
+use sourcemap_test_support::checks::{Checked, check_below, check_each, check_that, check_up_to};
 use sourcemap_test_support::readers::HaltingReader;
 use sourcemap_test_support::results::owned_text;
 use std::alloc::Global;
@@ -32,11 +32,10 @@ fn is_answered(
 
 #[test]
 fn proper_beginnings_of_a_map_are_no_json(rt: HostRuntime) -> Checked {
-    for end in 0..MAP.len() {
+    check_below(MAP.len(), |end| {
         let beginning = MAP.get(..end).unwrap_or("{}");
-        check_after(end, is_answered(&rt, "tokens", beginning, 1, NO_JSON)?)?;
-    }
-    Ok(())
+        check_after(end, is_answered(&rt, "tokens", beginning, 1, NO_JSON)?)
+    })
 }
 
 const INNERMOST: &str = r#"{"sources":["a.js"],"mappings":"AAAA"}"#;
@@ -133,10 +132,10 @@ fn is_timed_out(rt: &HostRuntime, reads: usize) -> Result<bool, Fail> {
 
 #[test]
 fn failing_reads_are_reported(rt: HostRuntime) -> Checked {
-    for reads in 0..=MAP.len() {
+    check_up_to(MAP.len(), |reads| {
         check_after(reads, is_out_of_memory(&rt, reads)?)?;
-        check_after(reads, is_timed_out(&rt, reads)?)?;
-    }
+        check_after(reads, is_timed_out(&rt, reads)?)
+    })?;
     let answer = (0, "coolstuff.js:0:4 name=x\n");
     let is_so = reader_ends(&rt, usize::MAX, ErrorKind::TimedOut, answer)?;
     check_that("no read that fails", is_so)

@@ -5,7 +5,7 @@ use crate::memory::{check_after, unless_out};
 use crate::runs::{MAP, TWO, words_of};
 use sourcemap::{DecodedMap, Error, decode_slice};
 use sourcemap_cli::program::{reply_to, run};
-use sourcemap_test_support::checks::{Checked, check, check_each, check_that};
+use sourcemap_test_support::checks::{Checked, check, check_each, check_that, check_up_to};
 use sourcemap_trace::{Counting, trace_text, trace_text_from};
 use std::alloc::Global;
 use std::test::Fail;
@@ -283,10 +283,9 @@ fn is_refused(rt: &HostRuntime, words: &[String], left: usize) -> Result<bool, F
 #[test]
 fn files_of_positions_may_fail(rt: HostRuntime) -> Checked {
     let words = words_of(rt.alloc(), "trace a.txt")?;
-    for left in 0..=5 {
-        check_after(left, is_refused(&rt, words.as_slice(), left)?)?;
-    }
-    Ok(())
+    check_up_to(5, |left| {
+        check_after(left, is_refused(&rt, words.as_slice(), left)?)
+    })
 }
 
 #[test]
