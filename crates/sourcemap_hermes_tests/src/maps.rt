@@ -4,7 +4,7 @@ use sourcemap_hermes::decode::decode_hermes;
 use sourcemap_hermes::map::SourceMapHermes;
 use sourcemap_map_regular::encode::Encodable;
 use sourcemap_map_regular::token::Token;
-use sourcemap_test_support::checks::{Checked, check, check_that};
+use sourcemap_test_support::checks::{Checked, check, check_each, check_that};
 use sourcemap_test_support::records::{record, record_text};
 use sourcemap_test_support::results::{box_result, owned_text};
 use std::alloc::Global;
@@ -99,11 +99,11 @@ static MAPS: [&str; 7] = [
 
 #[test]
 fn names_of_functions(rt: HostRuntime) -> Checked {
-    for (text, offset, want) in NAMES.iter() {
-        let answer = name_at(rt.alloc(), text, *offset);
-        check(text, answer, want)?;
-    }
-    Ok(())
+    let alloc = rt.alloc();
+    check_each(&NAMES, |(text, offset, want)| {
+        let answer = name_at(alloc, text, *offset);
+        check(text, answer, want)
+    })
 }
 
 fn scope_text(alloc: Global, map: &SourceMapHermes, token: Option<Token<'_>>) -> Result<String> {
@@ -121,10 +121,10 @@ fn scope_at(alloc: Global, text: &str, offset: u32) -> Result<String> {
 
 #[test]
 fn scopes_of_tokens(rt: HostRuntime) -> Checked {
-    for (text, offset, want) in NAMES.iter() {
-        check(text, scope_at(rt.alloc(), text, *offset), want)?;
-    }
-    Ok(())
+    let alloc = rt.alloc();
+    check_each(&NAMES, |(text, offset, want)| {
+        check(text, scope_at(alloc, text, *offset), want)
+    })
 }
 
 fn write_map(alloc: Global, text: &str) -> Result<String> {
@@ -133,10 +133,10 @@ fn write_map(alloc: Global, text: &str) -> Result<String> {
 
 #[test]
 fn scopes_are_written_unchanged(rt: HostRuntime) -> Checked {
-    for text in WRITTEN.iter() {
-        check(text, write_map(rt.alloc(), text), text)?;
-    }
-    Ok(())
+    let alloc = rt.alloc();
+    check_each(&WRITTEN, |text| {
+        check(text, write_map(alloc, text), text)
+    })
 }
 
 fn write_bytes(alloc: Global, text: &str) -> Result<String> {
@@ -150,10 +150,10 @@ fn write_bytes(alloc: Global, text: &str) -> Result<String> {
 
 #[test]
 fn bytes_are_those_of_the_record(rt: HostRuntime) -> Checked {
-    for text in WRITTEN.iter() {
-        check(text, write_bytes(rt.alloc(), text), text)?;
-    }
-    Ok(())
+    let alloc = rt.alloc();
+    check_each(&WRITTEN, |text| {
+        check(text, write_bytes(alloc, text), text)
+    })
 }
 
 // Whether the encoded map decodes to an equal map.
@@ -166,41 +166,30 @@ fn is_read_back(alloc: Global, text: &str) -> Result<bool> {
 
 #[test]
 fn bytes_read_back(rt: HostRuntime) -> Checked {
-    for text in MAPS.iter() {
-        check_that(text, is_read_back(rt.alloc(), text)?)?;
-    }
-    Ok(())
-}
-
-fn equals_copy(alloc: Global, map: &SourceMapHermes) -> Result<bool> {
-    Ok(*box_result(alloc, map.clone())? == *map)
+    let alloc = rt.alloc();
+    check_each(&MAPS, |text| {
+        check_that(text, is_read_back(alloc, text)?)
+    })
 }
 
 fn streamed_map(alloc: Global, text: &str) -> Result<Box<SourceMapHermes>> {
     box_result(alloc, SourceMapHermes::from_reader(alloc, text.as_bytes()))
 }
 
-// Whether decoding from a reader gives an equal map.
-fn is_streamed(alloc: Global, text: &str, map: &SourceMapHermes) -> Result<bool> {
-    Ok(*streamed_map(alloc, text)? == *map)
-}
-
-fn copies_text(alloc: Global, text: &str, map: &SourceMapHermes) -> Result<String> {
-    let is_copied = equals_copy(alloc, map)?;
-    let is_streamed = is_streamed(alloc, text, map)?;
-    owned_text(format!(in alloc; "{is_copied} {is_streamed}"))
-}
-
+// Whether the copy of a map equals the map, and whether decoding from a reader gives an equal map.
 fn copy_map(alloc: Global, text: &str) -> Result<String> {
-    copies_text(alloc, text, &*map_of(alloc, text)?)
+    let map = map_of(alloc, text)?;
+    let copy = box_result(alloc, map.clone())?;
+    let streamed = streamed_map(alloc, text)?;
+    owned_text(format!(in alloc; "{} {}", *copy == *map, *streamed == *map))
 }
 
 #[test]
 fn copies_and_maps_of_readers_are_equal(rt: HostRuntime) -> Checked {
-    for text in MAPS.iter() {
-        check(text, copy_map(rt.alloc(), text), "true true")?;
-    }
-    Ok(())
+    let alloc = rt.alloc();
+    check_each(&MAPS, |text| {
+        check(text, copy_map(alloc, text), "true true")
+    })
 }
 
 fn is_decoded(alloc: Global, text: &str) -> Result<bool> {
@@ -234,8 +223,8 @@ static KINDS: [(&str, &str); 3] = [
 
 #[test]
 fn records_of_other_kinds(rt: HostRuntime) -> Checked {
-    for (text, want) in KINDS.iter() {
-        check(text, kinds_text(rt.alloc(), text), want)?;
-    }
-    Ok(())
+    let alloc = rt.alloc();
+    check_each(&KINDS, |(text, want)| {
+        check(text, kinds_text(alloc, text), want)
+    })
 }

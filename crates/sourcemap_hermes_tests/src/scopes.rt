@@ -5,7 +5,7 @@ use sourcemap_errors::errors::{Error, Result};
 use sourcemap_hermes_scopes::function_map::HermesFunctionMap;
 use sourcemap_hermes_scopes::scope_lists::ScopeLists;
 use sourcemap_hermes_scopes::source_scopes::SourceScopes;
-use sourcemap_test_support::checks::{Checked, check, check_that};
+use sourcemap_test_support::checks::{Checked, check, check_each, check_that};
 use sourcemap_test_support::records::{boxed_record, record_text};
 use sourcemap_test_support::results::{box_result, owned_text};
 use std::alloc::Global;
@@ -104,11 +104,11 @@ static MAPPINGS: [(&str, u32, u32, &str); 31] = [
 
 #[test]
 fn names_of_functions(rt: HostRuntime) -> Checked {
-    for (mappings, line, col, want) in MAPPINGS.iter() {
-        let answer = name_in_mappings(rt.alloc(), mappings, *line, *col);
-        check(mappings, answer, want)?;
-    }
-    Ok(())
+    let alloc = rt.alloc();
+    check_each(&MAPPINGS, |(mappings, line, col, want)| {
+        let answer = name_in_mappings(alloc, mappings, *line, *col);
+        check(mappings, answer, want)
+    })
 }
 
 // Scope mappings with unsorted offsets. For unsorted offsets, the contract of `SourceScopes::scope`
@@ -120,14 +120,17 @@ fn is_some_name_or_none(alloc: Global, mappings: &str, col: u32) -> Result<bool>
     Ok(matches!(name.as_str(), "a" | "b" | "c" | "none"))
 }
 
-#[test]
-fn offsets_out_of_order(rt: HostRuntime) -> Checked {
-    for mappings in UNORDERED.iter() {
-        for col in 0..20 {
-            check_that(mappings, is_some_name_or_none(rt.alloc(), mappings, col)?)?;
-        }
+fn check_columns(alloc: Global, mappings: &str) -> Checked {
+    for col in 0..20 {
+        check_that(mappings, is_some_name_or_none(alloc, mappings, col)?)?;
     }
     Ok(())
+}
+
+#[test]
+fn offsets_out_of_order(rt: HostRuntime) -> Checked {
+    let alloc = rt.alloc();
+    check_each(&UNORDERED, |mappings| check_columns(alloc, mappings))
 }
 
 const ROW: &str = r#"{"x_facebook_sources":[[{"names":["<global>","foo"],"mappings":"AAA,KCC"}]]}"#;
@@ -161,11 +164,11 @@ static SOURCES: [(&str, u32, u32, u32, &str); 13] = [
 
 #[test]
 fn names_by_source(rt: HostRuntime) -> Checked {
-    for (text, source, line, col, want) in SOURCES.iter() {
-        let got = name_at_position(rt.alloc(), text, *source, *line, *col);
-        check(text, got, want)?;
-    }
-    Ok(())
+    let alloc = rt.alloc();
+    check_each(&SOURCES, |(text, source, line, col, want)| {
+        let got = name_at_position(alloc, text, *source, *line, *col);
+        check(text, got, want)
+    })
 }
 
 fn write_scopes(alloc: Global, lists: ScopeLists) -> Result<String> {
@@ -220,10 +223,10 @@ static SELECTED: [(&str, &str, &[u32], &str); 5] = [
 
 #[test]
 fn selected_scopes_are_written(rt: HostRuntime) -> Checked {
-    for (about, text, ids, want) in SELECTED.iter() {
-        check(about, write_selected(rt.alloc(), text, ids), want)?;
-    }
-    Ok(())
+    let alloc = rt.alloc();
+    check_each(&SELECTED, |(about, text, ids, want)| {
+        check(about, write_selected(alloc, text, ids), want)
+    })
 }
 
 fn name_when_selected(alloc: Global, text: &str, ids: &[u32], source: u32) -> Result<String> {
@@ -249,39 +252,27 @@ static MOVED: [(&str, &str, &[u32], u32, &str); 5] = [
 
 #[test]
 fn names_of_selected_scopes(rt: HostRuntime) -> Checked {
-    for (about, text, ids, source, want) in MOVED.iter() {
-        let got = name_when_selected(rt.alloc(), text, ids, *source);
-        check(about, got, want)?;
-    }
-    Ok(())
-}
-
-fn is_equal(alloc: Global, scopes: &SourceScopes, text: &str) -> Result<bool> {
-    let others = boxed_scopes(alloc, text)?;
-    Ok(*others == *scopes)
-}
-
-fn is_as_its_copy(alloc: Global, scopes: &SourceScopes) -> Result<bool> {
-    let copy = box_result(alloc, scopes.clone())?;
-    Ok(*copy == *scopes)
-}
-
-fn write_copy(alloc: Global, scopes: &SourceScopes) -> Result<String> {
-    write_scopes(alloc, scopes.copy_entries()?)
+    let alloc = rt.alloc();
+    check_each(&MOVED, |(about, text, ids, source, want)| {
+        let got = name_when_selected(alloc, text, ids, *source);
+        check(about, got, want)
+    })
 }
 
 // Compares the scopes of `text` with their copy, with the scopes of `text` decoded again, and with
 // the scopes of `other`. Each of the three results is true if the compared scopes are equal.
 fn compare_scopes(alloc: Global, text: &str, other: &str) -> Result<(bool, bool, bool)> {
     let scopes = boxed_scopes(alloc, text)?;
-    let as_copy = is_as_its_copy(alloc, &*scopes)?;
-    let as_same = is_equal(alloc, &*scopes, text)?;
-    Ok((as_copy, as_same, is_equal(alloc, &*scopes, other)?))
+    let copy = box_result(alloc, scopes.clone())?;
+    let same = boxed_scopes(alloc, text)?;
+    let others = boxed_scopes(alloc, other)?;
+    Ok((*copy == *scopes, *same == *scopes, *others == *scopes))
 }
 
 fn copy_scopes(alloc: Global, text: &str) -> Result<String> {
     let scopes = boxed_scopes(alloc, text)?;
-    write_copy(alloc, &*scopes)
+    let entries = scopes.copy_entries()?;
+    write_scopes(alloc, entries)
 }
 
 #[test]
@@ -322,9 +313,9 @@ fn index_at(alloc: Global, mappings: &str, line: u32, col: u32) -> Result<String
 
 #[test]
 fn copies_of_function_maps_answer_alike(rt: HostRuntime) -> Checked {
-    for (mappings, line, col, want) in FUNCTIONS.iter() {
-        let got = index_at(rt.alloc(), mappings, *line, *col);
-        check(mappings, got, want)?;
-    }
-    Ok(())
+    let alloc = rt.alloc();
+    check_each(&FUNCTIONS, |(mappings, line, col, want)| {
+        let got = index_at(alloc, mappings, *line, *col);
+        check(mappings, got, want)
+    })
 }
