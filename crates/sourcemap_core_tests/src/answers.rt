@@ -3,7 +3,7 @@
 use crate::letters::Letters;
 use serde_json::{Category, Error, Result, Value};
 use sourcemap_json_read::kept::{ReadError, kept_from_slice};
-use sourcemap_test_support::checks::{Checked, check, check_each};
+use sourcemap_test_support::checks::{Checked, check};
 use std::alloc::{AllocError, Global};
 
 /// The value as compact JSON, or `none` instead of an error that is not out of memory.
@@ -43,7 +43,10 @@ pub fn check_row(alloc: Global, text: &str, want: &str) -> Checked {
 
 /// Checks each row, a text and what `check_row` wants.
 pub fn check_rows(alloc: Global, rows: &[(&str, &str)]) -> Checked {
-    check_each(rows, |(text, want)| check_row(alloc, text, want))
+    for (text, want) in rows {
+        check_row(alloc, text, want)?;
+    }
+    Ok(())
 }
 
 /// Checks as `check` does. The error of `got` is returned as it is, since the message of a long row

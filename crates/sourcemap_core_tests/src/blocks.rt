@@ -2,7 +2,7 @@
 // runs are as long as such a block, or one byte longer or shorter.
 use crate::answers::check_row;
 use serde_json::Result;
-use sourcemap_test_support::checks::{Checked, check_below, check_each};
+use sourcemap_test_support::checks::Checked;
 use std::alloc::Global;
 
 static LENGTHS: [usize; 8] = [0, 1, 31, 32, 33, 63, 64, 65];
@@ -56,29 +56,42 @@ fn check_around(alloc: Global, escape: &(&str, &str), before: usize, after: usiz
 }
 
 fn check_after(alloc: Global, escape: &(&str, &str), before: usize) -> Checked {
-    check_each(&LENGTHS, |after| check_around(alloc, escape, before, *after))
+    for after in LENGTHS.iter() {
+        check_around(alloc, escape, before, *after)?;
+    }
+    Ok(())
 }
 
 fn check_lengths(alloc: Global, escape: &(&str, &str)) -> Checked {
-    check_each(&LENGTHS, |before| check_after(alloc, escape, *before))
+    for before in LENGTHS.iter() {
+        check_after(alloc, escape, *before)?;
+    }
+    Ok(())
 }
 
 #[test]
 fn escapes_among_plain_runs_are_read(rt: HostRuntime) -> Checked {
     let alloc = rt.alloc();
-    check_each(&ESCAPES, |escape| check_lengths(alloc, escape))
+    for escape in ESCAPES.iter() {
+        check_lengths(alloc, escape)?;
+    }
+    Ok(())
 }
 
 fn check_wide(alloc: Global, wide: &(&str, &str)) -> Checked {
-    check_below(40, |before| {
-        check_around(alloc, wide, before, 3)
-    })
+    for before in 0..40 {
+        check_around(alloc, wide, before, 3)?;
+    }
+    Ok(())
 }
 
 #[test]
 fn wide_characters_between_escapes_are_read(rt: HostRuntime) -> Checked {
     let alloc = rt.alloc();
-    check_each(&WIDE, |wide| check_wide(alloc, wide))
+    for wide in WIDE.iter() {
+        check_wide(alloc, wide)?;
+    }
+    Ok(())
 }
 
 fn without_end(alloc: Global, before: usize, inner: &str) -> Result<String> {
@@ -87,14 +100,18 @@ fn without_end(alloc: Global, before: usize, inner: &str) -> Result<String> {
 }
 
 fn check_refused(alloc: Global, error: &str) -> Checked {
-    check_below(70, |before| {
+    for before in 0..70 {
         let text = without_end(alloc, before, error)?;
-        check_row(alloc, text.as_str(), "none")
-    })
+        check_row(alloc, text.as_str(), "none")?;
+    }
+    Ok(())
 }
 
 #[test]
 fn invalid_escapes_after_plain_runs_are_refused(rt: HostRuntime) -> Checked {
     let alloc = rt.alloc();
-    check_each(&ERRORS, |error| check_refused(alloc, error))
+    for error in ERRORS.iter() {
+        check_refused(alloc, error)?;
+    }
+    Ok(())
 }

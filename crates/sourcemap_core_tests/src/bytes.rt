@@ -1,6 +1,6 @@
 // Bytes that are UTF-8, and bytes that are not.
 use crate::answers::{answer, kit_answer};
-use sourcemap_test_support::checks::{Checked, check, check_below, check_each, check_that};
+use sourcemap_test_support::checks::{Checked, check, check_that};
 use std::alloc::{AllocError, Global};
 use std::result::Result as StdResult;
 
@@ -36,10 +36,11 @@ static BYTES: [(&[u8], &str); 23] = [
 #[test]
 fn only_bytes_of_utf8_are_read(rt: HostRuntime) -> Checked {
     let alloc = rt.alloc();
-    check_each(&BYTES, |(bytes, want)| {
+    for (bytes, want) in BYTES.iter() {
         check(want, answer(alloc, bytes), want)?;
-        check(want, kit_answer(alloc, bytes), want)
-    })
+        check(want, kit_answer(alloc, bytes), want)?;
+    }
+    Ok(())
 }
 
 // Bytes for the middle of an ASCII string, and whether these bytes are UTF-8.
@@ -75,15 +76,17 @@ fn check_amid(alloc: Global, inner: &[u8], is_read: bool, letters: usize) -> Che
 }
 
 fn check_each_index(alloc: Global, inner: &[u8], is_read: bool) -> Checked {
-    check_below(140, |letters| {
-        check_amid(alloc, inner, is_read, letters)
-    })
+    for letters in 0..140 {
+        check_amid(alloc, inner, is_read, letters)?;
+    }
+    Ok(())
 }
 
 #[test]
 fn characters_at_each_index_of_a_block_are_tested(rt: HostRuntime) -> Checked {
     let alloc = rt.alloc();
-    check_each(&AMID, |(inner, is_read)| {
-        check_each_index(alloc, inner, *is_read)
-    })
+    for (inner, is_read) in AMID.iter() {
+        check_each_index(alloc, inner, *is_read)?;
+    }
+    Ok(())
 }

@@ -1,7 +1,7 @@
 //! Common prefixes of paths.
 use sourcemap_core::errors::Result;
 use sourcemap_core::utils::find_common_prefix;
-use sourcemap_test_support::checks::{Checked, check, check_each};
+use sourcemap_test_support::checks::{Checked, check};
 use sourcemap_test_support::results::text_or_none;
 use std::alloc::Global;
 
@@ -59,7 +59,8 @@ fn common(alloc: Global, texts: &[&str]) -> Result<String> {
 #[test]
 fn common_prefixes(rt: HostRuntime) -> Checked {
     let alloc = rt.alloc();
-    check_each(&PREFIXES, |(about, texts, want)| {
-        check(about, common(alloc, texts), want)
-    })
+    for (about, texts, want) in PREFIXES.iter() {
+        check(about, common(alloc, texts), want)?;
+    }
+    Ok(())
 }

@@ -3,7 +3,7 @@ use crate::compiled_maps::{EMPTY, GREATEST, ONE, map_named};
 use crate::compiled_texts::{lookup_text, parsed_counts, parsed_texts, verified};
 use sourcemap_compiled::map::{COMPILED_MAGIC, COMPILED_VERSION, CompiledMap};
 use sourcemap_core::tokens::{NO_ID, RawToken};
-use sourcemap_test_support::checks::{Checked, check, check_each, check_that};
+use sourcemap_test_support::checks::{Checked, check, check_that};
 
 // Each row: a map, a line, a column, and the wanted text of the token.
 static LOOKUPS: [(&str, u32, u32, &str); 37] = [
@@ -66,24 +66,26 @@ static MAPS: [(&str, &str, &str); 8] = [
 #[test]
 fn closest_tokens(rt: HostRuntime) -> Checked {
     let alloc = rt.alloc();
-    check_each(&LOOKUPS, |(name, line, column, want)| {
+    for (name, line, column, want) in LOOKUPS.iter() {
         check(
             name,
             lookup_text(alloc, map_named(name), *line, *column),
             want,
-        )
-    })
+        )?;
+    }
+    Ok(())
 }
 
 #[test]
 fn whole_maps(rt: HostRuntime) -> Checked {
     let alloc = rt.alloc();
-    check_each(&MAPS, |(name, want_counts, want_texts)| {
+    for (name, want_counts, want_texts) in MAPS.iter() {
         let bytes = map_named(name);
         check(name, parsed_counts(alloc, bytes), want_counts)?;
         check(name, parsed_texts(alloc, bytes), want_texts)?;
-        check(name, verified(alloc, bytes), "ok")
-    })
+        check(name, verified(alloc, bytes), "ok")?;
+    }
+    Ok(())
 }
 
 #[test]

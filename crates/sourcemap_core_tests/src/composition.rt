@@ -3,7 +3,7 @@ use crate::mappings::{BARE, tokens_text};
 use sourcemap_compose::composition::compose;
 use sourcemap_core::errors::Result;
 use sourcemap_core::tokens::{NO_ID, RawToken};
-use sourcemap_test_support::checks::{Checked, check, check_each, check_that};
+use sourcemap_test_support::checks::{Checked, check, check_that};
 use sourcemap_test_support::results::{again, error_text};
 use sourcemap_test_support::tokens::{Row, token};
 use std::alloc::Global;
@@ -196,10 +196,11 @@ fn compose_text(alloc: Global, originals: &[Way], adjustments: &[Way]) -> Result
 #[test]
 fn composes_tokens(rt: HostRuntime) -> Checked {
     let alloc = rt.alloc();
-    check_each(&COMPOSED, |(about, originals, adjustments, want)| {
+    for (about, originals, adjustments, want) in COMPOSED.iter() {
         let got = compose_text(alloc, originals, adjustments);
-        check(about, got, want)
-    })
+        check(about, got, want)?;
+    }
+    Ok(())
 }
 
 fn cut_row(alloc: Global, row: Row) -> Result<Vec<RawToken>> {
@@ -210,9 +211,10 @@ fn cut_row(alloc: Global, row: Row) -> Result<Vec<RawToken>> {
 #[test]
 fn cuts_range_tokens(rt: HostRuntime) -> Checked {
     let alloc = rt.alloc();
-    check_each(&CUT, |(about, row, want)| {
+    for (about, row, want) in CUT.iter() {
         let tokens = cut_row(alloc, *row)?;
         let want = [token(*want)];
-        check_that(about, tokens.as_slice() == &want[..])
-    })
+        check_that(about, tokens.as_slice() == &want[..])?;
+    }
+    Ok(())
 }

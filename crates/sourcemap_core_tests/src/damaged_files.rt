@@ -1,7 +1,7 @@
 // Maps with some bytes changed, cut maps, and longer ones.
 use crate::compiled_maps::{ONE, map_named};
 use crate::compiled_texts::{lookup_text, parsed_texts, verified};
-use sourcemap_test_support::checks::{Checked, check, check_below, check_each};
+use sourcemap_test_support::checks::{Checked, check};
 use std::alloc::{AllocError, Global};
 
 type Change = (usize, u8);
@@ -290,20 +290,21 @@ fn changed(alloc: Global, bytes: &[u8], changes: &[Change]) -> Result<Vec<u8>, A
 #[test]
 fn refused_maps(rt: HostRuntime) -> Checked {
     let alloc = rt.alloc();
-    check_each(&REFUSED, |(row, changes, want)| {
+    for (row, changes, want) in REFUSED.iter() {
         let bytes = changed(alloc, &ONE, changes)?;
-        check(row, parsed_texts(alloc, &bytes), want)
-    })
+        check(row, parsed_texts(alloc, &bytes), want)?;
+    }
+    Ok(())
 }
 
 #[test]
 fn cut_and_longer_maps(rt: HostRuntime) -> Checked {
     let alloc = rt.alloc();
     let truncated = "the compiled map is truncated";
-    check_below(ONE.len(), |length| {
+    for length in 0..ONE.len() {
         let cut = ONE.get(..length).unwrap_or(&[]);
-        check("cut", parsed_texts(alloc, cut), truncated)
-    })?;
+        check("cut", parsed_texts(alloc, cut), truncated)?;
+    }
     let mut longer = Vec::from_slice(alloc, &ONE)?;
     longer.push(0)?;
     let wrong = "a table of the compiled map has a wrong extent";
@@ -319,26 +320,29 @@ fn cut_and_longer_maps(rt: HostRuntime) -> Checked {
 #[test]
 fn verified_maps(rt: HostRuntime) -> Checked {
     let alloc = rt.alloc();
-    check_each(&VERIFIED, |(row, map, changes, want)| {
+    for (row, map, changes, want) in VERIFIED.iter() {
         let bytes = changed(alloc, map_named(map), changes)?;
-        check(row, verified(alloc, &bytes), want)
-    })
+        check(row, verified(alloc, &bytes), want)?;
+    }
+    Ok(())
 }
 
 #[test]
 fn damaged_texts(rt: HostRuntime) -> Checked {
     let alloc = rt.alloc();
-    check_each(&TEXTS, |(row, changes, want)| {
+    for (row, changes, want) in TEXTS.iter() {
         let bytes = changed(alloc, &ONE, changes)?;
-        check(row, parsed_texts(alloc, &bytes), want)
-    })
+        check(row, parsed_texts(alloc, &bytes), want)?;
+    }
+    Ok(())
 }
 
 #[test]
 fn damaged_lookups(rt: HostRuntime) -> Checked {
     let alloc = rt.alloc();
-    check_each(&LOOKUPS, |(row, map, changes, line, column, want)| {
+    for (row, map, changes, line, column, want) in LOOKUPS.iter() {
         let bytes = changed(alloc, map_named(map), changes)?;
-        check(row, lookup_text(alloc, &bytes, *line, *column), want)
-    })
+        check(row, lookup_text(alloc, &bytes, *line, *column), want)?;
+    }
+    Ok(())
 }

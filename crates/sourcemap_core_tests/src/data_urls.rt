@@ -2,7 +2,7 @@
 // `charset=utf8`. Each other form returns an error. One text is encoded as a data URL.
 use sourcemap_errors::errors::Result;
 use sourcemap_json::data_url::{data_url, data_url_bytes};
-use sourcemap_test_support::checks::{Checked, check, check_each};
+use sourcemap_test_support::checks::{Checked, check};
 use sourcemap_test_support::results::{error_text, owned_text};
 use std::alloc::Global;
 use std::str;
@@ -64,7 +64,9 @@ fn read(alloc: Global, url: &str) -> Result<String> {
 #[test]
 fn reads_and_writes(rt: HostRuntime) -> Checked {
     let alloc = rt.alloc();
-    check_each(&READ, |(about, url, want)| check(about, read(alloc, url), want))?;
+    for (about, url, want) in READ.iter() {
+        check(about, read(alloc, url), want)?;
+    }
     let (about, url, text) = READ[1];
     check(about, data_url(alloc, text.as_bytes()), url)
 }

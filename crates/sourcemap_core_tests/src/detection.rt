@@ -2,7 +2,7 @@
 // Some readers are interrupted or fail.
 use sourcemap_errors::errors::{Error, Result};
 use sourcemap_json::detector::{is_sourcemap, is_sourcemap_slice};
-use sourcemap_test_support::checks::{Checked, check, check_each, check_that, check_up_to};
+use sourcemap_test_support::checks::{Checked, check, check_that};
 use sourcemap_test_support::readers::{HaltingReader, NarrowReader};
 use sourcemap_test_support::results::owned_text;
 use std::alloc::Global;
@@ -87,12 +87,13 @@ fn detect(alloc: Global, bytes: &[u8]) -> Result<String> {
 #[test]
 fn maps_and_other_texts(rt: HostRuntime) -> Checked {
     let alloc = rt.alloc();
-    check_each(&MAPS, |(about, text)| {
-        check(about, detect(alloc, text.as_bytes()), "true, true, true")
-    })?;
-    check_each(&OTHERS, |(about, text)| {
-        check(about, detect(alloc, text.as_bytes()), "false, false, false")
-    })
+    for (about, text) in MAPS.iter() {
+        check(about, detect(alloc, text.as_bytes()), "true, true, true")?;
+    }
+    for (about, text) in OTHERS.iter() {
+        check(about, detect(alloc, text.as_bytes()), "false, false, false")?;
+    }
+    Ok(())
 }
 
 // Calls `is_sourcemap` on a reader that returns the first `count` bytes and then fails.
@@ -109,10 +110,11 @@ fn detect_failing(alloc: Global, bytes: &[u8], count: usize) -> Result<bool> {
 fn a_failed_read_is_no_map(rt: HostRuntime) -> Checked {
     let alloc = rt.alloc();
     let bytes = r#"{"sections":[]}"#.as_bytes();
-    check_up_to(bytes.len(), |count| {
+    for count in 0..=bytes.len() {
         let is_map = detect_failing(alloc, bytes, count)?;
-        check_that("a reader that fails", !is_map)
-    })
+        check_that("a reader that fails", !is_map)?;
+    }
+    Ok(())
 }
 
 // Whether detection returns `OutOfMemory` if the reader runs out of memory after `reads` reads that
@@ -126,8 +128,9 @@ fn runs_out_of_memory(alloc: Global, bytes: &[u8], reads: usize) -> bool {
 fn out_of_memory_alone_is_an_error(rt: HostRuntime) -> Checked {
     let alloc = rt.alloc();
     let bytes = r#"{"sections":[]}"#.as_bytes();
-    check_up_to(bytes.len(), |reads| {
+    for reads in 0..=bytes.len() {
         let is_out = runs_out_of_memory(alloc, bytes, reads);
-        check_that("a reader that runs out of memory", is_out)
-    })
+        check_that("a reader that runs out of memory", is_out)?;
+    }
+    Ok(())
 }

@@ -1,7 +1,7 @@
 // Junk headers, with bytes that come one by one and reads that fail.
 use sourcemap_errors::errors::{Error, Result};
 use sourcemap_json::decoder::{StripHeaderReader, strip_junk_header};
-use sourcemap_test_support::checks::{Checked, check, check_each};
+use sourcemap_test_support::checks::{Checked, check};
 use sourcemap_test_support::readers::NarrowReader;
 use sourcemap_test_support::results::{error_text, owned_text};
 use std::alloc::Global;
@@ -47,9 +47,10 @@ fn read(alloc: Global, text: &[u8]) -> Result<String> {
 #[test]
 fn drops_the_header(rt: HostRuntime) -> Checked {
     let alloc = rt.alloc();
-    check_each(&READ, |(about, text, want)| {
-        check(about, read(alloc, text), want)
-    })
+    for (about, text, want) in READ.iter() {
+        check(about, read(alloc, text), want)?;
+    }
+    Ok(())
 }
 
 // A label, bytes, and what `strip_junk_header` keeps of them, or the error.
@@ -77,9 +78,10 @@ fn strip(alloc: Global, text: &[u8]) -> Result<String> {
 #[test]
 fn strips_the_header(rt: HostRuntime) -> Checked {
     let alloc = rt.alloc();
-    check_each(&STRIPPED, |(about, text, want)| {
-        check(about, strip(alloc, text), want)
-    })
+    for (about, text, want) in STRIPPED.iter() {
+        check(about, strip(alloc, text), want)?;
+    }
+    Ok(())
 }
 
 // Each read returns one byte, or none if `rest` or the buffer is empty. When `left` bytes remain,
@@ -164,10 +166,11 @@ fn read_by_sizes(
 #[test]
 fn errors_come_at_their_reads(rt: HostRuntime) -> Checked {
     let alloc = rt.alloc();
-    check_each(&INVALID, |(about, text, left, sizes, want)| {
+    for (about, text, left, sizes, want) in INVALID.iter() {
         let got = read_by_sizes(alloc, text, *left, *sizes);
-        check(about, got, want)
-    })
+        check(about, got, want)?;
+    }
+    Ok(())
 }
 
 // A label, how many bytes are left where the inner reader fails, the kind of its error, and the
@@ -233,8 +236,9 @@ fn read_through_errors(alloc: Global, left: usize, kind: ErrorKind) -> Result<St
 #[test]
 fn errors_of_the_inner_reader_are_passed_on(rt: HostRuntime) -> Checked {
     let alloc = rt.alloc();
-    check_each(&PASSED_ON, |(about, left, kind, want)| {
+    for (about, left, kind, want) in PASSED_ON.iter() {
         let got = read_through_errors(alloc, *left, *kind);
-        check(about, got, want)
-    })
+        check(about, got, want)?;
+    }
+    Ok(())
 }

@@ -3,7 +3,7 @@ use crate::answers::{check_long, compact_text, kept_answer, kit_answer};
 use crate::letters::Letters;
 use serde_json::{Result, Value};
 use sourcemap_json_read::kept::kept_copy;
-use sourcemap_test_support::checks::{Checked, check, check_each};
+use sourcemap_test_support::checks::{Checked, check};
 use std::alloc::Global;
 
 // A JSON text, and what is kept of its value, in compact JSON.
@@ -126,19 +126,21 @@ pub fn copied_text(alloc: Global, bytes: &[u8]) -> Result<String> {
 #[test]
 fn what_no_level_keeps_is_dropped(rt: HostRuntime) -> Checked {
     let alloc = rt.alloc();
-    check_each(&KEPT, |(text, want)| {
+    for (text, want) in KEPT.iter() {
         check_long(text, kept_text(alloc, text.as_bytes()), want)?;
-        check_long(text, copied_text(alloc, text.as_bytes()), want)
-    })
+        check_long(text, copied_text(alloc, text.as_bytes()), want)?;
+    }
+    Ok(())
 }
 
 #[test]
 fn what_is_not_kept_is_checked(rt: HostRuntime) -> Checked {
     let alloc = rt.alloc();
-    check_each(&INVALID, |text| {
+    for text in INVALID.iter() {
         check_long(text, kept_text(alloc, text.as_bytes()), "none")?;
-        check_long(text, kit_answer(alloc, text.as_bytes()), "none")
-    })
+        check_long(text, kit_answer(alloc, text.as_bytes()), "none")?;
+    }
+    Ok(())
 }
 
 // Bytes that are not UTF-8, in a key and in strings that are not kept.
@@ -152,9 +154,10 @@ static NOT_UTF8: [&[u8]; 4] = [
 #[test]
 fn strings_that_are_not_kept_are_utf8(rt: HostRuntime) -> Checked {
     let alloc = rt.alloc();
-    check_each(&NOT_UTF8, |bytes| {
-        check("not UTF-8", kept_text(alloc, bytes), "none")
-    })
+    for bytes in NOT_UTF8.iter() {
+        check("not UTF-8", kept_text(alloc, bytes), "none")?;
+    }
+    Ok(())
 }
 
 // What is kept of the text `{"KEY":[[..]]}` with this many arrays in one another.
@@ -171,8 +174,9 @@ static NESTED: [(&str, &str); 2] = [("x", "{}"), ("b", r#"{"b":[[]]}"#)];
 #[test]
 fn what_is_not_kept_has_127_levels_at_most(rt: HostRuntime) -> Checked {
     let alloc = rt.alloc();
-    check_each(&NESTED, |(key, want)| {
+    for (key, want) in NESTED.iter() {
         check_long("126 arrays", kept_of_nested(alloc, key, 126), want)?;
-        check_long("127 arrays", kept_of_nested(alloc, key, 127), "none")
-    })
+        check_long("127 arrays", kept_of_nested(alloc, key, 127), "none")?;
+    }
+    Ok(())
 }

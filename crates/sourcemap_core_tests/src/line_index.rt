@@ -4,7 +4,7 @@ use sourcemap_core::line_index::LineIndex;
 use sourcemap_core::probe::{KeyProbe, Probe};
 use sourcemap_core::tokens::{NO_ID, RawToken};
 use sourcemap_line_index::token_list::TokenList;
-use sourcemap_test_support::checks::{Checked, check, check_each};
+use sourcemap_test_support::checks::{Checked, check};
 use sourcemap_test_support::results::{again, owned_text};
 use sourcemap_test_support::tokens::token;
 use std::alloc::Global;
@@ -63,10 +63,11 @@ fn among_equals(
 #[test]
 fn finds_among_equals_by_few_comparisons(rt: HostRuntime) -> Checked {
     let alloc = rt.alloc();
-    check_each(&AMONG_EQUALS, |(count, position, least, most, want)| {
+    for (count, position, least, most, want) in AMONG_EQUALS.iter() {
         let answer = among_equals(alloc, *count, *position, *least, *most);
-        check(want, answer, want)
-    })
+        check(want, answer, want)?;
+    }
+    Ok(())
 }
 
 // Sorted positions of tokens. Two are equal, and lines 1 and 3 have no tokens.
@@ -102,9 +103,10 @@ fn between_lines(alloc: Global, position: (u32, u32)) -> Result<String> {
 #[test]
 fn finds_between_lines(rt: HostRuntime) -> Checked {
     let alloc = rt.alloc();
-    check_each(&BETWEEN_LINES, |(about, position, want)| {
-        check(about, between_lines(alloc, *position), want)
-    })
+    for (about, position, want) in BETWEEN_LINES.iter() {
+        check(about, between_lines(alloc, *position), want)?;
+    }
+    Ok(())
 }
 
 // Returns 70,000 tokens. `a_line` is at least 1. The lines 0, 2, 4 and so on have `a_line` tokens
@@ -172,12 +174,13 @@ fn in_list_of_many_lines(alloc: Global, a_line: u32, position: (u32, u32)) -> Re
 #[test]
 fn finds_on_many_lines_by_few_comparisons(rt: HostRuntime) -> Checked {
     let alloc = rt.alloc();
-    check_each(&ON_MANY_LINES, |(a_line, position, want)| {
+    for (a_line, position, want) in ON_MANY_LINES.iter() {
         let got = on_many_lines(alloc, *a_line, *position);
         check(want, got, want)?;
         let by_list = in_list_of_many_lines(alloc, *a_line, *position);
-        check(want, by_list, want)
-    })
+        check(want, by_list, want)?;
+    }
+    Ok(())
 }
 
 // The lines that have tokens, and the index of the first token of each.

@@ -3,7 +3,7 @@
 // buffer more than once.
 use crate::answers::check_row;
 use serde_json::Result;
-use sourcemap_test_support::checks::{Checked, check_below, check_each};
+use sourcemap_test_support::checks::Checked;
 use std::alloc::Global;
 
 // A JSON string that is read, and the same string in compact JSON, both without enclosing quotes.
@@ -51,53 +51,66 @@ fn check_range(alloc: Global, escape: &(&str, &str), first: usize, last: usize) 
 }
 
 fn check_ranges(alloc: Global, escape: &(&str, &str)) -> Checked {
-    check_each(&OFFSETS, |(first, last)| {
-        check_range(alloc, escape, *first, *last)
-    })
+    for (first, last) in OFFSETS.iter() {
+        check_range(alloc, escape, *first, *last)?;
+    }
+    Ok(())
 }
 
 #[test]
 fn escapes_at_each_index_of_a_block_are_read(rt: HostRuntime) -> Checked {
     let alloc = rt.alloc();
-    check_each(&SPELLED, |escape| check_ranges(alloc, escape))
+    for escape in SPELLED.iter() {
+        check_ranges(alloc, escape)?;
+    }
+    Ok(())
 }
 
 // The reader decodes blocks of 64 bytes only while more than 128 bytes of the text are left. The
 // lengths of `rest` are below and above this limit.
 fn check_rests(alloc: Global, escape: &(&str, &str)) -> Checked {
-    check_below(140, |rest| {
-        check_around(alloc, escape, 70, rest)
-    })
+    for rest in 0..140 {
+        check_around(alloc, escape, 70, rest)?;
+    }
+    Ok(())
 }
 
 #[test]
 fn escapes_before_each_length_of_rest_are_read(rt: HostRuntime) -> Checked {
     let alloc = rt.alloc();
-    check_each(&SPELLED, |escape| check_rests(alloc, escape))
+    for escape in SPELLED.iter() {
+        check_rests(alloc, escape)?;
+    }
+    Ok(())
 }
 
 fn check_refused(alloc: Global, error: &str) -> Checked {
     let inner = format!(in alloc; "\\n{error}")?;
-    check_below(140, |before| {
+    for before in 0..140 {
         let text = surround(alloc, before, inner.as_str(), 300)?;
-        check_row(alloc, text.as_str(), "none")
-    })
+        check_row(alloc, text.as_str(), "none")?;
+    }
+    Ok(())
 }
 
 #[test]
 fn errors_at_each_index_of_a_block_are_refused(rt: HostRuntime) -> Checked {
     let alloc = rt.alloc();
-    check_each(&ERRORS, |error| check_refused(alloc, error))
+    for error in ERRORS.iter() {
+        check_refused(alloc, error)?;
+    }
+    Ok(())
 }
 
 #[test]
 fn texts_without_an_end_are_refused(rt: HostRuntime) -> Checked {
     let alloc = rt.alloc();
-    check_below(300, |after| {
+    for after in 0..300 {
         let last = "b".repeat(alloc, after)?;
         let text = format!(in alloc; "\"a\\n{last}")?;
-        check_row(alloc, text.as_str(), "none")
-    })
+        check_row(alloc, text.as_str(), "none")?;
+    }
+    Ok(())
 }
 
 // For the first string of each text, the reader extends its buffer several times, by 4096 bytes
@@ -105,12 +118,13 @@ fn texts_without_an_end_are_refused(rt: HostRuntime) -> Checked {
 #[test]
 fn strings_longer_than_the_first_buffer_are_read(rt: HostRuntime) -> Checked {
     let alloc = rt.alloc();
-    check_below(70, |before| {
+    for before in 0..70 {
         let first = "a".repeat(alloc, before)?;
         let lines = r#"some line \"é\" with no end\n"#.repeat(alloc, 500)?;
         let text = format!(in alloc;
             "[\"{first}{lines}\",\"\\n{first}\",\"{lines}{first}\",\"x\\t\"]"
         )?;
-        check_row(alloc, text.as_str(), text.as_str())
-    })
+        check_row(alloc, text.as_str(), text.as_str())?;
+    }
+    Ok(())
 }

@@ -4,7 +4,7 @@ use sourcemap_core::mappings::{
     parse_mappings, tokens_in_order, write_mappings, write_range_mappings,
 };
 use sourcemap_core::tokens::{NO_ID, RawToken};
-use sourcemap_test_support::checks::{Checked, check, check_each};
+use sourcemap_test_support::checks::{Checked, check};
 use sourcemap_test_support::results::{error_text, text_or_none};
 use sourcemap_test_support::tokens::{Row, tokens};
 use std::alloc::Global;
@@ -157,9 +157,10 @@ fn read(alloc: Global, texts: Texts) -> Result<String> {
 #[test]
 fn reads_mappings(rt: HostRuntime) -> Checked {
     let alloc = rt.alloc();
-    check_each(&READ, |(about, texts, want)| {
-        check(about, read(alloc, *texts), want)
-    })
+    for (about, texts, want) in READ.iter() {
+        check(about, read(alloc, *texts), want)?;
+    }
+    Ok(())
 }
 
 /// No source and no original position.
@@ -239,9 +240,10 @@ fn write_ranges(alloc: Global, rows: &[Row]) -> Result<String> {
 #[test]
 fn writes_tokens(rt: HostRuntime) -> Checked {
     let alloc = rt.alloc();
-    check_each(&WRITTEN, |(about, rows, mappings, ranges)| {
+    for (about, rows, mappings, ranges) in WRITTEN.iter() {
         check(about, write_rows(alloc, rows), mappings)?;
         let ranges = ranges.unwrap_or("none");
-        check(about, write_ranges(alloc, rows), ranges)
-    })
+        check(about, write_ranges(alloc, rows), ranges)?;
+    }
+    Ok(())
 }

@@ -1,7 +1,7 @@
 // Arrays and objects of up to 128 levels, and strings that begin with 0 to 99 letters `a`.
 use crate::answers::{answer, check_long, check_row};
 use serde_json::Result;
-use sourcemap_test_support::checks::{Checked, check, check_below, check_each};
+use sourcemap_test_support::checks::{Checked, check};
 use std::alloc::Global;
 
 // A text that opens levels, the text that closes them, how often both are repeated, and what the
@@ -47,8 +47,13 @@ fn check_too_many(alloc: Global, row: &Row) -> Checked {
 #[test]
 fn values_are_read_up_to_127_levels_deep(rt: HostRuntime) -> Checked {
     let alloc = rt.alloc();
-    check_each(&LEVELS, |row| check_levels(alloc, row))?;
-    check_each(&TOO_MANY, |row| check_too_many(alloc, row))
+    for row in LEVELS.iter() {
+        check_levels(alloc, row)?;
+    }
+    for row in TOO_MANY.iter() {
+        check_too_many(alloc, row)?;
+    }
+    Ok(())
 }
 
 // The end of a string, after a run of plain bytes.
@@ -60,15 +65,19 @@ fn pad(alloc: Global, length: usize, end: &str) -> Result<String> {
 }
 
 fn check_padded(alloc: Global, end: &str) -> Checked {
-    check_below(100, |length| {
+    for length in 0..100 {
         let text = pad(alloc, length, end)?;
         let got = answer(alloc, text.as_bytes());
-        check(text.as_str(), got, text.as_str())
-    })
+        check(text.as_str(), got, text.as_str())?;
+    }
+    Ok(())
 }
 
 #[test]
 fn texts_of_each_length_are_read(rt: HostRuntime) -> Checked {
     let alloc = rt.alloc();
-    check_each(&ENDS, |end| check_padded(alloc, end))
+    for end in ENDS.iter() {
+        check_padded(alloc, end)?;
+    }
+    Ok(())
 }

@@ -2,7 +2,7 @@
 use sourcemap_core::errors::{Error, Result};
 use sourcemap_core::places::{path_url, url_path};
 use sourcemap_core::utils::make_relative_path;
-use sourcemap_test_support::checks::{Checked, check, check_each};
+use sourcemap_test_support::checks::{Checked, check};
 use sourcemap_test_support::results::{owned_text, text_or_none};
 use std::alloc::Global;
 use url::{ParseError, Url};
@@ -83,24 +83,27 @@ fn path_of(alloc: Global, text: &str) -> Result<String> {
 #[test]
 fn urls_of_paths(rt: HostRuntime) -> Checked {
     let alloc = rt.alloc();
-    check_each(&URLS, |(path, folder, want)| {
-        check(path, url_of(alloc, path, *folder), want)
-    })
+    for (path, folder, want) in URLS.iter() {
+        check(path, url_of(alloc, path, *folder), want)?;
+    }
+    Ok(())
 }
 
 #[test]
 fn paths_of_urls(rt: HostRuntime) -> Checked {
     let alloc = rt.alloc();
-    check_each(&PATHS, |(url, want)| {
-        check(url, path_of(alloc, url), want)
-    })
+    for (url, want) in PATHS.iter() {
+        check(url, path_of(alloc, url), want)?;
+    }
+    Ok(())
 }
 
 #[test]
 fn relative_paths(rt: HostRuntime) -> Checked {
     let alloc = rt.alloc();
-    check_each(&RELATIVE, |(base, target, want)| {
+    for (base, target, want) in RELATIVE.iter() {
         let got = make_relative_path(alloc, base, target);
-        check(target, got, want)
-    })
+        check(target, got, want)?;
+    }
+    Ok(())
 }

@@ -2,7 +2,7 @@
 use serde_json::Value;
 use sourcemap_errors::errors::{Error, JsonFault, Result};
 use sourcemap_json::jsontypes::{DebugId, FacebookScopeMapping, MinimalRawSourceMap, RawSourceMap};
-use sourcemap_test_support::checks::{Checked, check, check_each, check_that};
+use sourcemap_test_support::checks::{Checked, check, check_that};
 use sourcemap_test_support::records::{boxed_record, value_text};
 use sourcemap_test_support::results::owned_text;
 use std::alloc::Global;
@@ -37,9 +37,10 @@ fn is_of_wrong_shape(alloc: Global, text: &str) -> Result<bool> {
 #[test]
 fn wrong_shapes(rt: HostRuntime) -> Checked {
     let alloc = rt.alloc();
-    check_each(&WRONG_SHAPE, |text| {
-        check_that(text, is_of_wrong_shape(alloc, text)?)
-    })
+    for text in WRONG_SHAPE.iter() {
+        check_that(text, is_of_wrong_shape(alloc, text)?)?;
+    }
+    Ok(())
 }
 
 const NOTHING: &str = r#"{"sources":null,"version":null}"#;
@@ -113,10 +114,11 @@ fn check_written(alloc: Global, about: &str, text: &str, want: &str) -> Checked 
 #[test]
 fn written_texts(rt: HostRuntime) -> Checked {
     let alloc = rt.alloc();
-    check_each(&WRITTEN, |(about, text, want)| {
+    for (about, text, want) in WRITTEN.iter() {
         check_written(alloc, about, text, want)?;
-        check_written(alloc, about, want, want)
-    })
+        check_written(alloc, about, want, want)?;
+    }
+    Ok(())
 }
 
 // A label, a text, and its debug id.
@@ -158,9 +160,9 @@ fn id_in(alloc: Global, text: &str) -> Result<String> {
 #[test]
 fn debug_ids(rt: HostRuntime) -> Checked {
     let alloc = rt.alloc();
-    check_each(&IDS, |(about, text, want)| {
-        check(about, id_text(alloc, DebugId::parse(text)), want)
-    })?;
+    for (about, text, want) in IDS.iter() {
+        check(about, id_text(alloc, DebugId::parse(text)), want)?;
+    }
     // `debugId` wins
     let text =
         r#"{"debug_id":"11111111-1111-1111-1111-111111111111","debugId":"00000000000000000000000000000000"}"#;

@@ -8,7 +8,7 @@ use sourcemap_json::detector::{
     SourceMapRef, is_sourcemap, locate_sourcemap_reference, locate_sourcemap_reference_slice,
 };
 use sourcemap_source_views::sourceview::SourceView;
-use sourcemap_test_support::checks::{Checked, check, check_below, check_each, check_that};
+use sourcemap_test_support::checks::{Checked, check, check_that};
 use sourcemap_test_support::readers::{HaltingReader, NarrowReader};
 use sourcemap_test_support::results::{box_result, error_text, owned_text, text_or_none};
 use std::alloc::Global;
@@ -110,10 +110,11 @@ fn reference_text(alloc: Global, found: Result<Option<SourceMapRef>>) -> Result<
 #[test]
 fn locates_in_slices(rt: HostRuntime) -> Checked {
     let alloc = rt.alloc();
-    check_each(&LOCATED, |(about, bytes, want)| {
+    for (about, bytes, want) in LOCATED.iter() {
         let found = locate_sourcemap_reference_slice(alloc, bytes);
-        check(about, reference_text(alloc, found), want)
-    })
+        check(about, reference_text(alloc, found), want)?;
+    }
+    Ok(())
 }
 
 fn read(alloc: Global, bytes: &[u8], reads: usize) -> Result<String> {
@@ -128,19 +129,20 @@ fn read(alloc: Global, bytes: &[u8], reads: usize) -> Result<String> {
 #[test]
 fn locates_in_readers(rt: HostRuntime) -> Checked {
     let alloc = rt.alloc();
-    check_each(&LOCATED, |(about, bytes, want)| {
-        check(about, read(alloc, bytes, usize::MAX), want)
-    })
+    for (about, bytes, want) in LOCATED.iter() {
+        check(about, read(alloc, bytes, usize::MAX), want)?;
+    }
+    Ok(())
 }
 
 #[test]
 fn a_failed_read_is_no_reference(rt: HostRuntime) -> Checked {
     let alloc = rt.alloc();
     let bytes = b"a\n//# sourceMappingURL=a.map";
-    check_below(29, |reads| {
+    for reads in 0..29 {
         let got = read(alloc, bytes, reads);
-        check("a read that fails", got, "timed out")
-    })?;
+        check("a read that fails", got, "timed out")?;
+    }
     let got = read(alloc, bytes, 29);
     check("no read that fails", got, "#a.map")
 }
@@ -155,10 +157,11 @@ fn read_halting(alloc: Global, bytes: &[u8], reads: usize, kind: ErrorKind) -> R
 #[test]
 fn interrupted_reads_are_made_again(rt: HostRuntime) -> Checked {
     let alloc = rt.alloc();
-    check_each(&LOCATED, |(about, bytes, want)| {
+    for (about, bytes, want) in LOCATED.iter() {
         let found = read_halting(alloc, bytes, usize::MAX, ErrorKind::TimedOut);
-        check(about, found, want)
-    })
+        check(about, found, want)?;
+    }
+    Ok(())
 }
 
 fn runs_out_of_memory(alloc: Global, reads: usize) -> bool {
@@ -173,10 +176,11 @@ fn runs_out_of_memory(alloc: Global, reads: usize) -> bool {
 #[test]
 fn a_read_that_runs_out_of_memory_is_out_of_memory(rt: HostRuntime) -> Checked {
     let alloc = rt.alloc();
-    check_below(29, |reads| {
+    for reads in 0..29 {
         let is_out = runs_out_of_memory(alloc, reads);
-        check_that("a reader that runs out of memory", is_out)
-    })
+        check_that("a reader that runs out of memory", is_out)?;
+    }
+    Ok(())
 }
 
 fn read_view(alloc: Global, bytes: &[u8]) -> Result<String> {
@@ -187,9 +191,10 @@ fn read_view(alloc: Global, bytes: &[u8]) -> Result<String> {
 #[test]
 fn views_have_the_same_reference(rt: HostRuntime) -> Checked {
     let alloc = rt.alloc();
-    check_each(&LOCATED[..13], |(about, bytes, want)| {
-        check(about, read_view(alloc, bytes), want)
-    })
+    for (about, bytes, want) in LOCATED[..13].iter() {
+        check(about, read_view(alloc, bytes), want)?;
+    }
+    Ok(())
 }
 
 // A label. Then a long text: its start, the piece that it repeats 3,000 times, and its end. Then
@@ -274,10 +279,11 @@ fn slice_and_reader(alloc: Global, head: &[u8], piece: &[u8], tail: &[u8]) -> Re
 #[test]
 fn locates_in_long_texts(rt: HostRuntime) -> Checked {
     let alloc = rt.alloc();
-    check_each(&LONG, |(about, head, piece, tail, want)| {
+    for (about, head, piece, tail, want) in LONG.iter() {
         let got = slice_and_reader(alloc, head, piece, tail);
-        check(about, got, want)
-    })
+        check(about, got, want)?;
+    }
+    Ok(())
 }
 
 // The URL in a reference, the URL of the file that holds the reference, and the resolved URL, or
@@ -304,9 +310,10 @@ fn resolve(alloc: Global, url: &str, base: &str) -> Result<String> {
 #[test]
 fn leads_to_urls(rt: HostRuntime) -> Checked {
     let alloc = rt.alloc();
-    check_each(&RESOLVED, |(url, base, want)| {
-        check(url, resolve(alloc, url, base), want)
-    })
+    for (url, base, want) in RESOLVED.iter() {
+        check(url, resolve(alloc, url, base), want)?;
+    }
+    Ok(())
 }
 
 // The URL in a reference, the path of the file that holds the reference, and the resolved path, or
@@ -333,10 +340,11 @@ fn resolve_path_of(alloc: Global, url: &str, base: &str, is_legacy: bool) -> Res
 #[test]
 fn leads_to_paths(rt: HostRuntime) -> Checked {
     let alloc = rt.alloc();
-    check_each(&PATHS, |(url, base, want)| {
+    for (url, base, want) in PATHS.iter() {
         check(url, resolve_path_of(alloc, url, base, false), want)?;
-        check(url, resolve_path_of(alloc, url, base, true), want)
-    })
+        check(url, resolve_path_of(alloc, url, base, true), want)?;
+    }
+    Ok(())
 }
 
 fn are_equal(a: &SourceMapRef, b: &SourceMapRef) -> bool
@@ -395,8 +403,9 @@ fn detect_failing(alloc: Global, kind: ErrorKind) -> Result<String> {
 #[test]
 fn reads_that_fail_for_memory_are_out_of_memory(rt: HostRuntime) -> Checked {
     let alloc = rt.alloc();
-    check_each(&FAILED, |(kind, want, is_map)| {
+    for (kind, want, is_map) in FAILED.iter() {
         check(want, locate_failing(alloc, *kind), want)?;
-        check(is_map, detect_failing(alloc, *kind), is_map)
-    })
+        check(is_map, detect_failing(alloc, *kind), is_map)?;
+    }
+    Ok(())
 }

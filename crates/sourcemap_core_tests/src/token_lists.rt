@@ -3,7 +3,7 @@ use sourcemap_core::errors::Result;
 use sourcemap_core::tokens::{NO_ID, RawToken, sort_tokens, tokens_in_order};
 use sourcemap_core::utils::greatest_lower_bound;
 use sourcemap_line_index::token_list::TokenList;
-use sourcemap_test_support::checks::{Checked, check, check_each, check_that};
+use sourcemap_test_support::checks::{Checked, check, check_that};
 use sourcemap_test_support::results::owned_text;
 use std::alloc::Global;
 
@@ -50,9 +50,10 @@ fn closest(alloc: Global, line: u32, col: u32) -> Result<String> {
 #[test]
 fn finds_the_closest_token(rt: HostRuntime) -> Checked {
     let alloc = rt.alloc();
-    check_each(&CLOSEST, |(about, line, col, want)| {
-        check(about, closest(alloc, *line, *col), want)
-    })
+    for (about, line, col, want) in CLOSEST.iter() {
+        check(about, closest(alloc, *line, *col), want)?;
+    }
+    Ok(())
 }
 
 fn columns(alloc: Global, tokens: &[RawToken]) -> Result<String> {
@@ -144,7 +145,8 @@ fn bound(alloc: Global, count: usize, key: u32) -> Result<String> {
 #[test]
 fn finds_first_at_and_last_before(rt: HostRuntime) -> Checked {
     let alloc = rt.alloc();
-    check_each(&BOUNDS, |(count, key, want)| {
-        check(want, bound(alloc, *count, *key), want)
-    })
+    for (count, key, want) in BOUNDS.iter() {
+        check(want, bound(alloc, *count, *key), want)?;
+    }
+    Ok(())
 }

@@ -5,7 +5,7 @@ use sourcemap_errors::errors::{Error, JsonFault, Result};
 use sourcemap_json::detector::is_sourcemap_slice;
 use sourcemap_json::jsontypes::RawSourceMap;
 use sourcemap_records::bytes::read_record;
-use sourcemap_test_support::checks::{Checked, check, check_each};
+use sourcemap_test_support::checks::{Checked, check};
 use sourcemap_test_support::records::record_text;
 use sourcemap_test_support::results::{box_result, owned_text};
 use std::alloc::Global;
@@ -93,10 +93,11 @@ fn read_value(alloc: Global, text: &str) -> Result<String> {
 #[test]
 fn unknown_keys_are_ignored(rt: HostRuntime) -> Checked {
     let alloc = rt.alloc();
-    check_each(&READ, |(about, text, want)| {
+    for (about, text, want) in READ.iter() {
         check(about, read_bytes(alloc, text.as_bytes()), want)?;
-        check(about, read_value(alloc, text), want)
-    })
+        check(about, read_value(alloc, text), want)?;
+    }
+    Ok(())
 }
 
 // An object that would be a map, with more members. `x` is in them, between these texts.
@@ -164,9 +165,10 @@ fn unknown_keys_are_checked(rt: HostRuntime) -> Checked {
     let alloc = rt.alloc();
     let got = answers_with_key(alloc, b"[{\"a\":1e308}]");
     check("a value", got, "record, true")?;
-    check_each(&FAULTY, |(about, x)| {
-        check(about, answers_with_key(alloc, x), "no JSON, false")
-    })
+    for (about, x) in FAULTY.iter() {
+        check(about, answers_with_key(alloc, x), "no JSON, false")?;
+    }
+    Ok(())
 }
 
 #[test]
@@ -174,9 +176,10 @@ fn arrays_among_sources_are_checked(rt: HostRuntime) -> Checked {
     let alloc = rt.alloc();
     let got = answers_in_sources(alloc, b"[{\"a\":1e308}]");
     check("a value", got, "no record, true")?;
-    check_each(&FAULTY, |(about, x)| {
-        check(about, answers_in_sources(alloc, x), "no JSON, false")
-    })
+    for (about, x) in FAULTY.iter() {
+        check(about, answers_in_sources(alloc, x), "no JSON, false")?;
+    }
+    Ok(())
 }
 
 // As many times `open` as there are levels, then a 0, then as many times `close`.
@@ -252,7 +255,8 @@ static WRONG_TYPES: [(&str, &str); 13] = [
 #[test]
 fn wrong_types_are_refused(rt: HostRuntime) -> Checked {
     let alloc = rt.alloc();
-    check_each(&WRONG_TYPES, |(text, want)| {
-        check(text, answers(alloc, text.as_bytes()), want)
-    })
+    for (text, want) in WRONG_TYPES.iter() {
+        check(text, answers(alloc, text.as_bytes()), want)?;
+    }
+    Ok(())
 }

@@ -2,7 +2,7 @@
 use sourcemap_core::bits::{decode_rmi, encode_rmi, push_bits};
 use sourcemap_core::errors::Result;
 use sourcemap_core::vlq::{generate_vlq_segment, parse_vlq_segment};
-use sourcemap_test_support::checks::{Checked, check, check_each};
+use sourcemap_test_support::checks::{Checked, check};
 use sourcemap_test_support::results::{again, error_text, owned_text};
 use std::alloc::Global;
 
@@ -114,9 +114,10 @@ fn write_bits(alloc: Global, positions: &[usize]) -> Result<String> {
 #[test]
 fn writes_bits(rt: HostRuntime) -> Checked {
     let alloc = rt.alloc();
-    check_each(&BITS, |(positions, want)| {
-        check(want, write_bits(alloc, positions), want)
-    })
+    for (positions, want) in BITS.iter() {
+        check(want, write_bits(alloc, positions), want)?;
+    }
+    Ok(())
 }
 
 // A text, the indexes of the set bits among twenty bits, and the result of `push_bits`: the text,
@@ -141,9 +142,10 @@ fn append_bits_at(alloc: Global, start: &str, positions: &[usize]) -> Result<Str
 #[test]
 fn appends_bits_to_a_text(rt: HostRuntime) -> Checked {
     let alloc = rt.alloc();
-    check_each(&APPENDED, |(start, positions, want)| {
-        check(want, append_bits_at(alloc, start, positions), want)
-    })
+    for (start, positions, want) in APPENDED.iter() {
+        check(want, append_bits_at(alloc, start, positions), want)?;
+    }
+    Ok(())
 }
 
 // A label, a text, and the result of decoding the text: either the number of bits and the indexes
@@ -181,7 +183,8 @@ fn read_bits(alloc: Global, text: &str) -> Result<String> {
 #[test]
 fn reads_bits(rt: HostRuntime) -> Checked {
     let alloc = rt.alloc();
-    check_each(&TEXTS, |(about, text, want)| {
-        check(about, read_bits(alloc, text), want)
-    })
+    for (about, text, want) in TEXTS.iter() {
+        check(about, read_bits(alloc, text), want)?;
+    }
+    Ok(())
 }

@@ -2,7 +2,7 @@
 use crate::answers::check_long;
 use serde_json::{Result, Value};
 use sourcemap_json_write::writing::value_to_vec;
-use sourcemap_test_support::checks::{Checked, check, check_each};
+use sourcemap_test_support::checks::{Checked, check};
 use std::alloc::{AllocError, Global};
 use std::result::Result as StdResult;
 use std::str::from_utf8;
@@ -125,19 +125,21 @@ fn letter(at: u8, needs_escape: bool) -> char {
 #[test]
 fn strings_are_written_with_their_escapes(rt: HostRuntime) -> Checked {
     let alloc = rt.alloc();
-    check_each(&TEXTS, |(text, want)| {
+    for (text, want) in TEXTS.iter() {
         let value = Value::String(String::from_str(alloc, text)?);
-        check_written(alloc, value, want)
-    })
+        check_written(alloc, value, want)?;
+    }
+    Ok(())
 }
 
 #[test]
 fn values_are_written_compactly(rt: HostRuntime) -> Checked {
     let alloc = rt.alloc();
-    check_each(&VALUES, |(text, want)| {
+    for (text, want) in VALUES.iter() {
         let value = Value::from_str(alloc, text)?;
-        check_written(alloc, value, want)
-    })
+        check_written(alloc, value, want)?;
+    }
+    Ok(())
 }
 
 // A run, a text between two such runs, and what this text is written as.
@@ -155,13 +157,19 @@ fn check_runs(alloc: Global, len: usize, row: &(&str, &str, &str)) -> Checked {
 }
 
 fn check_length(alloc: Global, len: usize) -> Checked {
-    check_each(&RUNS, |row| check_runs(alloc, len, row))
+    for row in RUNS.iter() {
+        check_runs(alloc, len, row)?;
+    }
+    Ok(())
 }
 
 #[test]
 fn escapes_between_runs_of_each_length_are_written(rt: HostRuntime) -> Checked {
     let alloc = rt.alloc();
-    check_each(&LENGTHS, |len| check_length(alloc, *len))
+    for len in LENGTHS.iter() {
+        check_length(alloc, *len)?;
+    }
+    Ok(())
 }
 
 // The writer checks a short string block by block for bytes that need an escape. Blocks may

@@ -2,7 +2,7 @@
 use crate::texts::bundle_text;
 use sourcemap_bundles::ram_bundle::{RamBundle, is_unbundle_path};
 use sourcemap_errors::errors::{Error, Result};
-use sourcemap_test_support::checks::{Checked, check, check_each};
+use sourcemap_test_support::checks::{Checked, check};
 use sourcemap_test_support::files::{FakeFile, unsupported_error};
 use sourcemap_test_support::readers::NarrowReader;
 use sourcemap_test_support::results::owned_text;
@@ -338,10 +338,11 @@ static ROWS: [Row; 17] = [
 #[test]
 fn folders_that_fail(rt: HostRuntime) -> Checked {
     let alloc = rt.alloc();
-    check_each(&ROWS, |row| {
+    for row in ROWS.iter() {
         let refused = open_failing(alloc, row, ErrorKind::PermissionDenied);
         check(row.about, refused, row.refused)?;
         let no_memory = open_failing(alloc, row, ErrorKind::OutOfMemory);
-        check(row.about, no_memory, row.no_memory)
-    })
+        check(row.about, no_memory, row.no_memory)?;
+    }
+    Ok(())
 }

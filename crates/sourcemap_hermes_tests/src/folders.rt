@@ -2,7 +2,7 @@
 use crate::texts::{bundle_text, error_or_io, module_text, parsed_text};
 use sourcemap_bundles::ram_bundle::{RamBundle, is_unbundle_path};
 use sourcemap_errors::errors::Result;
-use sourcemap_test_support::checks::{Checked, check, check_each};
+use sourcemap_test_support::checks::{Checked, check};
 use sourcemap_test_support::results::owned_text;
 use std::alloc::Global;
 use std::fs;
@@ -209,9 +209,10 @@ fn modules_of_files(rt: HostRuntime) -> Checked {
 #[test]
 fn folders(rt: HostRuntime) -> Checked {
     let alloc = rt.alloc();
-    check_each(&FOLDERS, |(row, names, want)| {
-        check(row, folder_text(&rt, alloc, names), want)
-    })
+    for (row, names, want) in FOLDERS.iter() {
+        check(row, folder_text(&rt, alloc, names), want)?;
+    }
+    Ok(())
 }
 
 #[test]

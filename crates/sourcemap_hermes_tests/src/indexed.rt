@@ -3,7 +3,7 @@ use crate::texts::{bundle_text, bytes_text, module_text, parsed_text};
 use sourcemap_bundles::bundle::{ModuleEntry, RAM_BUNDLE_MAGIC, RamBundleHeader, byte_range};
 use sourcemap_bundles::ram_bundle::{RamBundle, RamBundleType, is_ram_bundle_slice};
 use sourcemap_errors::errors::Result;
-use sourcemap_test_support::checks::{Checked, check, check_each, check_that};
+use sourcemap_test_support::checks::{Checked, check, check_that};
 use sourcemap_test_support::results::owned_text;
 use std::alloc::Global;
 
@@ -136,20 +136,22 @@ fn numbers(alloc: Global, bytes: &[u8]) -> Result<String> {
 #[test]
 fn bundles_that_are_cut(rt: HostRuntime) -> Checked {
     let alloc = rt.alloc();
-    check_each(&CUTS, |(length, want_startup, want_module)| {
+    for (length, want_startup, want_module) in CUTS.iter() {
         let bytes = ONE.get(..*length).unwrap_or(&[]);
         check("startup code", startup(alloc, bytes), want_startup)?;
-        check("module 0", module_at(alloc, bytes, 0), want_module)
-    })
+        check("module 0", module_at(alloc, bytes, 0), want_module)?;
+    }
+    Ok(())
 }
 
 #[test]
 fn whole_bundles(rt: HostRuntime) -> Checked {
     let alloc = rt.alloc();
-    check_each(&WHOLE, |(row, bytes, want)| {
+    for (row, bytes, want) in WHOLE.iter() {
         let parsed = RamBundle::parse_indexed_from_slice(bytes);
-        check(row, parsed_text(alloc, parsed), want)
-    })
+        check(row, parsed_text(alloc, parsed), want)?;
+    }
+    Ok(())
 }
 
 #[test]

@@ -4,7 +4,7 @@ use sourcemap_hermes::decode::decode_hermes;
 use sourcemap_hermes::map::SourceMapHermes;
 use sourcemap_map_regular::encode::Encodable;
 use sourcemap_map_regular::token::Token;
-use sourcemap_test_support::checks::{Checked, check, check_each, check_that};
+use sourcemap_test_support::checks::{Checked, check, check_that};
 use sourcemap_test_support::records::{record, record_text};
 use sourcemap_test_support::results::{box_result, owned_text};
 use std::alloc::Global;
@@ -100,10 +100,11 @@ static MAPS: [&str; 7] = [
 #[test]
 fn names_of_functions(rt: HostRuntime) -> Checked {
     let alloc = rt.alloc();
-    check_each(&NAMES, |(text, offset, want)| {
+    for (text, offset, want) in NAMES.iter() {
         let answer = name_at(alloc, text, *offset);
-        check(text, answer, want)
-    })
+        check(text, answer, want)?;
+    }
+    Ok(())
 }
 
 fn scope_text(alloc: Global, map: &SourceMapHermes, token: Option<Token<'_>>) -> Result<String> {
@@ -122,9 +123,10 @@ fn scope_at(alloc: Global, text: &str, offset: u32) -> Result<String> {
 #[test]
 fn scopes_of_tokens(rt: HostRuntime) -> Checked {
     let alloc = rt.alloc();
-    check_each(&NAMES, |(text, offset, want)| {
-        check(text, scope_at(alloc, text, *offset), want)
-    })
+    for (text, offset, want) in NAMES.iter() {
+        check(text, scope_at(alloc, text, *offset), want)?;
+    }
+    Ok(())
 }
 
 fn write_map(alloc: Global, text: &str) -> Result<String> {
@@ -134,9 +136,10 @@ fn write_map(alloc: Global, text: &str) -> Result<String> {
 #[test]
 fn scopes_are_written_unchanged(rt: HostRuntime) -> Checked {
     let alloc = rt.alloc();
-    check_each(&WRITTEN, |text| {
-        check(text, write_map(alloc, text), text)
-    })
+    for text in WRITTEN.iter() {
+        check(text, write_map(alloc, text), text)?;
+    }
+    Ok(())
 }
 
 fn write_bytes(alloc: Global, text: &str) -> Result<String> {
@@ -151,9 +154,10 @@ fn write_bytes(alloc: Global, text: &str) -> Result<String> {
 #[test]
 fn bytes_are_those_of_the_record(rt: HostRuntime) -> Checked {
     let alloc = rt.alloc();
-    check_each(&WRITTEN, |text| {
-        check(text, write_bytes(alloc, text), text)
-    })
+    for text in WRITTEN.iter() {
+        check(text, write_bytes(alloc, text), text)?;
+    }
+    Ok(())
 }
 
 // Whether the encoded map decodes to an equal map.
@@ -167,9 +171,10 @@ fn is_read_back(alloc: Global, text: &str) -> Result<bool> {
 #[test]
 fn bytes_read_back(rt: HostRuntime) -> Checked {
     let alloc = rt.alloc();
-    check_each(&MAPS, |text| {
-        check_that(text, is_read_back(alloc, text)?)
-    })
+    for text in MAPS.iter() {
+        check_that(text, is_read_back(alloc, text)?)?;
+    }
+    Ok(())
 }
 
 fn streamed_map(alloc: Global, text: &str) -> Result<Box<SourceMapHermes>> {
@@ -187,9 +192,10 @@ fn copy_map(alloc: Global, text: &str) -> Result<String> {
 #[test]
 fn copies_and_maps_of_readers_are_equal(rt: HostRuntime) -> Checked {
     let alloc = rt.alloc();
-    check_each(&MAPS, |text| {
-        check(text, copy_map(alloc, text), "true true")
-    })
+    for text in MAPS.iter() {
+        check(text, copy_map(alloc, text), "true true")?;
+    }
+    Ok(())
 }
 
 fn is_decoded(alloc: Global, text: &str) -> Result<bool> {
@@ -224,7 +230,8 @@ static KINDS: [(&str, &str); 3] = [
 #[test]
 fn records_of_other_kinds(rt: HostRuntime) -> Checked {
     let alloc = rt.alloc();
-    check_each(&KINDS, |(text, want)| {
-        check(text, kinds_text(alloc, text), want)
-    })
+    for (text, want) in KINDS.iter() {
+        check(text, kinds_text(alloc, text), want)?;
+    }
+    Ok(())
 }

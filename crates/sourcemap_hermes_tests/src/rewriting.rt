@@ -3,7 +3,7 @@ use crate::maps::{BROKEN, LONG, NO_SOURCE, SECOND_SOURCE, SHORT, TWO_FUNCTIONS, 
 use sourcemap_errors::errors::Result;
 use sourcemap_hermes::map::SourceMapHermes;
 use sourcemap_map_regular::rewrite::RewriteOptions;
-use sourcemap_test_support::checks::{Checked, check, check_each};
+use sourcemap_test_support::checks::{Checked, check};
 use sourcemap_test_support::records::record_text;
 use sourcemap_test_support::results::{box_result, error_text};
 use std::alloc::Global;
@@ -130,9 +130,10 @@ static DEFAULT: [(&str, &str); 12] = [
 fn functions_follow_their_sources(rt: HostRuntime) -> Checked {
     let alloc = rt.alloc();
     let options = RewriteOptions::default();
-    check_each(&DEFAULT, |(text, want)| {
-        check(text, rewrite_with(&rt, alloc, text, &options), want)
-    })
+    for (text, want) in DEFAULT.iter() {
+        check(text, rewrite_with(&rt, alloc, text, &options), want)?;
+    }
+    Ok(())
 }
 
 // A map, prefixes to strip, and the rewritten map. Used sources that resolve to different texts
@@ -164,14 +165,15 @@ static CUT: [(&str, &[&str], &str); 2] = [
 #[test]
 fn functions_stay_where_prefixes_are_cut(rt: HostRuntime) -> Checked {
     let alloc = rt.alloc();
-    check_each(&CUT, |(text, prefixes, want)| {
+    for (text, prefixes, want) in CUT.iter() {
         let options = RewriteOptions {
             strip_prefixes: prefixes,
             ..RewriteOptions::default()
         };
         let got = rewrite_with(&rt, alloc, text, &options);
-        check(text, got, want)
-    })
+        check(text, got, want)?;
+    }
+    Ok(())
 }
 
 #[test]
@@ -210,8 +212,9 @@ static NAMES: [(&str, u32, &str); 10] = [
 #[test]
 fn names_of_functions_stay(rt: HostRuntime) -> Checked {
     let alloc = rt.alloc();
-    check_each(&NAMES, |(text, offset, want)| {
+    for (text, offset, want) in NAMES.iter() {
         let answer = name_then(&rt, alloc, text, *offset);
-        check(text, answer, want)
-    })
+        check(text, answer, want)?;
+    }
+    Ok(())
 }

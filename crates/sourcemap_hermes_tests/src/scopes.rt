@@ -5,7 +5,7 @@ use sourcemap_errors::errors::{Error, Result};
 use sourcemap_hermes_scopes::function_map::HermesFunctionMap;
 use sourcemap_hermes_scopes::scope_lists::ScopeLists;
 use sourcemap_hermes_scopes::source_scopes::SourceScopes;
-use sourcemap_test_support::checks::{Checked, check, check_each, check_that};
+use sourcemap_test_support::checks::{Checked, check, check_that};
 use sourcemap_test_support::records::{boxed_record, record_text};
 use sourcemap_test_support::results::{box_result, owned_text};
 use std::alloc::Global;
@@ -105,10 +105,11 @@ static MAPPINGS: [(&str, u32, u32, &str); 31] = [
 #[test]
 fn names_of_functions(rt: HostRuntime) -> Checked {
     let alloc = rt.alloc();
-    check_each(&MAPPINGS, |(mappings, line, col, want)| {
+    for (mappings, line, col, want) in MAPPINGS.iter() {
         let answer = name_in_mappings(alloc, mappings, *line, *col);
-        check(mappings, answer, want)
-    })
+        check(mappings, answer, want)?;
+    }
+    Ok(())
 }
 
 // Scope mappings with unsorted offsets. For unsorted offsets, the contract of `SourceScopes::scope`
@@ -130,7 +131,10 @@ fn check_columns(alloc: Global, mappings: &str) -> Checked {
 #[test]
 fn offsets_out_of_order(rt: HostRuntime) -> Checked {
     let alloc = rt.alloc();
-    check_each(&UNORDERED, |mappings| check_columns(alloc, mappings))
+    for mappings in UNORDERED.iter() {
+        check_columns(alloc, mappings)?;
+    }
+    Ok(())
 }
 
 const ROW: &str = r#"{"x_facebook_sources":[[{"names":["<global>","foo"],"mappings":"AAA,KCC"}]]}"#;
@@ -165,10 +169,11 @@ static SOURCES: [(&str, u32, u32, u32, &str); 13] = [
 #[test]
 fn names_by_source(rt: HostRuntime) -> Checked {
     let alloc = rt.alloc();
-    check_each(&SOURCES, |(text, source, line, col, want)| {
+    for (text, source, line, col, want) in SOURCES.iter() {
         let got = name_at_position(alloc, text, *source, *line, *col);
-        check(text, got, want)
-    })
+        check(text, got, want)?;
+    }
+    Ok(())
 }
 
 fn write_scopes(alloc: Global, lists: ScopeLists) -> Result<String> {
@@ -224,9 +229,10 @@ static SELECTED: [(&str, &str, &[u32], &str); 5] = [
 #[test]
 fn selected_scopes_are_written(rt: HostRuntime) -> Checked {
     let alloc = rt.alloc();
-    check_each(&SELECTED, |(about, text, ids, want)| {
-        check(about, write_selected(alloc, text, ids), want)
-    })
+    for (about, text, ids, want) in SELECTED.iter() {
+        check(about, write_selected(alloc, text, ids), want)?;
+    }
+    Ok(())
 }
 
 fn name_when_selected(alloc: Global, text: &str, ids: &[u32], source: u32) -> Result<String> {
@@ -253,10 +259,11 @@ static MOVED: [(&str, &str, &[u32], u32, &str); 5] = [
 #[test]
 fn names_of_selected_scopes(rt: HostRuntime) -> Checked {
     let alloc = rt.alloc();
-    check_each(&MOVED, |(about, text, ids, source, want)| {
+    for (about, text, ids, source, want) in MOVED.iter() {
         let got = name_when_selected(alloc, text, ids, *source);
-        check(about, got, want)
-    })
+        check(about, got, want)?;
+    }
+    Ok(())
 }
 
 // Compares the scopes of `text` with their copy, with the scopes of `text` decoded again, and with
@@ -314,8 +321,9 @@ fn index_at(alloc: Global, mappings: &str, line: u32, col: u32) -> Result<String
 #[test]
 fn copies_of_function_maps_answer_alike(rt: HostRuntime) -> Checked {
     let alloc = rt.alloc();
-    check_each(&FUNCTIONS, |(mappings, line, col, want)| {
+    for (mappings, line, col, want) in FUNCTIONS.iter() {
         let got = index_at(alloc, mappings, *line, *col);
-        check(mappings, got, want)
-    })
+        check(mappings, got, want)?;
+    }
+    Ok(())
 }

@@ -7,7 +7,7 @@ use sourcemap::decoder::decode_slice;
 use sourcemap::encoder::Encodable;
 use sourcemap::errors::{Error, Result};
 use sourcemap::types::{DecodedMap, SourceMapIndex, SourceMapSection};
-use sourcemap_test_support::checks::{Checked, check, check_each};
+use sourcemap_test_support::checks::{Checked, check};
 use sourcemap_test_support::results::{box_result, owned_text};
 use std::alloc::Global;
 
@@ -192,9 +192,10 @@ static CHANGES: [(Change, &str); 11] = [
 #[test]
 fn one_part_of_an_index_is_changed(rt: HostRuntime) -> Checked {
     let alloc = rt.alloc();
-    check_each(&CHANGES, |(change, want)| {
-        check(want, apply_change(alloc, *change), want)
-    })
+    for (change, want) in CHANGES.iter() {
+        check(want, apply_change(alloc, *change), want)?;
+    }
+    Ok(())
 }
 
 // An index map without sections, but with both lists of a RAM bundle: `x_facebook_offsets` and

@@ -2,7 +2,7 @@
 use crate::maps::map_of;
 use sourcemap::{DecodedMap, Error, Result};
 use sourcemap_cache::{CompiledMap, CompiledMapError, CompiledToken, WithContents, compile};
-use sourcemap_test_support::checks::{Checked, check, check_each};
+use sourcemap_test_support::checks::{Checked, check};
 use sourcemap_test_support::results::{error_of, owned_text};
 use std::alloc::Global;
 
@@ -102,9 +102,10 @@ fn answer(alloc: Global, text: &str, line: u32, column: u32) -> Result<String> {
 #[test]
 fn positions(rt: HostRuntime) -> Checked {
     let alloc = rt.alloc();
-    check_each(&ANSWERS, |(text, line, column, want)| {
-        check(text, answer(alloc, text, *line, *column), want)
-    })
+    for (text, line, column, want) in ANSWERS.iter() {
+        check(text, answer(alloc, text, *line, *column), want)?;
+    }
+    Ok(())
 }
 
 fn contents_in(alloc: Global, file: &[u8], id: u32) -> Result<String> {
@@ -123,7 +124,7 @@ fn contents(alloc: Global, text: &str, id: u32, choice: WithContents) -> Result<
 #[test]
 fn contents_of_sources(rt: HostRuntime) -> Checked {
     let alloc = rt.alloc();
-    check_each(&CONTENTS, |(text, id, with, without)| {
+    for (text, id, with, without) in CONTENTS.iter() {
         check(
             text,
             contents(alloc, text, *id, WithContents::Yes),
@@ -133,8 +134,9 @@ fn contents_of_sources(rt: HostRuntime) -> Checked {
             text,
             contents(alloc, text, *id, WithContents::No),
             without,
-        )
-    })
+        )?;
+    }
+    Ok(())
 }
 
 fn name_of_file(alloc: Global, text: &str) -> Result<String> {

@@ -3,7 +3,7 @@ use crate::maps::{index_of, map_of};
 use crate::samples::{BUNDLE, HERMES, LINKED, NEITHER, NESTED, TWO};
 use sourcemap::errors::Result;
 use sourcemap::types::{DecodedMap, SourceMapIndex, SourceMapSection};
-use sourcemap_test_support::checks::{Checked, check, check_each};
+use sourcemap_test_support::checks::{Checked, check};
 use sourcemap_test_support::results::{box_result, owned_text};
 use std::alloc::Global;
 
@@ -44,9 +44,10 @@ static COMPARED: [(&str, &str, &str); 7] = [
 #[test]
 fn copies_are_equal(rt: HostRuntime) -> Checked {
     let alloc = rt.alloc();
-    check_each(&COMPARED, |(text, other, want)| {
-        check(text, compare_maps(alloc, text, other), want)
-    })
+    for (text, other, want) in COMPARED.iter() {
+        check(text, compare_maps(alloc, text, other), want)?;
+    }
+    Ok(())
 }
 
 // An index map and its first section are copied, and each copy is compared with its original.
@@ -74,5 +75,8 @@ static COPIED: [&str; 5] = [TWO, LINKED, NEITHER, NESTED, HERMES];
 #[test]
 fn copies_of_indexes_and_sections_are_equal(rt: HostRuntime) -> Checked {
     let alloc = rt.alloc();
-    check_each(&COPIED, |text| check(text, copy_parts(alloc, text), "true true"))
+    for text in COPIED.iter() {
+        check(text, copy_parts(alloc, text), "true true")?;
+    }
+    Ok(())
 }

@@ -5,7 +5,7 @@ use crate::maps::{map_of, value_text};
 use sourcemap::errors::Result;
 use sourcemap::jsontypes::DebugId;
 use sourcemap::types::DecodedMap;
-use sourcemap_test_support::checks::{Checked, check, check_each};
+use sourcemap_test_support::checks::{Checked, check};
 use sourcemap_test_support::results::{box_result, error_of, owned_text, text_or_none};
 use std::alloc::Global;
 
@@ -96,9 +96,10 @@ static READ: [(&str, &str); 8] = [
 #[test]
 fn debug_ids_of_indexes_are_read(rt: HostRuntime) -> Checked {
     let alloc = rt.alloc();
-    check_each(&READ, |(text, want)| {
-        check(text, read(alloc, text), want)
-    })
+    for (text, want) in READ.iter() {
+        check(text, read(alloc, text), want)?;
+    }
+    Ok(())
 }
 
 fn text_with(alloc: Global, map: &mut DecodedMap, id: Option<&str>) -> Result<String> {
@@ -153,9 +154,10 @@ static SET: [(&str, Option<&str>, &str); 4] = [
 #[test]
 fn debug_ids_of_indexes_are_set(rt: HostRuntime) -> Checked {
     let alloc = rt.alloc();
-    check_each(&SET, |(text, id, want)| {
-        check(text, set(alloc, text, *id), want)
-    })
+    for (text, id, want) in SET.iter() {
+        check(text, set(alloc, text, *id), want)?;
+    }
+    Ok(())
 }
 
 fn empty_index(alloc: Global) -> Result<Box<DecodedMap>> {

@@ -2,7 +2,7 @@
 use sourcemap::decoder::{decode, decode_data_url, decode_slice, decode_vec};
 use sourcemap::errors::Result;
 use sourcemap::types::{DecodedMap, SourceMapIndex, SourceMapSection};
-use sourcemap_test_support::checks::{Checked, check, check_each};
+use sourcemap_test_support::checks::{Checked, check};
 use sourcemap_test_support::readers::HaltingReader;
 use sourcemap_test_support::results::{box_result, error_of, owned_text};
 use std::alloc::Global;
@@ -176,12 +176,13 @@ fn stream_one_by_one(alloc: Global, bytes: &[u8]) -> Result<String> {
 #[test]
 fn records_are_read_section_by_section(rt: HostRuntime) -> Checked {
     let alloc = rt.alloc();
-    check_each(&TEXTS, |(text, want)| {
+    for (text, want) in TEXTS.iter() {
         check(text, read(alloc, text.as_bytes()), want)?;
         check(text, read_owned(alloc, text.as_bytes()), want)?;
         check(text, stream(alloc, text.as_bytes()), want)?;
-        check(text, stream_one_by_one(alloc, text.as_bytes()), want)
-    })
+        check(text, stream_one_by_one(alloc, text.as_bytes()), want)?;
+    }
+    Ok(())
 }
 
 fn index_text(alloc: Global, answer: Result<SourceMapIndex>) -> Result<String> {
@@ -239,11 +240,12 @@ fn stream_index_one_by_one(alloc: Global, bytes: &[u8]) -> Result<String> {
 #[test]
 fn indexes_alone_are_read(rt: HostRuntime) -> Checked {
     let alloc = rt.alloc();
-    check_each(&INDEXES, |(text, want)| {
+    for (text, want) in INDEXES.iter() {
         check(text, read_index(alloc, text.as_bytes()), want)?;
         check(text, stream_index(alloc, text.as_bytes()), want)?;
-        check(text, stream_index_one_by_one(alloc, text.as_bytes()), want)
-    })
+        check(text, stream_index_one_by_one(alloc, text.as_bytes()), want)?;
+    }
+    Ok(())
 }
 
 // A data URL. Then the text of the sections of its index map, or the text of the error.
@@ -261,7 +263,8 @@ static URLS: [(&str, &str); 2] = [
 #[test]
 fn data_urls_are_read(rt: HostRuntime) -> Checked {
     let alloc = rt.alloc();
-    check_each(&URLS, |(url, want)| {
-        check(url, describe(alloc, decode_data_url(alloc, url)), want)
-    })
+    for (url, want) in URLS.iter() {
+        check(url, describe(alloc, decode_data_url(alloc, url)), want)?;
+    }
+    Ok(())
 }

@@ -3,7 +3,7 @@ use crate::maps::{index_of, record_text};
 use crate::samples::{BUNDLE, HERMES, LINKED, NEITHER, NESTED, TWO};
 use sourcemap::errors::Result;
 use sourcemap::types::{RewriteOptions, SourceMap};
-use sourcemap_test_support::checks::{Checked, check, check_each};
+use sourcemap_test_support::checks::{Checked, check};
 use sourcemap_test_support::results::{again, error_of};
 use std::alloc::Global;
 use std::rt::Files;
@@ -121,9 +121,10 @@ static FLAT: [(&str, &str); 13] = [
 #[test]
 fn index_maps_are_flattened(rt: HostRuntime) -> Checked {
     let alloc = rt.alloc();
-    check_each(&FLAT, |(text, want)| {
-        check(text, flat(alloc, text), want)
-    })
+    for (text, want) in FLAT.iter() {
+        check(text, flat(alloc, text), want)?;
+    }
+    Ok(())
 }
 
 fn rewrite_flat<F: Files>(
@@ -185,13 +186,14 @@ static REWRITTEN: [(&str, bool, bool, &str); 6] = [
 #[test]
 fn flat_maps_are_rewritten(rt: HostRuntime) -> Checked {
     let alloc = rt.alloc();
-    check_each(&REWRITTEN, |(text, with_names, load_contents, want)| {
+    for (text, with_names, load_contents, want) in REWRITTEN.iter() {
         let options = RewriteOptions {
             with_names: *with_names,
             load_local_source_contents: *load_contents,
             ..RewriteOptions::default()
         };
         let got = rewrite_flat(&rt, alloc, text, &options);
-        check(text, got, want)
-    })
+        check(text, got, want)?;
+    }
+    Ok(())
 }

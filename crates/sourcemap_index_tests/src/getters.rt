@@ -3,7 +3,7 @@ use crate::debug_ids::id_text;
 use crate::maps::map_of;
 use sourcemap::errors::{Error, Result};
 use sourcemap::types::{DecodedMap, SourceMapIndex};
-use sourcemap_test_support::checks::{Checked, check, check_each};
+use sourcemap_test_support::checks::{Checked, check};
 use sourcemap_test_support::results::owned_text;
 use std::alloc::Global;
 
@@ -113,7 +113,8 @@ static ANSWERS: [(&str, Getter, &str); 13] = [
 #[test]
 fn getters_return_parts(rt: HostRuntime) -> Checked {
     let alloc = rt.alloc();
-    check_each(&ANSWERS, |(text, getter, want)| {
-        check(want, answer(alloc, text, *getter), want)
-    })
+    for (text, getter, want) in ANSWERS.iter() {
+        check(want, answer(alloc, text, *getter), want)?;
+    }
+    Ok(())
 }

@@ -5,7 +5,7 @@ use serde_json::Value;
 use sourcemap::errors::Result;
 use sourcemap::types::DecodedMap;
 use sourcemap::{SourceMap, SourceMapHermes};
-use sourcemap_test_support::checks::{Checked, check, check_each};
+use sourcemap_test_support::checks::{Checked, check};
 use sourcemap_test_support::results::{error_of, owned_text};
 use std::alloc::Global;
 
@@ -79,9 +79,10 @@ static NAMES: [(&str, u32, &str); 8] = [
 #[test]
 fn functions_of_a_decoded_map_have_names(rt: HostRuntime) -> Checked {
     let alloc = rt.alloc();
-    check_each(&NAMES, |(text, offset, want)| {
-        check(text, name_at(alloc, text, *offset), want)
-    })
+    for (text, offset, want) in NAMES.iter() {
+        check(text, name_at(alloc, text, *offset), want)?;
+    }
+    Ok(())
 }
 
 fn value_of(alloc: Global, text: &str) -> Result<Value> {
@@ -104,7 +105,10 @@ static WRITTEN: [&str; 3] = [SECOND_SOURCE, SHORT, BROKEN];
 #[test]
 fn scopes_are_written_as_they_were_read(rt: HostRuntime) -> Checked {
     let alloc = rt.alloc();
-    check_each(&WRITTEN, |text| check(text, read_back_text(alloc, text), text))
+    for text in WRITTEN.iter() {
+        check(text, read_back_text(alloc, text), text)?;
+    }
+    Ok(())
 }
 
 // Removes the debug id of a map. Returns the debug id before and after the removal (`none` if there
@@ -153,7 +157,8 @@ static KINDS: [(&str, &str); 3] = [
 #[test]
 fn each_kind_is_decoded_by_its_own_reader(rt: HostRuntime) -> Checked {
     let alloc = rt.alloc();
-    check_each(&KINDS, |(text, want)| {
-        check(text, kinds(alloc, text), want)
-    })
+    for (text, want) in KINDS.iter() {
+        check(text, kinds(alloc, text), want)?;
+    }
+    Ok(())
 }

@@ -2,7 +2,7 @@
 use crate::maps::{index_of, map_of};
 use sourcemap::errors::Result;
 use sourcemap::types::SourceMapIndex;
-use sourcemap_test_support::checks::{Checked, check, check_each};
+use sourcemap_test_support::checks::{Checked, check};
 use sourcemap_test_support::results::{box_result, text_or_none};
 use std::alloc::Global;
 
@@ -111,10 +111,11 @@ fn index_lookup_text(alloc: Global, text: &str, line: u32, col: u32) -> Result<S
 #[test]
 fn positions_are_looked_up_in_the_closest_section(rt: HostRuntime) -> Checked {
     let alloc = rt.alloc();
-    check_each(&POSITIONS, |(text, line, col, want)| {
+    for (text, line, col, want) in POSITIONS.iter() {
         check(text, lookup_text(alloc, text, *line, *col), want)?;
-        check(text, index_lookup_text(alloc, text, *line, *col), want)
-    })
+        check(text, index_lookup_text(alloc, text, *line, *col), want)?;
+    }
+    Ok(())
 }
 
 // An index map, a line and a column. Then the texts of the tokens that two lookups of this position
@@ -148,10 +149,11 @@ fn flat_lookup_text(alloc: Global, text: &str, line: u32, col: u32) -> Result<St
 #[test]
 fn positions_are_looked_up_in_an_index_and_in_its_flat_map(rt: HostRuntime) -> Checked {
     let alloc = rt.alloc();
-    check_each(&FLAT_POSITIONS, |(text, line, col, by_index, by_flat)| {
+    for (text, line, col, by_index, by_flat) in FLAT_POSITIONS.iter() {
         let got = index_lookup_text(alloc, text, *line, *col);
         check(text, got, by_index)?;
         let got = flat_lookup_text(alloc, text, *line, *col);
-        check(text, got, by_flat)
-    })
+        check(text, got, by_flat)?;
+    }
+    Ok(())
 }

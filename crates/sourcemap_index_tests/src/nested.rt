@@ -5,7 +5,7 @@ use serde_json::Value;
 use sourcemap::decoder::decode_slice;
 use sourcemap::errors::Result;
 use sourcemap::types::{DecodedMap, SourceMapIndex, SourceMapSection};
-use sourcemap_test_support::checks::{Checked, check, check_each};
+use sourcemap_test_support::checks::{Checked, check};
 use sourcemap_test_support::results::{again, box_result, error_of, owned_text, text_or_none};
 use std::alloc::Global;
 
@@ -66,11 +66,12 @@ static TEXTS: [(usize, &str); 4] = [
 #[test]
 fn nested_index_maps_are_looked_up(rt: HostRuntime) -> Checked {
     let alloc = rt.alloc();
-    check_each(&TEXTS, |(depth, want)| {
+    for (depth, want) in TEXTS.iter() {
         let got = first_token_text(alloc, nested_index(alloc, *depth));
         check("in memory", got, "a.js:0:0")?;
-        check(want, read(alloc, *depth), want)
-    })
+        check(want, read(alloc, *depth), want)?;
+    }
+    Ok(())
 }
 
 // The text of the token at 0:0 in the flattened map, or `no index`.
@@ -169,7 +170,8 @@ static WRITTEN: [(usize, &str); 4] = [
 #[test]
 fn nested_index_maps_are_written_at_any_depth(rt: HostRuntime) -> Checked {
     let alloc = rt.alloc();
-    check_each(&WRITTEN, |(depth, want)| {
-        check(want, write_nested(alloc, *depth), want)
-    })
+    for (depth, want) in WRITTEN.iter() {
+        check(want, write_nested(alloc, *depth), want)?;
+    }
+    Ok(())
 }

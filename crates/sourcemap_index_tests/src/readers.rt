@@ -6,7 +6,7 @@ use sourcemap::SourceMapHermes;
 use sourcemap::decoder::decode;
 use sourcemap::errors::{Error, Result};
 use sourcemap::types::{DecodedMap, SourceMap, SourceMapIndex};
-use sourcemap_test_support::checks::{Checked, check, check_each, check_that, check_up_to};
+use sourcemap_test_support::checks::{Checked, check, check_that};
 use sourcemap_test_support::readers::HaltingReader;
 use sourcemap_test_support::results::{again, box_result, error_of, owned_text};
 use std::alloc::Global;
@@ -55,19 +55,26 @@ fn check_byte_by_byte(alloc: Global, text: &str) -> Checked {
 #[test]
 fn maps_are_read_byte_by_byte(rt: HostRuntime) -> Checked {
     let alloc = rt.alloc();
-    check_each(&TEXTS, |text| check_byte_by_byte(alloc, text))
+    for text in TEXTS.iter() {
+        check_byte_by_byte(alloc, text)?;
+    }
+    Ok(())
 }
 
 fn check_failing(alloc: Global, text: &str) -> Checked {
-    check_up_to(text.len(), |reads| {
-        check(text, decode_halting(alloc, text, reads), "timed out")
-    })
+    for reads in 0..=text.len() {
+        check(text, decode_halting(alloc, text, reads), "timed out")?;
+    }
+    Ok(())
 }
 
 #[test]
 fn each_read_may_fail(rt: HostRuntime) -> Checked {
     let alloc = rt.alloc();
-    check_each(&TEXTS, |text| check_failing(alloc, text))
+    for text in TEXTS.iter() {
+        check_failing(alloc, text)?;
+    }
+    Ok(())
 }
 
 // The kind of map that is read. Each kind has its own `from_reader`.
@@ -97,22 +104,24 @@ static KINDS: [(Kind, &str, &str); 3] = [
 ];
 
 fn check_failing_kind(alloc: Global, kind: Kind, text: &str) -> Checked {
-    check_up_to(text.len(), |reads| {
-        check(text, read_error(alloc, kind, text, reads), "timed out")
-    })
+    for reads in 0..=text.len() {
+        check(text, read_error(alloc, kind, text, reads), "timed out")?;
+    }
+    Ok(())
 }
 
 #[test]
 fn maps_of_one_kind_are_read(rt: HostRuntime) -> Checked {
     let alloc = rt.alloc();
     let incompatible = "encountered incompatible sourcemap format";
-    check_each(&KINDS, |(kind, text, other)| {
+    for (kind, text, other) in KINDS.iter() {
         let got = read_error(alloc, *kind, text, usize::MAX);
         check(text, got, "no error")?;
         let got = read_error(alloc, *kind, other, usize::MAX);
         check(other, got, incompatible)?;
-        check_failing_kind(alloc, *kind, text)
-    })
+        check_failing_kind(alloc, *kind, text)?;
+    }
+    Ok(())
 }
 
 fn ran_out(alloc: Global, text: &str, reads: usize) -> bool {
@@ -123,7 +132,8 @@ fn ran_out(alloc: Global, text: &str, reads: usize) -> bool {
 #[test]
 fn a_read_that_runs_out_of_memory_is_out_of_memory(rt: HostRuntime) -> Checked {
     let alloc = rt.alloc();
-    check_up_to(REGULAR.len(), |reads| {
-        check_that("out of memory", ran_out(alloc, REGULAR, reads))
-    })
+    for reads in 0..=REGULAR.len() {
+        check_that("out of memory", ran_out(alloc, REGULAR, reads))?;
+    }
+    Ok(())
 }

@@ -3,7 +3,7 @@ use crate::decoding::sections_text;
 use crate::maps::index_of;
 use sourcemap::errors::Result;
 use sourcemap::types::SourceMapIndex;
-use sourcemap_test_support::checks::{Checked, check, check_each};
+use sourcemap_test_support::checks::{Checked, check};
 use sourcemap_test_support::results::owned_text;
 use std::alloc::Global;
 
@@ -74,9 +74,10 @@ static MOVED: [(&str, u32, &str); 8] = [
 #[test]
 fn sections_move_down_all_or_none(rt: HostRuntime) -> Checked {
     let alloc = rt.alloc();
-    check_each(&MOVED, |(text, rows, want)| {
-        check(text, move_rows(alloc, text, *rows), want)
-    })
+    for (text, rows, want) in MOVED.iter() {
+        check(text, move_rows(alloc, text, *rows), want)?;
+    }
+    Ok(())
 }
 
 // An index map with a file name and a debug id. Its second section starts on line 1, and the map of
@@ -123,7 +124,8 @@ static MOVED_WHOLE: [(&str, u32, &str, &str); 4] = [
 #[test]
 fn only_rows_change_when_sections_move(rt: HostRuntime) -> Checked {
     let alloc = rt.alloc();
-    check_each(&MOVED_WHOLE, |(text, rows, after, want)| {
-        check(text, decode_and_move(alloc, text, *rows, after), want)
-    })
+    for (text, rows, after, want) in MOVED_WHOLE.iter() {
+        check(text, decode_and_move(alloc, text, *rows, after), want)?;
+    }
+    Ok(())
 }

@@ -4,7 +4,7 @@ use sourcemap::errors::{Error, Result};
 use sourcemap::ram_bundle::{RamBundle, SplitRamBundleModuleIter, split_ram_bundle};
 use sourcemap::sourceview::SourceView;
 use sourcemap::types::{SourceMap, SourceMapIndex};
-use sourcemap_test_support::checks::{Checked, check, check_each};
+use sourcemap_test_support::checks::{Checked, check};
 use sourcemap_test_support::results::{error_of, owned_text};
 use std::alloc::Global;
 use std::fs;
@@ -369,10 +369,11 @@ fn read_and_split(alloc: Global, bytes: &[u8], text: &str) -> Result<String> {
 #[test]
 fn bundles_are_split(rt: HostRuntime) -> Checked {
     let alloc = rt.alloc();
-    check_each(&ROWS, |row| {
+    for row in ROWS.iter() {
         let items = read_and_split(alloc, row.bundle, row.index);
-        check(row.about, items, row.items)
-    })
+        check(row.about, items, row.items)?;
+    }
+    Ok(())
 }
 
 // A file bundle that has the modules 0 and 2 of `THREE_MODULES`, and no module 1.

@@ -5,7 +5,7 @@ use crate::maps::map_of;
 use sourcemap::encoder::encode;
 use sourcemap::errors::{Error, Result};
 use sourcemap::types::DecodedMap;
-use sourcemap_test_support::checks::{Checked, check, check_below, check_each};
+use sourcemap_test_support::checks::{Checked, check};
 use sourcemap_test_support::results::owned_text;
 use sourcemap_test_support::writers::{HaltingWriter, NarrowWriter};
 use std::alloc::Global;
@@ -121,13 +121,19 @@ static WHOLE: [Way; 4] = [
 ];
 
 fn check_whole(alloc: Global, text: &str) -> Checked {
-    check_each(&WHOLE, |way| check(text, write_by(alloc, text, *way), text))
+    for way in WHOLE.iter() {
+        check(text, write_by(alloc, text, *way), text)?;
+    }
+    Ok(())
 }
 
 #[test]
 fn all_bytes_are_written(rt: HostRuntime) -> Checked {
     let alloc = rt.alloc();
-    check_each(&WRITTEN, |text| check_whole(alloc, text))
+    for text in WRITTEN.iter() {
+        check_whole(alloc, text)?;
+    }
+    Ok(())
 }
 
 // Checks that a text is written up to `most` bytes, and that the error follows.
@@ -138,15 +144,19 @@ fn check_cut(alloc: Global, text: &str, way: Way, (most, error): (usize, &str)) 
 }
 
 fn check_cuts(alloc: Global, text: &str) -> Checked {
-    check_below(text.len(), |most| {
+    for most in 0..text.len() {
         check_cut(alloc, text, Way::Failing(Some(most)), (most, "broken pipe"))?;
         let full = (most, "failed to write whole buffer");
-        check_cut(alloc, text, Way::Halting(Some(most)), full)
-    })
+        check_cut(alloc, text, Way::Halting(Some(most)), full)?;
+    }
+    Ok(())
 }
 
 #[test]
 fn each_write_may_fail_or_take_nothing(rt: HostRuntime) -> Checked {
     let alloc = rt.alloc();
-    check_each(&WRITTEN, |text| check_cuts(alloc, text))
+    for text in WRITTEN.iter() {
+        check_cuts(alloc, text)?;
+    }
+    Ok(())
 }

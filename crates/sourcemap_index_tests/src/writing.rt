@@ -2,7 +2,7 @@
 use crate::maps::{index_of, map_of, record_text, value_text};
 use crate::samples::{BUNDLE, HERMES, LINKED};
 use sourcemap::errors::{Error, Result};
-use sourcemap_test_support::checks::{Checked, check, check_each};
+use sourcemap_test_support::checks::{Checked, check};
 use sourcemap_test_support::results::again;
 use std::alloc::Global;
 
@@ -125,11 +125,12 @@ static WRITTEN: [(&str, &str); 9] = [
 #[test]
 fn indexes_are_written(rt: HostRuntime) -> Checked {
     let alloc = rt.alloc();
-    check_each(&WRITTEN, |(text, want)| {
+    for (text, want) in WRITTEN.iter() {
         check(text, write_text(alloc, text), want)?;
         check(text, into_value_text(alloc, text), want)?;
         check(text, into_record_text(alloc, text), want)?;
         check(text, to_writer_text(alloc, text), want)?;
-        check(text, index_to_writer_text(alloc, text), want)
-    })
+        check(text, index_to_writer_text(alloc, text), want)?;
+    }
+    Ok(())
 }

@@ -3,7 +3,7 @@ use crate::lookups::lookup_text;
 use crate::samples::{Made, NONE, make_map, map_text};
 use sourcemap::errors::{Error, Result};
 use sourcemap::types::{RawToken, SourceMap, Token};
-use sourcemap_test_support::checks::{Checked, check, check_each, check_that};
+use sourcemap_test_support::checks::{Checked, check, check_that};
 use sourcemap_test_support::results::{box_result, owned_text, text_or_none};
 use sourcemap_test_support::tokens::Row;
 use std::alloc::Global;
@@ -135,10 +135,11 @@ fn adjust_rows(alloc: Global, originals: &[Row], adjustments: &[Row]) -> Made {
 #[test]
 fn adjusted_maps_are_looked_up(rt: HostRuntime) -> Checked {
     let alloc = rt.alloc();
-    check_each(&ADJUSTED, |(originals, adjustments, (line, col), want)| {
+    for (originals, adjustments, (line, col), want) in ADJUSTED.iter() {
         let map = adjust_rows(alloc, originals, adjustments);
-        check(want, lookup_text(alloc, map, *line, *col), want)
-    })
+        check(want, lookup_text(alloc, map, *line, *col), want)?;
+    }
+    Ok(())
 }
 
 // Label. The tokens of the original map, then those of the adjustment. All tokens of the adjusted
@@ -343,10 +344,11 @@ fn tokens_of(alloc: Global, map: Made) -> Result<String> {
 #[test]
 fn adjusted_maps_have_these_tokens_and_no_others(rt: HostRuntime) -> Checked {
     let alloc = rt.alloc();
-    check_each(&LISTS, |(about, originals, adjustments, want)| {
+    for (about, originals, adjustments, want) in LISTS.iter() {
         let map = adjust_rows(alloc, originals, adjustments);
-        check(about, tokens_of(alloc, map), want)
-    })
+        check(about, tokens_of(alloc, map), want)?;
+    }
+    Ok(())
 }
 
 // Label. The tokens of the original map, then the tokens of the adjustment. A new position, then an
@@ -427,15 +429,16 @@ fn meaning(alloc: Global, map: Made, (line, col): (u32, u32)) -> Result<String> 
 #[test]
 fn moved_positions_keep_their_meaning(rt: HostRuntime) -> Checked {
     let alloc = rt.alloc();
-    check_each(&ALIKE, |(about, tokens, positions, want)| {
+    for (about, tokens, positions, want) in ALIKE.iter() {
         // prover: array parts outside of a pattern
         let [originals, adjustments] = *tokens;
         let [position, old_position] = *positions;
         let old_meaning = meaning(alloc, original(alloc, originals), old_position);
         check(about, old_meaning, want)?;
         let map = adjust_rows(alloc, originals, adjustments);
-        check(about, meaning(alloc, map, position), want)
-    })
+        check(about, meaning(alloc, map, position), want)?;
+    }
+    Ok(())
 }
 
 // The tokens of the original map, the tokens of the adjustment, and the adjusted map as text. In
@@ -467,10 +470,11 @@ static WRITTEN: [(&[Row], &[Row], &str); 3] = [
 #[test]
 fn adjusted_maps_are_written(rt: HostRuntime) -> Checked {
     let alloc = rt.alloc();
-    check_each(&WRITTEN, |(originals, adjustments, want)| {
+    for (originals, adjustments, want) in WRITTEN.iter() {
         let map = adjust_rows(alloc, originals, adjustments);
-        check(want, map_text(alloc, map), want)
-    })
+        check(want, map_text(alloc, map), want)?;
+    }
+    Ok(())
 }
 
 // Whether an adjustment is refused and leaves the map unchanged.

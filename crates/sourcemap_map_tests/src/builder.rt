@@ -4,7 +4,7 @@ use sourcemap::encoder::Encodable;
 use sourcemap::errors::{Error, Result};
 use sourcemap::jsontypes::DebugId;
 use sourcemap::types::{RawToken, SourceMap};
-use sourcemap_test_support::checks::{Checked, check, check_each};
+use sourcemap_test_support::checks::{Checked, check};
 use sourcemap_test_support::records::record_text;
 use sourcemap_test_support::results::{box_result, owned_text};
 use std::alloc::Global;
@@ -378,11 +378,12 @@ fn describe(alloc: Global, steps: &[Step<'_>]) -> Result<String> {
 #[test]
 fn builders_return_and_are_written(rt: HostRuntime) -> Checked {
     let alloc = rt.alloc();
-    check_each(&ROWS, |row| {
+    for row in ROWS.iter() {
         check(row.about, answers(alloc, row.steps), row.answers)?;
         check(row.about, describe(alloc, row.steps), row.getters)?;
-        check(row.about, write_after(alloc, row.steps), row.written)
-    })
+        check(row.about, write_after(alloc, row.steps), row.written)?;
+    }
+    Ok(())
 }
 
 fn sources_after(alloc: Global, steps: &[Step<'_>]) -> Result<String> {
@@ -439,7 +440,8 @@ fn strip_source(alloc: Global, prefixes: &[&str], source: &str) -> Result<String
 #[test]
 fn prefixes_are_cut(rt: HostRuntime) -> Checked {
     let alloc = rt.alloc();
-    check_each(&PREFIXES, |(about, prefixes, source, want)| {
-        check(about, strip_source(alloc, prefixes, source), want)
-    })
+    for (about, prefixes, source, want) in PREFIXES.iter() {
+        check(about, strip_source(alloc, prefixes, source), want)?;
+    }
+    Ok(())
 }

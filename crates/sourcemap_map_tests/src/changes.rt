@@ -2,7 +2,7 @@
 use crate::samples::{Made, map_text, mixed_map};
 use sourcemap::errors::{Error, Result};
 use sourcemap::types::SourceMap;
-use sourcemap_test_support::checks::{Checked, check, check_each};
+use sourcemap_test_support::checks::{Checked, check};
 use sourcemap_test_support::results::box_result;
 use std::alloc::Global;
 
@@ -191,10 +191,11 @@ static ROOTS: [(&str, &str); 3] = [
 #[test]
 fn sources_are_resolved_against_the_root(rt: HostRuntime) -> Checked {
     let alloc = rt.alloc();
-    check_each(&ROOTS, |(root, want)| {
+    for (root, want) in ROOTS.iter() {
         let map = apply_changes(mixed_map(alloc), &[Change::Root(root)]);
-        check(want, lists_of(alloc, map), want)
-    })
+        check(want, lists_of(alloc, map), want)?;
+    }
+    Ok(())
 }
 
 #[test]

@@ -2,7 +2,7 @@
 // of decoded maps, and the writing of data URLs.
 use sourcemap::errors::Result;
 use sourcemap::{DecodedMap, SourceMap, decode, decode_data_url, decode_slice};
-use sourcemap_test_support::checks::{Checked, check, check_below, check_each, check_that};
+use sourcemap_test_support::checks::{Checked, check, check_that};
 use sourcemap_test_support::readers::HaltingReader;
 use sourcemap_test_support::records::value_text;
 use sourcemap_test_support::results::{again, error_of, owned_text, text_or_none};
@@ -88,12 +88,12 @@ fn are_read_alike(alloc: Global, text: &str) -> Result<bool> {
 #[test]
 fn regular_maps_are_read_alone(rt: HostRuntime) -> Checked {
     let alloc = rt.alloc();
-    check_each(&REGULAR, |(about, text, want)| {
+    for (about, text, want) in REGULAR.iter() {
         let bytes = text.as_bytes();
         check(about, count_sliced(alloc, bytes), want)?;
         check(about, count_read(alloc, bytes), want)?;
-        check(about, count_read_one_by_one(alloc, bytes), want)
-    })?;
+        check(about, count_read_one_by_one(alloc, bytes), want)?;
+    }
     check_that("slice and reader", are_read_alike(alloc, README)?)
 }
 
@@ -137,12 +137,13 @@ fn look_up_read_one_by_one(alloc: Global, bytes: &[u8]) -> Result<String> {
 #[test]
 fn maps_of_any_kind_are_read(rt: HostRuntime) -> Checked {
     let alloc = rt.alloc();
-    check_each(&ANY_KIND, |(about, text, want)| {
+    for (about, text, want) in ANY_KIND.iter() {
         let bytes = text.as_bytes();
         check(about, look_up_sliced(alloc, bytes), want)?;
         check(about, look_up_read(alloc, bytes), want)?;
-        check(about, look_up_read_one_by_one(alloc, bytes), want)
-    })
+        check(about, look_up_read_one_by_one(alloc, bytes), want)?;
+    }
+    Ok(())
 }
 
 // Decodes the first `end` bytes of a text. Returns the text of the token closest to position 0:0,
@@ -159,9 +160,10 @@ fn read_beginning(alloc: Global, text: &str, end: usize) -> Result<String> {
 fn proper_beginnings_of_a_text_are_no_json(rt: HostRuntime) -> Checked {
     let alloc = rt.alloc();
     let want = "bad json: the text is not JSON";
-    check_below(README.len(), |end| {
-        check(want, read_beginning(alloc, README, end), want)
-    })
+    for end in 0..README.len() {
+        check(want, read_beginning(alloc, README, end), want)?;
+    }
+    Ok(())
 }
 
 // Whether a map equals its copy. Then, after `set_debug_id(None)`, whether the map differs from the
@@ -210,9 +212,10 @@ fn debug_id(alloc: Global, text: &str) -> Result<String> {
 #[test]
 fn of_two_debug_ids_the_newer_key_wins(rt: HostRuntime) -> Checked {
     let alloc = rt.alloc();
-    check_each(&DEBUG_IDS, |(about, text, want)| {
-        check(about, debug_id(alloc, text), want)
-    })
+    for (about, text, want) in DEBUG_IDS.iter() {
+        check(about, debug_id(alloc, text), want)?;
+    }
+    Ok(())
 }
 
 const WRITTEN: &str = r#"{"mappings":"A","names":[],"sources":[],"version":3}"#;
@@ -264,9 +267,9 @@ fn read_url(alloc: Global, url: &str) -> Result<String> {
 #[test]
 fn data_urls_are_read_and_written(rt: HostRuntime) -> Checked {
     let alloc = rt.alloc();
-    check_each(&URLS, |(about, url, want)| {
-        check(about, read_url(alloc, url), want)
-    })?;
+    for (about, url, want) in URLS.iter() {
+        check(about, read_url(alloc, url), want)?;
+    }
     let (about, url, text) = URLS[1];
     check(about, url_of(alloc, text), url)
 }

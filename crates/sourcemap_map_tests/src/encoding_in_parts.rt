@@ -5,7 +5,7 @@ use crate::samples::{Made, NONE, make_map, mixed_map, range_map, readme};
 use crate::writing::{BARE, WRITTEN, cut_writing, outcome_text, regular};
 use sourcemap::encoder::{encode_in_parts, encode_to_vec};
 use sourcemap::{Result, SourceMap};
-use sourcemap_test_support::checks::{Checked, check, check_below, check_each, check_that};
+use sourcemap_test_support::checks::{Checked, check, check_that};
 use sourcemap_test_support::results::owned_text;
 use sourcemap_test_support::writers::{HaltingWriter, NarrowWriter};
 use std::alloc::Global;
@@ -96,10 +96,11 @@ fn decoded_text(alloc: Global, text: &str, left: Option<usize>) -> Result<String
 #[test]
 fn parts_are_the_text(rt: HostRuntime) -> Checked {
     let alloc = rt.alloc();
-    check_each(&WRITTEN, |(about, text, want)| {
+    for (about, text, want) in WRITTEN.iter() {
         check(about, decoded_text(alloc, text, None), want)?;
-        check(about, decoded_text(alloc, want, None), want)
-    })
+        check(about, decoded_text(alloc, want, None), want)?;
+    }
+    Ok(())
 }
 
 // Checks that `encode_in_parts` writes the bytes that `encode_to_vec` returns.
@@ -142,11 +143,12 @@ fn many_text(alloc: Global) -> Result<String> {
 fn parts_end_where_a_write_fails(rt: HostRuntime) -> Checked {
     let alloc = rt.alloc();
     let (about, text, want) = BARE;
-    check_below(want.len(), |taken| {
+    for taken in 0..want.len() {
         let due = cut_writing(alloc, want, taken)?;
         let out = decoded_text(alloc, text, Some(taken));
-        check(about, out, due.as_str())
-    })
+        check(about, out, due.as_str())?;
+    }
+    Ok(())
 }
 
 fn halted_text(alloc: Global, text: &str, left: Option<usize>) -> Result<String> {

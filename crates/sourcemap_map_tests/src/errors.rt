@@ -2,7 +2,7 @@
 // texts must have these numbers.
 use sourcemap::Error;
 use sourcemap::errors::{Base64Fault, RangeFault, Result};
-use sourcemap_test_support::checks::{Checked, check, check_each};
+use sourcemap_test_support::checks::{Checked, check};
 use sourcemap_test_support::results::owned_text;
 use std::alloc::Global;
 use std::io::ErrorKind;
@@ -33,13 +33,14 @@ fn utf8_text(alloc: Global, bytes: &[u8]) -> Result<String> {
 #[test]
 fn errors_of_the_library_print_its_texts(rt: HostRuntime) -> Checked {
     let alloc = rt.alloc();
-    check_each(&KINDS, |(kind, want)| {
+    for (kind, want) in KINDS.iter() {
         let error = Error::from(io::Error::from(*kind));
-        check(want, describe(alloc, error), want)
-    })?;
-    check_each(&NOT_UTF8, |(bytes, want)| {
-        check(want, utf8_text(alloc, bytes), want)
-    })
+        check(want, describe(alloc, error), want)?;
+    }
+    for (bytes, want) in NOT_UTF8.iter() {
+        check(want, utf8_text(alloc, bytes), want)?;
+    }
+    Ok(())
 }
 
 #[test]

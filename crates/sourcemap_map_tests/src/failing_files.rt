@@ -2,7 +2,7 @@
 // none.
 use crate::folders::count_or_error;
 use sourcemap::{Result, SourceMapBuilder};
-use sourcemap_test_support::checks::{Checked, check, check_each};
+use sourcemap_test_support::checks::{Checked, check};
 use sourcemap_test_support::files::{FakeFile, unsupported_error};
 use sourcemap_test_support::readers::NarrowReader;
 use sourcemap_test_support::results::push_optional;
@@ -166,8 +166,9 @@ static ROWS: [(ErrorKind, &[&str], &str); 9] = [
 #[test]
 fn an_error_skips_a_source_unless_out_of_memory(rt: HostRuntime) -> Checked {
     let alloc = rt.alloc();
-    check_each(&ROWS, |(kind, sources, want)| {
+    for (kind, sources, want) in ROWS.iter() {
         let answer = load_failing(alloc, *kind, sources);
-        check(want, answer, want)
-    })
+        check(want, answer, want)?;
+    }
+    Ok(())
 }

@@ -1,7 +1,7 @@
 // Getters of maps and of tokens.
 use sourcemap::errors::Result;
 use sourcemap::types::{SourceMap, Token};
-use sourcemap_test_support::checks::{Checked, check, check_each};
+use sourcemap_test_support::checks::{Checked, check};
 use sourcemap_test_support::results::{box_result, owned_text, text_or_none};
 use std::alloc::Global;
 
@@ -140,7 +140,8 @@ static ANSWERS: [(Getter, &str); 7] = [
 #[test]
 fn getters_return_parts(rt: HostRuntime) -> Checked {
     let alloc = rt.alloc();
-    check_each(&ANSWERS, |(getter, want)| {
-        check(want, answer(alloc, *getter), want)
-    })
+    for (getter, want) in ANSWERS.iter() {
+        check(want, answer(alloc, *getter), want)?;
+    }
+    Ok(())
 }

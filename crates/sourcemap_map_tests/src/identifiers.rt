@@ -1,7 +1,7 @@
 //! Which texts are identifiers, and which identifier the first word of a text starts with.
 use sourcemap::Result;
 use sourcemap::js_identifiers::{get_javascript_token, is_valid_javascript_identifier};
-use sourcemap_test_support::checks::{Checked, check, check_each};
+use sourcemap_test_support::checks::{Checked, check};
 use sourcemap_test_support::results::{optional_text, owned_text};
 use std::alloc::Global;
 
@@ -56,7 +56,8 @@ fn describe(alloc: Global, text: &str) -> Result<String> {
 #[test]
 fn identifiers_are_recognized(rt: HostRuntime) -> Checked {
     let alloc = rt.alloc();
-    check_each(&TEXTS, |(text, want)| {
-        check(text, describe(alloc, text), want)
-    })
+    for (text, want) in TEXTS.iter() {
+        check(text, describe(alloc, text), want)?;
+    }
+    Ok(())
 }

@@ -1,7 +1,7 @@
 //! Tables of lines, and positions by UTF-16 columns.
 use sourcemap::Result;
 use sourcemap_core::lines::{LineTable, utf16_offset};
-use sourcemap_test_support::checks::{Checked, check, check_each};
+use sourcemap_test_support::checks::{Checked, check};
 use sourcemap_test_support::results::{box_result, owned_text};
 use std::alloc::Global;
 
@@ -39,9 +39,10 @@ fn push_range(answer: &mut String, range: Option<(usize, usize)>) -> Result<()> 
 #[test]
 fn tables_hold_where_lines_begin_and_end(rt: HostRuntime) -> Checked {
     let alloc = rt.alloc();
-    check_each(&TEXTS, |(text, want)| {
-        check(text, describe(alloc, text), want)
-    })
+    for (text, want) in TEXTS.iter() {
+        check(text, describe(alloc, text), want)?;
+    }
+    Ok(())
 }
 
 // Line ends, the position where they start, and the length of the text. The line ends are near
@@ -124,10 +125,11 @@ fn check_ends(alloc: Global, text: &str) -> Checked {
 #[test]
 fn line_ends_at_the_edges_of_blocks_are_found(rt: HostRuntime) -> Checked {
     let alloc = rt.alloc();
-    check_each(&ENDS, |(ends, position, length)| {
+    for (ends, position, length) in ENDS.iter() {
         let text = with_ends(alloc, ends, *position, *length)?;
-        check_ends(alloc, text.as_str())
-    })
+        check_ends(alloc, text.as_str())?;
+    }
+    Ok(())
 }
 
 // A line, a column in UTF-16 units, and the byte offset of the column in the line.
@@ -156,7 +158,8 @@ fn offset_text(alloc: Global, line: &str, col: u64) -> Result<String> {
 #[test]
 fn utf16_columns_lead_to_byte_offsets(rt: HostRuntime) -> Checked {
     let alloc = rt.alloc();
-    check_each(&COLUMNS, |(line, col, want)| {
-        check(line, offset_text(alloc, line, *col), want)
-    })
+    for (line, col, want) in COLUMNS.iter() {
+        check(line, offset_text(alloc, line, *col), want)?;
+    }
+    Ok(())
 }

@@ -1,7 +1,7 @@
 // Contents loaded by a builder.
 use crate::folders::{count_or_error, expand_folder, fill, folder, load};
 use sourcemap::{Result, SourceMapBuilder};
-use sourcemap_test_support::checks::{Checked, check, check_each};
+use sourcemap_test_support::checks::{Checked, check};
 use sourcemap_test_support::results::{owned_text, push_optional};
 use std::alloc::Global;
 use std::os::fd::AsRawFd;
@@ -267,10 +267,10 @@ fn load_changed<F: Files>(rt: &F, alloc: Global, folder: &str) -> Result<String>
 fn contents_are_loaded(rt: HostRuntime) -> Checked {
     let folder = fill(&rt, "contents_are_loaded")?;
     let alloc = rt.alloc();
-    check_each(&ROWS, |row| {
+    for row in ROWS.iter() {
         let answer = answer(&rt, alloc, folder.as_str(), row);
-        check(row.about, answer, row.want)
-    })?;
+        check(row.about, answer, row.want)?;
+    }
     // the text with which the source was added counts
     let got = load_changed(&rt, alloc, folder.as_str());
     check("a source that was changed", got, "1 [x] 0")?;

@@ -4,7 +4,7 @@ use crate::samples::{Made, bare, map_text, range_map, readme, record_of};
 use crate::writing::decode_record;
 use sourcemap::errors::Result;
 use sourcemap::types::SourceMap;
-use sourcemap_test_support::checks::{Checked, check, check_each};
+use sourcemap_test_support::checks::{Checked, check};
 use sourcemap_test_support::results::text_or_none;
 use std::alloc::Global;
 
@@ -40,10 +40,11 @@ fn read_back(alloc: Global, map: Made) -> Made {
 }
 
 fn check_lookups(alloc: Global, map: &SourceMap, rows: &[Lookup]) -> Checked {
-    check_each(rows, |(line, col, want)| {
+    for (line, col, want) in rows {
         let got = text_or_none(alloc, map.lookup_token(*line, *col));
-        check(want, got, want)
-    })
+        check(want, got, want)?;
+    }
+    Ok(())
 }
 
 fn check_made(alloc: Global, map: Made, rows: &[Lookup]) -> Checked {

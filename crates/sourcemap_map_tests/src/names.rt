@@ -1,7 +1,7 @@
 // Tests of the original names of functions, of the views of contents, and of `rev_token_iter`.
 use crate::writing::decode_boxed;
 use sourcemap::{DecodedMap, Result, SourceMap, SourceView, Token};
-use sourcemap_test_support::checks::{Checked, check, check_each};
+use sourcemap_test_support::checks::{Checked, check};
 use sourcemap_test_support::results::{box_result, owned_text};
 use std::alloc::Global;
 
@@ -79,10 +79,11 @@ fn describe(
 #[test]
 fn names_of_functions_are_guessed_by_maps(rt: HostRuntime) -> Checked {
     let alloc = rt.alloc();
-    check_each(&NAMES, |(map, position, minified, want)| {
+    for (map, position, minified, want) in NAMES.iter() {
         let got = name_in(alloc, map, *position, minified);
-        check(minified, got, want)
-    })
+        check(minified, got, want)?;
+    }
+    Ok(())
 }
 
 // A map, a generated position, whether a minified name is passed, whether a view is passed. Then
@@ -119,10 +120,11 @@ fn name_with(
 #[test]
 fn maps_but_hermes_maps_need_a_name_and_a_view(rt: HostRuntime) -> Checked {
     let alloc = rt.alloc();
-    check_each(&LESS, |(map, position, with_name, with_view, want)| {
+    for (map, position, with_name, with_view, want) in LESS.iter() {
         let got = name_with(alloc, map, *position, *with_name, *with_view);
-        check(map, got, want)
-    })
+        check(map, got, want)?;
+    }
+    Ok(())
 }
 
 // Calls `get_original_function_name` of `SourceMap`, `SourceMapIndex` or `SourceMapHermes`, not of
@@ -174,9 +176,10 @@ fn name_from_afar(alloc: Global, last: u32) -> Result<String> {
 #[test]
 fn walks_are_128_tokens_long(rt: HostRuntime) -> Checked {
     let alloc = rt.alloc();
-    check_each(&FAR, |(last, want)| {
-        check(want, name_from_afar(alloc, *last), want)
-    })
+    for (last, want) in FAR.iter() {
+        check(want, name_from_afar(alloc, *last), want)?;
+    }
+    Ok(())
 }
 
 const WITH_CONTENTS: &str = concat!(
@@ -224,10 +227,11 @@ fn line_of_token(alloc: Global, id: u32, line: u32) -> Result<String> {
 #[test]
 fn contents_are_views(rt: HostRuntime) -> Checked {
     let alloc = rt.alloc();
-    check_each(&LINES, |(id, line, want)| {
+    for (id, line, want) in LINES.iter() {
         check(want, line_of_source(alloc, *id, *line), want)?;
-        check(want, line_of_token(alloc, *id, *line), want)
-    })
+        check(want, line_of_token(alloc, *id, *line), want)?;
+    }
+    Ok(())
 }
 
 // A token at each of the columns 3, 4 and 5 of line 0.
@@ -268,7 +272,8 @@ static WALKS: [(usize, &str); 4] = [
 #[test]
 fn walks_along_the_tokens_of_a_map_find_identifiers(rt: HostRuntime) -> Checked {
     let alloc = rt.alloc();
-    check_each(&WALKS, |(last, want)| {
-        check(want, walk_tokens(alloc, "abc👌def", *last), want)
-    })
+    for (last, want) in WALKS.iter() {
+        check(want, walk_tokens(alloc, "abc👌def", *last), want)?;
+    }
+    Ok(())
 }

@@ -1,7 +1,7 @@
 // Rewriting of maps.
 use sourcemap::errors::Result;
 use sourcemap::types::{RewriteOptions, SourceMap};
-use sourcemap_test_support::checks::{Checked, check, check_each};
+use sourcemap_test_support::checks::{Checked, check};
 use sourcemap_test_support::records::record_text;
 use sourcemap_test_support::results::{error_text, owned_text};
 use std::alloc::Global;
@@ -64,9 +64,10 @@ static DEFAULT: [(&str, &str, &str); 4] = [
 fn used_sources_and_names_are_kept(rt: HostRuntime) -> Checked {
     let alloc = rt.alloc();
     let options = RewriteOptions::default();
-    check_each(&DEFAULT, |(about, text, want)| {
-        check(about, rewrite_with(&rt, alloc, text, &options), want)
-    })
+    for (about, text, want) in DEFAULT.iter() {
+        check(about, rewrite_with(&rt, alloc, text, &options), want)?;
+    }
+    Ok(())
 }
 
 const PATHS: &str = r#"{"mappings":"AAAA,CCAA","sources":["/a/b/x.js","/a/b/y.js"]}"#;
@@ -116,14 +117,15 @@ static CUT: [(&str, &str, &[&str], &str); 6] = [
 #[test]
 fn prefixes_are_cut(rt: HostRuntime) -> Checked {
     let alloc = rt.alloc();
-    check_each(&CUT, |(about, text, prefixes, want)| {
+    for (about, text, prefixes, want) in CUT.iter() {
         let options = RewriteOptions {
             strip_prefixes: prefixes,
             ..RewriteOptions::default()
         };
         let answer = rewrite_with(&rt, alloc, text, &options);
-        check(about, answer, want)
-    })
+        check(about, answer, want)?;
+    }
+    Ok(())
 }
 
 const TWO_NAMES: &str = concat!(
@@ -177,15 +179,16 @@ static LESS: [(&str, &str, (bool, bool), &str); 4] = [
 #[test]
 fn names_and_contents_are_left_out(rt: HostRuntime) -> Checked {
     let alloc = rt.alloc();
-    check_each(&LESS, |(about, text, (with_names, with_source_contents), want)| {
+    for (about, text, (with_names, with_source_contents), want) in LESS.iter() {
         let options = RewriteOptions {
             with_names: *with_names,
             with_source_contents: *with_source_contents,
             ..RewriteOptions::default()
         };
         let answer = rewrite_with(&rt, alloc, text, &options);
-        check(about, answer, want)
-    })
+        check(about, answer, want)?;
+    }
+    Ok(())
 }
 
 // A current directory and a base path. Neither path is absolute.
@@ -199,15 +202,16 @@ static RELATIVE: [(Option<&str>, Option<&str>); 3] = [
 fn contents_are_loaded_from_absolute_folders_alone(rt: HostRuntime) -> Checked {
     let alloc = rt.alloc();
     let want = "invalid input parameter";
-    check_each(&RELATIVE, |(current_dir, base_path)| {
+    for (current_dir, base_path) in RELATIVE.iter() {
         let options = RewriteOptions {
             load_local_source_contents: true,
             current_dir: *current_dir,
             base_path: *base_path,
             ..RewriteOptions::default()
         };
-        check(want, rewrite_with(&rt, alloc, PATHS, &options), want)
-    })
+        check(want, rewrite_with(&rt, alloc, PATHS, &options), want)?;
+    }
+    Ok(())
 }
 
 // Label, a map, and the ids that `rewrite_with_ids` returns with default options. There is one id
@@ -246,7 +250,8 @@ fn old_ids<F: Files>(
 fn sources_are_known_by_their_old_ids(rt: HostRuntime) -> Checked {
     let alloc = rt.alloc();
     let options = RewriteOptions::default();
-    check_each(&OLD_IDS, |(about, text, want)| {
-        check(about, old_ids(&rt, alloc, text, &options), want)
-    })
+    for (about, text, want) in OLD_IDS.iter() {
+        check(about, old_ids(&rt, alloc, text, &options), want)?;
+    }
+    Ok(())
 }

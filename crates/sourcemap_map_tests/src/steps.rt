@@ -2,7 +2,7 @@
 use crate::samples::{Made, NONE};
 use sourcemap::errors::Result;
 use sourcemap::types::{RawToken, SourceMap};
-use sourcemap_test_support::checks::{Checked, check, check_each, check_that};
+use sourcemap_test_support::checks::{Checked, check, check_that};
 use sourcemap_test_support::results::{box_result, owned_text};
 use sourcemap_test_support::tokens::token;
 use std::alloc::Global;
@@ -68,7 +68,10 @@ fn steps_text(alloc: Global, map: &SourceMap, row: &Counted) -> Result<String> {
 }
 
 fn check_steps(alloc: Global, about: &str, map: &SourceMap, rows: &[Counted]) -> Checked {
-    check_each(rows, |row| check(about, steps_text(alloc, map, row), row.3))
+    for row in rows {
+        check(about, steps_text(alloc, map, row), row.3)?;
+    }
+    Ok(())
 }
 
 fn check_made(alloc: Global, about: &str, map: Made, rows: &[Counted]) -> Checked {

@@ -2,7 +2,7 @@
 use crate::samples::{Made, mixed_map};
 use sourcemap::errors::Result;
 use sourcemap::types::{SourceMap, Token, TokenIter};
-use sourcemap_test_support::checks::{Checked, check, check_each};
+use sourcemap_test_support::checks::{Checked, check};
 use sourcemap_test_support::results::owned_text;
 use std::alloc::Global;
 
@@ -58,10 +58,11 @@ fn seek_in_map(alloc: Global, map: Made, line: u32, col: u32) -> Result<String> 
 #[test]
 fn seeking_goes_on_after_the_closest_token(rt: HostRuntime) -> Checked {
     let alloc = rt.alloc();
-    check_each(&SOUGHT, |(about, line, col, want)| {
+    for (about, line, col, want) in SOUGHT.iter() {
         let got = seek_in_map(alloc, mixed_map(alloc), *line, *col);
-        check(about, got, want)
-    })
+        check(about, got, want)?;
+    }
+    Ok(())
 }
 
 // A position, and the closest token as printed by `{}`, `{:#}` and `{:?}`.
@@ -98,8 +99,9 @@ fn lookup_line(alloc: Global, map: Made, line: u32, col: u32) -> Result<String> 
 #[test]
 fn tokens_are_printed(rt: HostRuntime) -> Checked {
     let alloc = rt.alloc();
-    check_each(&PRINTED, |(line, col, want)| {
+    for (line, col, want) in PRINTED.iter() {
         let got = lookup_line(alloc, mixed_map(alloc), *line, *col);
-        check(want, got, want)
-    })
+        check(want, got, want)?;
+    }
+    Ok(())
 }

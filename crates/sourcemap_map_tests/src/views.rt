@@ -1,7 +1,7 @@
 //! Tests of source views: lines, slices of lines, copies, `Debug` text, and source map references.
 use sourcemap::Result;
 use sourcemap::sourceview::SourceView;
-use sourcemap_test_support::checks::{Checked, check, check_each};
+use sourcemap_test_support::checks::{Checked, check};
 use sourcemap_test_support::results::{again, box_result, optional_text, owned_text};
 use std::alloc::Global;
 
@@ -212,7 +212,8 @@ fn reference_of(alloc: Global, text: &str) -> Result<String> {
 #[test]
 fn references_are_found(rt: HostRuntime) -> Checked {
     let alloc = rt.alloc();
-    check_each(&REFERENCES, |(text, want)| {
-        check(text, reference_of(alloc, text), want)
-    })
+    for (text, want) in REFERENCES.iter() {
+        check(text, reference_of(alloc, text), want)?;
+    }
+    Ok(())
 }

@@ -1,7 +1,7 @@
 //! Tests of walks back along tokens: `rev_token_iter` and `get_original_function_name`.
 use sourcemap::Result;
 use sourcemap::sourceview::{SourceView, WalkedToken};
-use sourcemap_test_support::checks::{Checked, check, check_each};
+use sourcemap_test_support::checks::{Checked, check};
 use sourcemap_test_support::results::{box_result, optional_text, push_optional};
 use std::alloc::Global;
 
@@ -162,9 +162,10 @@ fn along(alloc: Global, view: &SourceView, chain_tokens: &[ChainToken]) -> Resul
 #[test]
 fn walks_find_the_identifier_at_each_position(rt: HostRuntime) -> Checked {
     let alloc = rt.alloc();
-    check_each(&WALKS, |(text, positions, want)| {
-        check(text, walk_text(alloc, text, positions), want)
-    })
+    for (text, positions, want) in WALKS.iter() {
+        check(text, walk_text(alloc, text, positions), want)?;
+    }
+    Ok(())
 }
 
 // A walk back over the text `function b(){}`. The walk can start with tokens on line 1, past the
@@ -263,9 +264,10 @@ fn guess_name(
 #[test]
 fn walks_guess_the_name_after_the_word_function(rt: HostRuntime) -> Checked {
     let alloc = rt.alloc();
-    check_each(&NAMES, |(about, name, walk, want)| {
-        check(about, name_by_walk(alloc, name, *walk), want)
-    })
+    for (about, name, walk, want) in NAMES.iter() {
+        check(about, name_by_walk(alloc, name, *walk), want)?;
+    }
+    Ok(())
 }
 
 // A text, the minified name to look for, and the guessed original name, or `none`. Each walk has
@@ -302,7 +304,8 @@ fn compare_walks(alloc: Global, text: &str, name: &str) -> Result<String> {
 #[test]
 fn names_are_compared_whole(rt: HostRuntime) -> Checked {
     let alloc = rt.alloc();
-    check_each(&COMPARED, |(text, name, want)| {
-        check(text, compare_walks(alloc, text, name), want)
-    })
+    for (text, name, want) in COMPARED.iter() {
+        check(text, compare_walks(alloc, text, name), want)?;
+    }
+    Ok(())
 }

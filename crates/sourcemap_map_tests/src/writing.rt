@@ -6,7 +6,7 @@ use sourcemap::decoder::decode_regular;
 use sourcemap::encoder::{Encodable, encode, encode_to};
 use sourcemap::jsontypes::RawSourceMap;
 use sourcemap::{DecodedMap, Error, Result, decode_slice};
-use sourcemap_test_support::checks::{Checked, check, check_below, check_each};
+use sourcemap_test_support::checks::{Checked, check};
 use sourcemap_test_support::records::{record, record_text, value_text};
 use sourcemap_test_support::results::{again, box_result, owned_text};
 use sourcemap_test_support::writers::NarrowWriter;
@@ -147,10 +147,11 @@ fn check_each_way(alloc: Global, about: &str, text: &str, want: &str) -> Checked
 #[test]
 fn maps_are_written_as_expected(rt: HostRuntime) -> Checked {
     let alloc = rt.alloc();
-    check_each(&WRITTEN, |(about, text, want)| {
+    for (about, text, want) in WRITTEN.iter() {
         check_each_way(alloc, about, text, want)?;
-        check_each_way(alloc, about, want, want)
-    })
+        check_each_way(alloc, about, want, want)?;
+    }
+    Ok(())
 }
 
 // The calls that write a map's bytes.
@@ -228,15 +229,19 @@ fn check_each_call(
     (about, text, want): (&str, &str, &str),
     left: Option<usize>,
 ) -> Checked {
-    check_each(&CALLS, |call| check(about, held_text(alloc, text, *call, left), want))
+    for call in CALLS.iter() {
+        check(about, held_text(alloc, text, *call, left), want)?;
+    }
+    Ok(())
 }
 
 #[test]
 fn bytes_are_written_one_by_one(rt: HostRuntime) -> Checked {
     let alloc = rt.alloc();
-    check_each(&WRITTEN, |row| {
-        check_each_call(alloc, *row, None)
-    })
+    for row in WRITTEN.iter() {
+        check_each_call(alloc, *row, None)?;
+    }
+    Ok(())
 }
 
 // Writes a map to an empty writer, and returns the `outcome_text`. The buffer of the writer has
@@ -273,10 +278,11 @@ fn encode_any(alloc: Global, text: &str, capacity: usize) -> Result<String> {
 #[test]
 fn nothing_is_written_without_memory(rt: HostRuntime) -> Checked {
     let alloc = rt.alloc();
-    check_each(&WRITTEN, |(about, text, want)| {
+    for (about, text, want) in WRITTEN.iter() {
         check(about, encode_regular(alloc, text, want.len()), want)?;
-        check(about, encode_any(alloc, text, want.len()), want)
-    })
+        check(about, encode_any(alloc, text, want.len()), want)?;
+    }
+    Ok(())
 }
 
 /// Returns the first `most` bytes of `text`, then ` broken pipe`. `outcome_text` returns the same
@@ -291,8 +297,9 @@ pub fn cut_writing(alloc: Global, text: &str, most: usize) -> Result<String> {
 fn each_write_may_fail(rt: HostRuntime) -> Checked {
     let alloc = rt.alloc();
     let (about, text, want) = BARE;
-    check_below(want.len(), |taken| {
+    for taken in 0..want.len() {
         let due = cut_writing(alloc, want, taken)?;
-        check_each_call(alloc, (about, text, due.as_str()), Some(taken))
-    })
+        check_each_call(alloc, (about, text, due.as_str()), Some(taken))?;
+    }
+    Ok(())
 }

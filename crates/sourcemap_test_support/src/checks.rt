@@ -1,6 +1,5 @@
 //! The checks that tests make. A test returns `Checked`, and ends at the first check that fails. A
-//! check is a function, because each use of an assertion is proved anew, which takes seconds. So
-//! are loops over rows and numbers.
+//! check is a function, because each use of an assertion is proved anew, which takes seconds.
 use std::fmt::Debug;
 use std::test::Fail;
 
@@ -23,34 +22,4 @@ pub fn check_that(row: &str, holds: bool) -> Checked {
         return Ok(());
     }
     Err(Fail::new(format_args!("{row}: not as expected")))
-}
-
-/// Checks each row by `check_row`, and ends at the first row that fails.
-pub fn check_each<T, F: Fn(&T) -> Checked>(rows: &[T], check_row: F) -> Checked
-    requires { F.IsAlwaysCallable check_row }
-{
-    for row in rows {
-        check_row(row)?;
-    }
-    Ok(())
-}
-
-/// Checks each number below `end` by `check_number`, and ends at the first number that fails.
-pub fn check_below<F: Fn(usize) -> Checked>(end: usize, check_number: F) -> Checked
-    requires { F.IsAlwaysCallable check_number }
-{
-    for number in 0..end {
-        check_number(number)?;
-    }
-    Ok(())
-}
-
-/// Checks each number up to `last` by `check_number`, and ends at the first number that fails.
-pub fn check_up_to<F: Fn(usize) -> Checked>(last: usize, check_number: F) -> Checked
-    requires { F.IsAlwaysCallable check_number }
-{
-    for number in 0..=last {
-        check_number(number)?;
-    }
-    Ok(())
 }

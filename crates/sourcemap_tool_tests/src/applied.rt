@@ -3,7 +3,7 @@ use crate::runs::TWO;
 use sourcemap::{Error, decode_slice};
 use sourcemap_cli::command::Command;
 use sourcemap_cli::output::apply;
-use sourcemap_test_support::checks::{Checked, check, check_each, check_that};
+use sourcemap_test_support::checks::{Checked, check, check_that};
 use sourcemap_trace::Counting;
 
 const RANGED: &str = r#"{"sources":["a.js"],"mappings":"AAAO","rangeMappings":"B"}"#;
@@ -32,9 +32,10 @@ fn lookup(rt: &HostRuntime, text: &str, (line, col): (u32, u32)) -> Result<Strin
 
 #[test]
 fn lookups_are_applied(rt: HostRuntime) -> Checked {
-    check_each(&LOOKUPS, |(text, position, want)| {
-        check(want, lookup(&rt, text, *position), want)
-    })
+    for (text, position, want) in LOOKUPS.iter() {
+        check(want, lookup(&rt, text, *position), want)?;
+    }
+    Ok(())
 }
 
 const FLAT: &str =
@@ -70,9 +71,10 @@ fn is_refused(answer: Result<String, Error>, want: &str) -> Result<bool, Error> 
 #[test]
 fn flattening_is_applied(rt: HostRuntime) -> Checked {
     check(TWO, flatten(&rt, TWO), FLAT)?;
-    check_each(&REFUSED, |(text, want)| {
-        check_that(text, is_refused(flatten(&rt, text), want)?)
-    })
+    for (text, want) in REFUSED.iter() {
+        check_that(text, is_refused(flatten(&rt, text), want)?)?;
+    }
+    Ok(())
 }
 
 // A map, its adjustment, and the output of `compose`.
@@ -139,14 +141,16 @@ fn is_incompatible(answer: Result<String, Error>) -> Result<bool, Error> {
 
 #[test]
 fn composing_is_applied(rt: HostRuntime) -> Checked {
-    check_each(&COMPOSED, |(text, by, want)| {
-        check(text, compose(&rt, text, by), want)
-    })
+    for (text, by, want) in COMPOSED.iter() {
+        check(text, compose(&rt, text, by), want)?;
+    }
+    Ok(())
 }
 
 #[test]
 fn maps_that_cannot_be_composed_are_refused(rt: HostRuntime) -> Checked {
-    check_each(&INCOMPATIBLE, |(text, by)| {
-        check_that(text, is_incompatible(compose(&rt, text, by))?)
-    })
+    for (text, by) in INCOMPATIBLE.iter() {
+        check_that(text, is_incompatible(compose(&rt, text, by))?)?;
+    }
+    Ok(())
 }

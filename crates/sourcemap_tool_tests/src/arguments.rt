@@ -1,6 +1,6 @@
 // The arguments of the program, which need not be UTF-8.
 use sourcemap_cli::system::words;
-use sourcemap_test_support::checks::{Checked, check_each, check_that};
+use sourcemap_test_support::checks::{Checked, check_that};
 use std::alloc::Global;
 use std::env::{Env, FillError};
 use std::test::Fail;
@@ -73,7 +73,8 @@ static ARGUMENTS: [(&str, &[&[u8]], &[&str]); 6] = [
 
 #[test]
 fn a_word_that_is_no_text_leaves_none(rt: HostRuntime) -> Checked {
-    check_each(&ARGUMENTS, |(about, given, want)| {
-        check_that(about, are_words(&rt, given, want)?)
-    })
+    for (about, given, want) in ARGUMENTS.iter() {
+        check_that(about, are_words(&rt, given, want)?)?;
+    }
+    Ok(())
 }

@@ -4,7 +4,7 @@ use crate::memory::{check_after, unless_out};
 use crate::runs::words_of;
 use sourcemap::Error;
 use sourcemap_cli::program::{reply_to, run};
-use sourcemap_test_support::checks::{Checked, check_each, check_that, check_up_to};
+use sourcemap_test_support::checks::{Checked, check_that};
 use std::io;
 use std::io::ErrorKind;
 use std::test::Fail;
@@ -194,10 +194,11 @@ fn is_met(rt: &HostRuntime, words: &[String], row: &Row) -> Result<bool, Fail> {
 #[test]
 fn maps_are_composed(rt: HostRuntime) -> Checked {
     let words = words_of(rt.alloc(), "compose a.map")?;
-    check_each(&ROWS, |row| {
+    for row in ROWS.iter() {
         check_that(row.text, replies_with(&rt, words.as_slice(), row)?)?;
-        check_that(row.text, is_met(&rt, words.as_slice(), row)?)
-    })
+        check_that(row.text, is_met(&rt, words.as_slice(), row)?)?;
+    }
+    Ok(())
 }
 
 // `MAP` is the input, and `ADJUSTMENT` is the map in the file.
@@ -217,9 +218,10 @@ fn is_refused(rt: &HostRuntime, words: &[String], left: usize) -> Result<bool, F
 #[test]
 fn a_file_that_fails_is_refused(rt: HostRuntime) -> Checked {
     let words = words_of(rt.alloc(), "compose a.map")?;
-    check_up_to(ADJUSTMENT.len(), |left| {
-        check_after(left, is_refused(&rt, words.as_slice(), left)?)
-    })
+    for left in 0..=ADJUSTMENT.len() {
+        check_after(left, is_refused(&rt, words.as_slice(), left)?)?;
+    }
+    Ok(())
 }
 
 // A map, and the output of a run whose file is missing.
@@ -232,10 +234,11 @@ static MISSING: [(&str, &str); 2] = [
 fn a_file_that_is_missing_is_refused(rt: HostRuntime) -> Checked {
     let words = words_of(rt.alloc(), "compose b.map")?;
     let files = files_with("a.map", ADJUSTMENT);
-    check_each(&MISSING, |(input, text)| {
+    for (input, text) in MISSING.iter() {
         let is_so = is_run(&rt, &files, words.as_slice(), input, 1, text)?;
-        check_that(text, is_so)
-    })
+        check_that(text, is_so)?;
+    }
+    Ok(())
 }
 
 #[test]

@@ -4,7 +4,7 @@ use crate::runs::{MAP, USAGE, words_of};
 use sourcemap::{Error, decode};
 use sourcemap_cli::program::run;
 use sourcemap_cli::system::report_error;
-use sourcemap_test_support::checks::{Checked, check_below, check_each, check_that, check_up_to};
+use sourcemap_test_support::checks::{Checked, check_that};
 use sourcemap_test_support::readers::NarrowReader;
 use sourcemap_test_support::writers::{HaltingWriter, NarrowWriter};
 use std::io;
@@ -55,9 +55,10 @@ fn is_refused(rt: &HostRuntime, words: &[String], left: usize) -> Result<bool, F
 #[test]
 fn a_run_on_a_reader_that_fails_is_refused(rt: HostRuntime) -> Checked {
     let words = words_of(rt.alloc(), "lookup 0 5")?;
-    check_up_to(MAP.len(), |left| {
-        check_after(left, is_refused(&rt, words.as_slice(), left)?)
-    })
+    for left in 0..=MAP.len() {
+        check_after(left, is_refused(&rt, words.as_slice(), left)?)?;
+    }
+    Ok(())
 }
 
 // Whether `decode` returns an `Io` error for a reader that fails after `left` bytes.
@@ -70,9 +71,10 @@ fn is_read_error(rt: &HostRuntime, left: usize) -> Result<bool, Error> {
 
 #[test]
 fn a_reader_that_fails_is_not_decoded(rt: HostRuntime) -> Checked {
-    check_up_to(MAP.len(), |left| {
-        check_after(left, is_read_error(&rt, left)?)
-    })
+    for left in 0..=MAP.len() {
+        check_after(left, is_read_error(&rt, left)?)?;
+    }
+    Ok(())
 }
 
 // The first run uses a writer that takes one byte per write. This run must print `want`. For each
@@ -120,9 +122,10 @@ static LINES: [(&str, &str); 2] = [
 
 #[test]
 fn a_writer_that_fails_ends_the_run(rt: HostRuntime) -> Checked {
-    check_each(&LINES, |(line, want)| {
-        check_that(line, is_written_by(&rt, line, want.as_bytes())?)
-    })
+    for (line, want) in LINES.iter() {
+        check_that(line, is_written_by(&rt, line, want.as_bytes())?)?;
+    }
+    Ok(())
 }
 
 // The output of `lookup 0 5`.
@@ -158,9 +161,10 @@ fn a_writer_that_takes_nothing_ends_the_run(rt: HostRuntime) -> Checked {
     let words = words_of(rt.alloc(), "lookup 0 5")?;
     let is_written = is_written_when_interrupted(&rt, words.as_slice())?;
     check_that("interrupted", is_written)?;
-    check_below(LOOKED_UP.len(), |left| {
-        check_after(left, is_cut_off(&rt, words.as_slice(), left)?)
-    })
+    for left in 0..LOOKED_UP.len() {
+        check_after(left, is_cut_off(&rt, words.as_slice(), left)?)?;
+    }
+    Ok(())
 }
 
 // Each writer takes one byte per write. The first call of `report_error` uses a writer that does
@@ -204,10 +208,10 @@ static REPORTED: [(ErrorKind, &str); 2] = [
 
 #[test]
 fn errors_are_reported_unless_the_reader_is_gone(rt: HostRuntime) -> Checked {
-    check_each(&REPORTED, |(kind, want)| {
+    for (kind, want) in REPORTED.iter() {
         let error = Error::from(io::Error::from(*kind));
-        check_that(want, is_reported_as(&rt, &error, want.as_bytes())?)
-    })?;
+        check_that(want, is_reported_as(&rt, &error, want.as_bytes())?)?;
+    }
     let is_reported = is_reported_as(&rt, &Error::OutOfMemory, b"out of memory\n")?;
     check_that("out of memory", is_reported)
 }
@@ -250,7 +254,8 @@ fn a_writer_that_takes_nothing_ends_the_report(rt: HostRuntime) -> Checked {
     let full = Error::from(io::Error::from(ErrorKind::StorageFull));
     let is_reported = is_reported_when_interrupted(&rt, &full, None, FULL)?;
     check_that("interrupted", is_reported)?;
-    check_below(FULL.len(), |left| {
-        check_after(left, is_report_cut_off(&rt, &full, left)?)
-    })
+    for left in 0..FULL.len() {
+        check_after(left, is_report_cut_off(&rt, &full, left)?)?;
+    }
+    Ok(())
 }

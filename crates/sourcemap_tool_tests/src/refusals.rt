@@ -5,7 +5,7 @@ use crate::memory::{check_after, unless_out};
 use crate::runs::{MAP, is_run, words_of};
 use sourcemap::Error;
 use sourcemap_cli::program::run;
-use sourcemap_test_support::checks::{Checked, check_below, check_each, check_that, check_up_to};
+use sourcemap_test_support::checks::{Checked, check_that};
 use sourcemap_test_support::readers::HaltingReader;
 use sourcemap_test_support::results::owned_text;
 use std::alloc::Global;
@@ -32,10 +32,11 @@ fn is_answered(
 
 #[test]
 fn proper_beginnings_of_a_map_are_no_json(rt: HostRuntime) -> Checked {
-    check_below(MAP.len(), |end| {
+    for end in 0..MAP.len() {
         let beginning = MAP.get(..end).unwrap_or("{}");
-        check_after(end, is_answered(&rt, "tokens", beginning, 1, NO_JSON)?)
-    })
+        check_after(end, is_answered(&rt, "tokens", beginning, 1, NO_JSON)?)?;
+    }
+    Ok(())
 }
 
 const INNERMOST: &str = r#"{"sources":["a.js"],"mappings":"AAAA"}"#;
@@ -63,11 +64,12 @@ static NESTED: [(usize, &str, u8, &str); 4] = [
 #[test]
 fn indexes_in_one_another_are_read_to_some_depth(rt: HostRuntime) -> Checked {
     let alloc = rt.alloc();
-    check_each(&NESTED, |(depth, line, status, text)| {
+    for (depth, line, status, text) in NESTED.iter() {
         let map = nested_text(alloc, *depth)?;
         let is_so = is_answered(&rt, line, map.as_str(), *status, text)?;
-        check_that(line, is_so)
-    })
+        check_that(line, is_so)?;
+    }
+    Ok(())
 }
 
 // The map of a million tokens at position 0:0.
@@ -85,9 +87,10 @@ static LOOKUPS: [(&str, &str); 2] = [
 #[test]
 fn tokens_at_one_position_are_looked_up(rt: HostRuntime) -> Checked {
     let map = tokens_at_one_position(rt.alloc())?;
-    check_each(&LOOKUPS, |(line, text)| {
-        check_that(line, is_answered(&rt, line, map.as_str(), 0, text)?)
-    })
+    for (line, text) in LOOKUPS.iter() {
+        check_that(line, is_answered(&rt, line, map.as_str(), 0, text)?)?;
+    }
+    Ok(())
 }
 
 // Whether a run ends with this status and output. If the run runs out of memory and `text` is not
@@ -132,10 +135,10 @@ fn is_timed_out(rt: &HostRuntime, reads: usize) -> Result<bool, Fail> {
 
 #[test]
 fn failing_reads_are_reported(rt: HostRuntime) -> Checked {
-    check_up_to(MAP.len(), |reads| {
+    for reads in 0..=MAP.len() {
         check_after(reads, is_out_of_memory(&rt, reads)?)?;
-        check_after(reads, is_timed_out(&rt, reads)?)
-    })?;
+        check_after(reads, is_timed_out(&rt, reads)?)?;
+    }
     let answer = (0, "coolstuff.js:0:4 name=x\n");
     let is_so = reader_ends(&rt, usize::MAX, ErrorKind::TimedOut, answer)?;
     check_that("no read that fails", is_so)
@@ -262,9 +265,10 @@ fn file_ends(rt: &HostRuntime, row: &Row) -> Result<bool, Fail> {
 
 #[test]
 fn unreadable_files_are_reported(rt: HostRuntime) -> Checked {
-    check_each(&FILES, |row| {
-        check_that(row.0, file_ends(&rt, row)?)
-    })
+    for row in FILES.iter() {
+        check_that(row.0, file_ends(&rt, row)?)?;
+    }
+    Ok(())
 }
 
 // The words of runs that name the current directory.
@@ -274,8 +278,9 @@ static FOLDERS: [&str; 2] = ["compose .", "trace ."];
 #[test]
 fn a_folder_is_no_file(rt: HostRuntime) -> Checked {
     let want = (1, "Is a directory (os error 21)\n");
-    check_each(&FOLDERS, |line| {
+    for line in FOLDERS.iter() {
         let mut reader = HaltingReader::new(MAP.as_bytes(), usize::MAX, ErrorKind::TimedOut);
-        check_that(line, ends(&rt, &rt, line, &mut reader, want)?)
-    })
+        check_that(line, ends(&rt, &rt, line, &mut reader, want)?)?;
+    }
+    Ok(())
 }

@@ -4,7 +4,7 @@ use sourcemap::decode_slice;
 use sourcemap_cli::command::{Command, parse_words};
 use sourcemap_cli::output::apply;
 use sourcemap_cli::program::{reply_to, run};
-use sourcemap_test_support::checks::{Checked, check_each, check_that};
+use sourcemap_test_support::checks::{Checked, check_that};
 use sourcemap_trace::Counting;
 use std::alloc::{AllocError, Global};
 use std::test::Fail;
@@ -262,9 +262,10 @@ static JUNK: [(&str, &str, u8, &str); 4] = [
 
 #[test]
 fn junk_headers_are_recognised(rt: HostRuntime) -> Checked {
-    check_each(&JUNK, |(line, input, status, text)| {
-        check_that(input, is_answered(&rt, line, input, *status, text)?)
-    })
+    for (line, input, status, text) in JUNK.iter() {
+        check_that(input, is_answered(&rt, line, input, *status, text)?)?;
+    }
+    Ok(())
 }
 
 // Whether words parse to this command.

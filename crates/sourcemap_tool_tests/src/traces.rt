@@ -5,7 +5,7 @@ use crate::memory::{check_after, unless_out};
 use crate::runs::{MAP, TWO, words_of};
 use sourcemap::{DecodedMap, Error, decode_slice};
 use sourcemap_cli::program::{reply_to, run};
-use sourcemap_test_support::checks::{Checked, check, check_each, check_that, check_up_to};
+use sourcemap_test_support::checks::{Checked, check, check_that};
 use sourcemap_trace::{Counting, trace_text, trace_text_from};
 use std::alloc::Global;
 use std::test::Fail;
@@ -177,10 +177,10 @@ fn trace_of(
 
 #[test]
 fn positions_are_answered(rt: HostRuntime) -> Checked {
-    check_each(&TRACES, |(map, positions, want)| {
+    for (map, positions, want) in TRACES.iter() {
         let got = trace_of(&rt, Counting::From0, map, positions.as_bytes());
-        check(positions, got, want)
-    })?;
+        check(positions, got, want)?;
+    }
     let got = trace_of(&rt, Counting::From0, MAP, b"\xff:5\n0:5");
     let want = "bad position\ncoolstuff.js:0:4 name=x\n";
     check("bytes that are not UTF-8", got, want)
@@ -188,10 +188,11 @@ fn positions_are_answered(rt: HostRuntime) -> Checked {
 
 #[test]
 fn positions_from_1_are_answered(rt: HostRuntime) -> Checked {
-    check_each(&TRACES_FROM_1, |(map, positions, want)| {
+    for (map, positions, want) in TRACES_FROM_1.iter() {
         let got = trace_of(&rt, Counting::From1, map, positions.as_bytes());
-        check(positions, got, want)
-    })
+        check(positions, got, want)?;
+    }
+    Ok(())
 }
 
 fn traces_to(rt: &HostRuntime, positions: &[u8], want: &str) -> Result<bool, Error> {
@@ -261,9 +262,10 @@ fn is_answered(rt: &HostRuntime, words: &[String], row: &Row) -> Result<bool, Fa
 
 fn check_answers(rt: &HostRuntime, line: &str, rows: &[Row]) -> Checked {
     let words = words_of(rt.alloc(), line)?;
-    check_each(rows, |row| {
-        check_that(row.1, is_answered(rt, words.as_slice(), row)?)
-    })
+    for row in rows {
+        check_that(row.1, is_answered(rt, words.as_slice(), row)?)?;
+    }
+    Ok(())
 }
 
 #[test]
@@ -283,9 +285,10 @@ fn is_refused(rt: &HostRuntime, words: &[String], left: usize) -> Result<bool, F
 #[test]
 fn files_of_positions_may_fail(rt: HostRuntime) -> Checked {
     let words = words_of(rt.alloc(), "trace a.txt")?;
-    check_up_to(5, |left| {
-        check_after(left, is_refused(&rt, words.as_slice(), left)?)
-    })
+    for left in 0..=5 {
+        check_after(left, is_refused(&rt, words.as_slice(), left)?)?;
+    }
+    Ok(())
 }
 
 #[test]

@@ -6,7 +6,7 @@ use sourcemap::{
     DecodedMap, Error, Result, SourceMap, SourceMapBuilder, SourceMapHermes, SourceMapIndex,
     SourceView, decode_slice,
 };
-use sourcemap_test_support::checks::{Checked, check, check_each, check_that};
+use sourcemap_test_support::checks::{Checked, check, check_that};
 use sourcemap_test_support::results::{box_result, error_text, owned_text};
 use sourcemap_uses::adjusting::lookup_adjusted;
 use sourcemap_uses::building::lookup_once_written;
@@ -237,9 +237,10 @@ fn lookup_after(alloc: Global, text: &str, later: &str, position: (u32, u32)) ->
 #[test]
 fn positions_are_looked_up_after_adjusting(rt: HostRuntime) -> Checked {
     let alloc = rt.alloc();
-    check_each(&ADJUSTED_LOOKUPS, |(text, later, position, want)| {
-        check(want, lookup_after(alloc, text, later, *position), want)
-    })
+    for (text, later, position, want) in ADJUSTED_LOOKUPS.iter() {
+        check(want, lookup_after(alloc, text, later, *position), want)?;
+    }
+    Ok(())
 }
 
 fn look_up_written(alloc: Global) -> Result<Option<(u32, u32)>> {
@@ -308,9 +309,10 @@ fn find_map_text(alloc: Global, text: &str) -> Result<String> {
 #[test]
 fn a_text_names_its_map(rt: HostRuntime) -> Checked {
     let alloc = rt.alloc();
-    check_each(&FOUND, |(text, want)| {
-        check(text, find_map_text(alloc, text), want)
-    })
+    for (text, want) in FOUND.iter() {
+        check(text, find_map_text(alloc, text), want)?;
+    }
+    Ok(())
 }
 
 // Appends the sources of a map, each after a blank.
@@ -444,9 +446,9 @@ fn is_refused(alloc: Global, text: &str) -> Result<bool> {
 #[test]
 fn indexes_are_compared_with_their_flat_maps(rt: HostRuntime) -> Checked {
     let alloc = rt.alloc();
-    check_each(&KEPT, |(text, line, col, want)| {
-        check_that(text, is_kept(alloc, text, *line, *col)? == *want)
-    })?;
+    for (text, line, col, want) in KEPT.iter() {
+        check_that(text, is_kept(alloc, text, *line, *col)? == *want)?;
+    }
     // `linked` has no token for 0:0 but cannot be flattened, so `is_kept_flat` returns an error.
     let linked = r#"{"sections":[{"offset":{"line":1,"column":0},"url":"u"}]}"#;
     check_that(linked, is_refused(alloc, linked)?)
@@ -494,10 +496,11 @@ static SAVED: [(u32, u32, &str); 3] = [(1, 3, "a.js:0:0"), (3, 7, ""), (4, 0, "b
 #[test]
 fn a_saved_index_keeps_its_meaning(rt: HostRuntime) -> Checked {
     let alloc = rt.alloc();
-    check_each(&SAVED, |(line, col, want)| {
+    for (line, col, want) in SAVED.iter() {
         let position = lookup_once_saved(alloc, LATE, *line, *col);
-        check(want, text_or_empty(alloc, position), want)
-    })
+        check(want, text_or_empty(alloc, position), want)?;
+    }
+    Ok(())
 }
 
 const BUNDLE: &str = concat!(
@@ -532,9 +535,10 @@ fn line_total_text(alloc: Global, text: &str) -> Result<String> {
 #[test]
 fn lines_are_counted_by_their_ends(rt: HostRuntime) -> Checked {
     let alloc = rt.alloc();
-    check_each(&LINE_TOTALS, |(text, want)| {
-        check(text, line_total_text(alloc, text), want)
-    })
+    for (text, want) in LINE_TOTALS.iter() {
+        check(text, line_total_text(alloc, text), want)?;
+    }
+    Ok(())
 }
 
 fn export_text(alloc: Global, text: &str) -> Result<String> {
