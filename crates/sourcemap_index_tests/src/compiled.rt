@@ -125,16 +125,8 @@ fn contents(alloc: Global, text: &str, id: u32, choice: WithContents) -> Result<
 fn contents_of_sources(rt: HostRuntime) -> Checked {
     let alloc = rt.alloc();
     for (text, id, with, without) in CONTENTS.iter() {
-        check(
-            text,
-            contents(alloc, text, *id, WithContents::Yes),
-            with,
-        )?;
-        check(
-            text,
-            contents(alloc, text, *id, WithContents::No),
-            without,
-        )?;
+        check(text, contents(alloc, text, *id, WithContents::Yes), with)?;
+        check(text, contents(alloc, text, *id, WithContents::No), without)?;
     }
     Ok(())
 }
