@@ -1,7 +1,7 @@
 -- The findings of a map are exactly the rules that the maps in it break.
-use Rattle.std.proofs.Common.{◌≡◌, ℕ, zero, suc, ◌+◌, ◌<◌, Bool, true, false, List, [], ◌∷◌, ◌++◌, map, length}
-use Rattle.std.proofs.Common.{◌⊎◌, inl, inr, refl, sym, ap, subst, ◌∙◌, arith, lit<, Option, Some, None, codes}
-use Rattle.std.specs.Prelude.{Contains, slice_get, is_some, if◌then◌else◌, filter}
+use Rattle.std.proofs.Common.{◌≡◌, ℕ, zero, suc, ◌+◌, Bool, true, false, List, [], ◌∷◌, ◌++◌, map, length}
+use Rattle.std.proofs.Common.{◌⊎◌, inl, inr, refl, sym, ap, subst, ◌∙◌, arith, lit<, Option, Some, None}
+use Rattle.std.specs.Prelude.{Contains, slice_get, is_some, if◌then◌else◌}
 use Rattle.std.specs.Option.{option_map_or}
 use Rattle.std.proofs.lemmas.List.{map-append, length-append}
 use Rattle.std.proofs.lemmas.List.Elements.{Contains-append_left, Contains-append_right, Contains-append_cases}
@@ -29,13 +29,12 @@ use Rattle.sourcemap_check_report.proofs.ReportLemmas.{finding_is}
 use Rattle.sourcemap_check_report.proofs.ElementLemmas.{slice_get-left, slice_get-right, slice_get-cases}
 use Rattle.sourcemap_check_keys.specs.MapRules.{is_index, breaks as breaks_map}
 use Rattle.sourcemap_check_keys.specs.SectionRules.{breaks as breaks_section}
-use Rattle.sourcemap_check_segments.specs.Rules.{IsBroken}
 use Rattle.sourcemap_check_segments.specs.Findings.{findings_of}
 use Rattle.sourcemap_check_segments.proofs.ExactLemmas.{IsBrokenRule-found, found_broken}
 use Rattle.sourcemap_check.specs.declared.sections.Previous.{Previous}
 use Rattle.sourcemap_check.specs.declared.tree.MapPlace.{MapPlace}
 use Rattle.sourcemap_check.specs.Trees.{Tree, tree, Sections, no_sections, bare, mapped, tree_of}
-use Rattle.sourcemap_check.specs.Positions.{start_of, last_of, moved_by}
+use Rattle.sourcemap_check.specs.Positions.{start_of}
 use Rattle.sourcemap_check.specs.Maps.{MapIn, map_count, section_count, maps_in, maps_below, maps_of}
 use Rattle.sourcemap_check.specs.Findings.{at, key_findings, text_findings, counts_at, text_at, none_before}
 use Rattle.sourcemap_check.specs.Findings.{is_out_of_order, is_overlap, order_findings, section_key_findings}

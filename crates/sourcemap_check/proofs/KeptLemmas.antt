@@ -8,7 +8,7 @@ use Rattle.std.specs.Ordering.{match_ordering}
 use Rattle.serde_json.specs.Data.{Data, null, boolean, number, string, array, object, Items, no_items, item}
 use Rattle.serde_json.specs.Data.{Members, no_members, member}
 use Rattle.serde_json.specs.Find.{get, get_member, as_array, as_str, as_object}
-use Rattle.sourcemap_json_read.specs.Kept.{at_key, all_items, kept, kept_items, kept_list, kept_members}
+use Rattle.sourcemap_json_read.specs.Kept.{at_key, all_items, kept, kept_items, kept_members}
 use Rattle.sourcemap_json_read.proofs.KeptLemmas.{get_member-kept}
 use Rattle.sourcemap_check_report.specs.declared.rules.MapRule.{MapRule}
 use Rattle.sourcemap_check_report.specs.declared.rules.MapRule.TheVariants.{VersionMissing, VersionType, VersionValue}
@@ -44,8 +44,8 @@ use Rattle.sourcemap_check.specs.Trees.{Tree, tree, Sections as Parts, no_sectio
 use Rattle.sourcemap_check.specs.Trees.{sections_in, sections_of, sections_from, inner_of, map_tree}
 use Rattle.sourcemap_check.specs.Positions.{start_of, position_from, moved_by, last_of, last_in, later_of, text_last}
 use Rattle.sourcemap_check.specs.Maps.{map_count, section_count}
-use Rattle.sourcemap_check.specs.Findings.{at, key_findings, text_findings, counts_at, text_at, section_findings}
-use Rattle.sourcemap_check.specs.Findings.{section_key_findings, order_findings, tree_findings, sections_findings}
+use Rattle.sourcemap_check.specs.Findings.{at, key_findings, text_findings, text_at, section_findings}
+use Rattle.sourcemap_check.specs.Findings.{order_findings, tree_findings, sections_findings}
 use Rattle.sourcemap_check.specs.Steps.{places, places_below}
 use Rattle.sourcemap_check.specs.Validity.{value_findings, value_places}
 use Rattle.sourcemap_check.proofs.ExactLemmas.{places-maps_in}

@@ -1,6 +1,6 @@
 -- When a map breaks a rule: by its keys, by a section, by a segment.
 use Rattle.std.specs.Prelude.{◌≡◌, ℕ, zero, suc, Bool, false, List, [], ◌∷◌, Option, Some, None, option_and_then}
-use Rattle.std.specs.Prelude.{slice_get, codes, IsTrue}
+use Rattle.std.specs.Prelude.{slice_get, IsTrue}
 use Rattle.std.specs.Option.{option_map_or}
 use Rattle.serde_json.specs.Data.{Data}
 use Rattle.sourcemap_check_report.specs.declared.report.Finding.{Finding}

@@ -1,6 +1,6 @@
 -- The findings of a text are exactly the broken rules.
-use Rattle.std.proofs.Common.{◌≡◌, ℕ, zero, suc, ◌+◌, Bool, true, List, [], ◌∷◌, ◌++◌, map, take, length}
-use Rattle.std.proofs.Common.{lit<, sym, ◌∙◌, ap, refl, subst, append_assoc, arith, inl, inr, Some, ◌⊎◌, add-one}
+use Rattle.std.proofs.Common.{◌≡◌, ℕ, zero, suc, ◌+◌, Bool, true, List, [], ◌∷◌, ◌++◌, map, take}
+use Rattle.std.proofs.Common.{lit<, sym, ◌∙◌, ap, refl, subst, append_assoc, arith, inl, inr, Some, add-one}
 use Rattle.std.specs.Prelude.{filter, Contains, slice_get}
 use Rattle.std.proofs.lemmas.List.{append-nil}
 use Rattle.std.proofs.lemmas.List.Elements.{Contains-append_left, Contains-append_right, Contains-append_cases}

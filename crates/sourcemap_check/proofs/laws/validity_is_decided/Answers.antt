@@ -1,4 +1,4 @@
-use Rattle.std.proofs.Common.{◌≡◌, ℕ, List, [], ◌∷◌, Some, None, inl, inr, sym, ap, ◌∙◌, subst, refl, true}
+use Rattle.std.proofs.Common.{◌≡◌, ℕ, List, [], Some, None, inl, inr, sym, ap, ◌∙◌, subst, refl, true}
 use Rattle.std.specs.Prelude.{Contains, slice_get, is_some}
 use Rattle.serde_json.specs.Data.{Data, null, boolean, number, string, array, object}
 use Rattle.serde_json.specs.Find.{as_object}
