@@ -34,7 +34,7 @@ OUT_OF_MEMORY = re.compile(
 # the tests that allocate nothing; any other in which no allocation is intercepted was not swept
 WITHOUT_MEMORY = {'sourcemap_hermes_tests indexed::tests_of_bytes', 'sourcemap_uses_tests uses::errors_have_advice',
                   'sourcemap_compiled_tests lookups::constants', 'sourcemap_compiled_tests lookups::debug_ids',
-                  'sourcemap_compiled_tests lookups::getters_of_tokens'}
+                  'sourcemap_compiled_tests lookups::getters_of_tokens', 'sourcemap_check_tests lists::contents_look_wrong'}
 
 # what the kit adds to the message of a test that returned an error
 RETURNED = re.compile(rb'\nthe test failed: its result gives status 1\s*\Z')

@@ -3,10 +3,10 @@
 
     bindings/python/bench_batch.py MAPS WORK [--frames N] [--maps N] [--workers 1,2,4] [--rounds N]
 
-MAPS is a folder with maps, such as those of a corpus: the largest ones are taken, at most 200 (--maps). WORK is a folder that is made: it gets the release, a table with 10,000,000 frames (--frames), and the output.
-A table that is there already is used again. The frames are drawn at random: a map, a token of it, and a column up to two
-behind it. Each number of workers takes the table some times (--rounds, 1), and the least time counts. The maps are
-compiled before.
+MAPS is a folder with maps, such as those of a corpus: the largest ones are taken, at most 200 (--maps). WORK is a folder
+that is made: it gets the release, a table with 10,000,000 frames (--frames), and the output. A table that is there
+already is used again. The frames are drawn at random: a map, a token of it, and a column up to two behind it. Each number
+of workers takes the table some times (--rounds, 1), and the least time counts. The maps are compiled before.
 
 The memory of a worker is what it has of its own (Anonymous in /proc/PID/smaps_rollup), the most that was seen ten times a
 second; pages of mapped files are not in it. The profile is of one process and a tenth of the frames.
@@ -64,7 +64,7 @@ def write_release(maps, folder, most):
 
 def write_frames(taken, count, path):
     drawn = np.random.default_rng(1)
-    names = [f'https://cdn.example/build/{name}' for name, _ in taken]
+    names = [f'https://cdn.example/build/{name}'.encode() for name, _ in taken]
     with open(path, 'wb') as file:
         file.write(HEAD)
         for first in range(0, count, 1_000_000):
@@ -103,7 +103,8 @@ def look_at(pid):
 def measure(words):
     """Runs the program. Returns the seconds, those of the processor, the most own memory of a process, the last line."""
     began = time.monotonic()
-    program = subprocess.Popen([sys.executable, '-m', 'sourcemap', 'batch', *words], stderr=subprocess.PIPE, text=True)
+    program = subprocess.Popen([sys.executable, '-m', 'sourcemap', 'batch', *words], stderr=subprocess.PIPE, text=True,
+                               env={**os.environ, 'PYTHONPATH': str(Path(sourcemap.__file__).parents[1])})
     most, used = 0, {}
     while program.poll() is None:
         for each, (own, seconds) in look_at(program.pid).items():
@@ -117,7 +118,7 @@ def measure(words):
 
 
 def profile(frames, release, count):
-    with tempfile.TemporaryDirectory() as folder, Table(frames, 8_000_000, Path(folder)) as table:
+    with tempfile.TemporaryDirectory() as folder, Table(frames, sourcemap.batch.PARTITION, Path(folder)) as table:
         format = job.Format('csv', False)
         run = job.Job(release, format, table.names, 1, folder)
         profiler = cProfile.Profile(time.process_time)

@@ -1,17 +1,42 @@
 """The packages of a release. Each function takes a folder to work in and the folder of the release, and returns the name
 of the file that it made there. Modification times are SOURCE_DATE_EPOCH, owners root."""
 import gzip, json, os, pathlib, re, shutil, subprocess, tarfile
+from dataclasses import dataclass
+from functools import partial
 from .tree import BINDINGS, CRATE_VERSION, Refused, TOP, VERSION, output_of, run
 
 # the system's, for which Debian has pip, setuptools and wheel
 PYTHON = '/usr/bin/python3'
-TOOLS = {'cc': 'gcc', 'ar': 'binutils', 'dpkg-deb': 'dpkg', 'node': 'nodejs', 'npm': 'npm', 'cargo': 'cargo'}
-LIBRARY = BINDINGS / 'c/out'
+TOOLS = {'cc': 'gcc', 'ar': 'binutils', 'dpkg-deb': 'dpkg', 'node': 'nodejs', 'npm': 'npm', 'cargo': 'cargo',
+         'aarch64-linux-gnu-gcc': 'gcc-aarch64-linux-gnu'}
+
+
+@dataclass(frozen=True)
+class Machine:
+    name: str
+    debian: str
+    options: tuple
+    library: pathlib.Path
+    objdump: str
+
+    @property
+    def triplet(self):
+        return f'{self.name}-linux-gnu'
+
+    def glibc(self):
+        """The oldest release of glibc, but none before 2.17, that has all that the shared library calls, as `2.17`."""
+        symbols = output_of(self.objdump, '-T', self.library / 'libsourcemap.so')
+        minor = max(17, *(int(version) for version in re.findall(r'GLIBC_2[.]([0-9]+)', symbols)))
+        return f'2.{minor}'
+
+
+X86 = Machine('x86_64', 'amd64', (), BINDINGS / 'c/out', 'objdump')
+ARM = Machine('aarch64', 'arm64', ('--aarch64',), BINDINGS / 'c/out/aarch64', 'aarch64-linux-gnu-objdump')
 DEBIAN = 'libfurzehearth-sourcemap-dev'
 CONTROL = """\
 Package: {name}
 Version: {version}
-Architecture: amd64
+Architecture: {machine}
 Maintainer: Furzehearth <packages@furzehearth.invalid>
 Section: libdevel
 Priority: optional
@@ -35,16 +60,9 @@ def epoch():
     return int(os.environ['SOURCE_DATE_EPOCH'])
 
 
-def glibc():
-    """The oldest release of glibc, but none before 2.17, that has all that the shared library calls, as `2.17`."""
-    symbols = output_of('objdump', '-T', LIBRARY / 'libsourcemap.so')
-    minor = max(17, *(int(version) for version in re.findall(r'GLIBC_2[.]([0-9]+)', symbols)))
-    return f'2.{minor}'
-
-
-def install_c(prefix, library='lib'):
+def install_c(machine, prefix, library='lib'):
     """Copies header, libraries and sourcemap.pc below a prefix."""
-    run(BINDINGS / 'c/install', '--no-program', prefix)
+    run(BINDINGS / 'c/install', *(machine.options or ['--no-program']), prefix)
     if library != 'lib':
         moved = (prefix / 'lib').rename(prefix / 'moved')
         (prefix / library).parent.mkdir(parents=True)
@@ -64,32 +82,34 @@ def write_tar(folder, file, root):
             tar.add(path, pathlib.Path(root, path.relative_to(folder)), recursive=False, filter=plain)
 
 
-def c_library(work, dist):
-    run(BINDINGS / 'c/build')
-    install_c(work)
+def c_library(machine, work, dist):
+    run(BINDINGS / 'c/build', *machine.options)
+    install_c(machine, work)
     for page in ('LICENSE', 'bindings/c/README.md'):
         shutil.copy(TOP / page, work)
-    name = f'sourcemap-{VERSION}-x86_64-linux'
+    name = f'sourcemap-{VERSION}-{machine.name}-linux'
     write_tar(work, dist / f'{name}.tar.gz', name)
     return f'{name}.tar.gz'
 
 
-def debian(work, dist):
-    install_c(work / 'usr', 'lib/x86_64-linux-gnu')
-    pc = work / 'usr/lib/x86_64-linux-gnu/pkgconfig/sourcemap.pc'
+def debian(machine, work, dist):
+    library = f'lib/{machine.triplet}'
+    install_c(machine, work / 'usr', library)
+    pc = work / 'usr' / library / 'pkgconfig/sourcemap.pc'
     lines = pc.read_text().splitlines(True)
     pc.write_text(''.join('prefix=/usr\n' if line.startswith('prefix=') else
-                          'libdir=${prefix}/lib/x86_64-linux-gnu\n' if line.startswith('libdir=') else line for line in lines))
+                          f'libdir=${{prefix}}/{library}\n' if line.startswith('libdir=') else line for line in lines))
     page = work / 'usr/share/doc' / DEBIAN / 'copyright'
     page.parent.mkdir(parents=True)
     shutil.copy(TOP / 'LICENSE', page)
     (work / 'DEBIAN').mkdir()
-    (work / 'DEBIAN/control').write_text(CONTROL.format(name=DEBIAN, version=VERSION, glibc=glibc(), crate=CRATE_VERSION))
+    (work / 'DEBIAN/control').write_text(CONTROL.format(
+        name=DEBIAN, version=VERSION, machine=machine.debian, glibc=machine.glibc(), crate=CRATE_VERSION))
     (work / 'DEBIAN/triggers').write_text('activate-noawait ldconfig\n')
     for path in work.rglob('*'):
         if not path.is_symlink():
             path.chmod(0o755 if path.is_dir() else 0o644)
-    name = f'{DEBIAN}_{VERSION}_amd64.deb'
+    name = f'{DEBIAN}_{VERSION}_{machine.debian}.deb'
     run('dpkg-deb', '--root-owner-group', '--build', work, dist / name)
     return name
 
@@ -114,9 +134,12 @@ def edit(file, *pairs):
 
 def wheel(work, dist):
     copy_package('python', work)
-    shutil.copy(LIBRARY / 'libsourcemap.so', work / 'sourcemap')
-    edit(work / 'pyproject.toml', ('["py.typed", "*.html"]', '["py.typed", "*.html", "*.so"]'))
-    tag = f'manylinux_{glibc().replace(".", "_")}_x86_64'
+    (work / 'sourcemap/lib').mkdir()
+    shutil.copy(X86.library / 'libsourcemap.so', work / 'sourcemap/lib')
+    run(BINDINGS / 'web/build')
+    shutil.copy(BINDINGS / 'web/out/viewer.html', work / 'sourcemap')
+    edit(work / 'pyproject.toml', ('["py.typed", "*.html"]', '["py.typed", "*.html", "lib/*.so"]'))
+    tag = f'manylinux_{X86.glibc().replace(".", "_")}_x86_64'
     (work / 'setup.cfg').write_text(f'[bdist_wheel]\npython_tag = py3\nplat_name = {tag}\n')
     run(PYTHON, '-m', 'pip', 'wheel', '--no-deps', '--no-build-isolation', '--no-index', '--wheel-dir', work / 'made', work)
     (made,) = (work / 'made').iterdir()
@@ -126,7 +149,7 @@ def wheel(work, dist):
 
 def node(work, dist):
     copy_package('node', work)
-    run(BINDINGS / 'node/build', SOURCEMAP_LIBRARY_DIR=str(LIBRARY))
+    run(BINDINGS / 'node/build', SOURCEMAP_LIBRARY_DIR=str(X86.library))
     (work / 'out').mkdir()
     shutil.copy(BINDINGS / 'node/out/sourcemap.node', work / 'out')
     made = json.loads(run('npm', 'pack', '--json', '--offline', '--ignore-scripts', '--pack-destination', dist, cwd=work))
@@ -136,7 +159,7 @@ def node(work, dist):
 def crate(work, dist):
     copy_package('rust', work)
     (work / 'lib').mkdir()
-    shutil.copy(LIBRARY / 'libsourcemap.a', work / 'lib')
+    shutil.copy(X86.library / 'libsourcemap.a', work / 'lib')
     edit(work / 'Cargo.toml', ('"../../LICENSE"', '"LICENSE"'))
     run('cargo', 'package', '--offline', '--no-verify', '--allow-dirty', cwd=work)
     name = f'sourcemap-{CRATE_VERSION}+{VERSION}.crate'
@@ -144,4 +167,4 @@ def crate(work, dist):
     return name
 
 
-ALL = (c_library, debian, wheel, node, crate)
+ALL = (*(partial(make, machine) for machine in (X86, ARM) for make in (c_library, debian)), wheel, node, crate)

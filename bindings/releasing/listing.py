@@ -1,6 +1,6 @@
 """What a release says of itself: the verdicts, what is inside, and the sums of its files."""
 import datetime, hashlib, json, pathlib, re
-from .tree import CRATE_VERSION, TOP, VERSION, epoch, output_of
+from .tree import CRATE_VERSION, Refused, TOP, VERSION, epoch, last_counts, output_of
 
 KIT = pathlib.Path(output_of('rt', 'doc').strip()).parent
 
@@ -30,11 +30,13 @@ def write_proof(dist, commit, lines):
     """The verdicts of `rt ci` on this commit, in the order of crates.txt: whether a run kept them or made them is left out."""
     proved = {found[1] for found in (re.match(r'rt: (\S+)(?: is kept:| proved$)', line) for line in lines) if found}
     refused = sorted({found[1] for found in (re.match(r'(?:rt: )?must-fail (\S+): refused', line) for line in lines) if found})
-    last = next(line for line in reversed(lines) if re.match(r'\d+ passed, 0 failed', line))
+    missing = sorted(set(listed_crates()) - proved)
+    if missing:
+        raise Refused(f'rt ci has no verdict on {" ".join(missing)}')
     (dist / 'PROOF.txt').write_text('\n'.join([
         f'commit {commit}', output_of('rt', 'version').strip(), (TOP / 'HANDLES').read_text().strip(), '',
         *(f'{name}: proved' for name in listed_crates() if name in proved), '',
-        *(f'must-fail {name}: refused' for name in refused), '', last, '']))
+        *(f'must-fail {name}: refused' for name in refused), '', last_counts(lines), '']))
 
 
 LICENCES = {'LICENSE-MIT': 'MIT', 'LICENSE-APACHE': 'Apache-2.0'}

@@ -38,12 +38,38 @@ def epoch():
     return int(os.environ.get('SOURCE_DATE_EPOCH') or output_of('git', 'log', '-1', '--format=%ct'))
 
 
-def verdicts():
-    """The lines of `rt ci` that say what is proved, and its last line. Refuses a tree in which something is not."""
-    print('release: rt ci', flush=True)
-    ran = subprocess.run(['rt', 'ci'], cwd=TOP, stdin=subprocess.DEVNULL, stdout=subprocess.PIPE, stderr=subprocess.STDOUT)
-    lines = ran.stdout.decode(errors='replace').splitlines()
-    last = next((line for line in reversed(lines) if re.match(r'\d+ passed, \d+ failed', line)), '')
-    if ran.returncode or not re.match(r'[1-9]\d* passed, 0 failed', last):
-        raise Refused(f'rt ci ended with status {ran.returncode} and {last or "no verdict"}')
+def last_counts(lines):
+    return next((line for line in reversed(lines) if re.match(r'\d+ passed, \d+ failed', line)), 'no verdict')
+
+
+def run_ci(out):
+    return subprocess.run(['rt', 'ci'], cwd=TOP, stdin=subprocess.DEVNULL, stdout=out, stderr=subprocess.STDOUT).returncode
+
+
+def log_head(commit):
+    return [f'commit {commit}', output_of('rt', 'version').strip()]
+
+
+def prove(log):
+    """Writes to a file what `rt ci` says of this commit. The first two lines name the commit and the kit, the last one the
+    status and the commit."""
+    with open(log, 'w') as out:
+        commit = clean_commit()
+        out.write('\n'.join([*log_head(commit), '']))
+        out.flush()
+        status = run_ci(out)
+        if clean_commit() != commit:
+            raise Refused('the tree is at another commit than when rt ci began')
+        out.write(f'\nended with {status}, commit {commit}\n')
+    verdicts(commit, log)
+
+
+def verdicts(commit, log):
+    """The lines of `rt ci` in a file that `prove` wrote on this commit. Refuses one of another commit or another kit, one that
+    ends early, and one in which something is not proved."""
+    lines = pathlib.Path(log).read_text(errors='replace').splitlines()
+    if lines[:2] != log_head(commit):
+        raise Refused(f'{log} begins with {lines[:2]}, and not with {log_head(commit)}')
+    if lines[-1] != f'ended with 0, commit {commit}' or not re.match(r'[1-9]\d* passed, 0 failed$', last_counts(lines)):
+        raise Refused(f'{log} ends with {lines[-1]!r} and {last_counts(lines)}')
     return lines

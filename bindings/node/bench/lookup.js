@@ -6,14 +6,12 @@
 //
 // For each map, and for positions at random and in order, it prints how many
 // milliseconds of processor time each way takes to open the map and to answer a
-// million positions: the median of some rounds, in which all ways take turns.
-// `each by addon` makes a call into the addon for each position. The package does
-// not do so, and these times are the reason.
+// million positions: the median of some rounds, in which all ways take turns. The
+// positions are at random, these in order, and those of the tokens, one after another.
+// `segments` is traceSegment of both packages, which remapping calls for each token.
 
 const { readFileSync } = require('node:fs');
 const sourcemap = require('..');
-const { native } = require('../lib/native.js');
-const { mappingsOf } = require('../lib/trace-map.js');
 const { peer, skip } = require('../support/peer.js');
 const { Random } = require('../support/random.js');
 
@@ -46,23 +44,13 @@ function sumOf(answers) {
   return sum;
 }
 
-function askAddon(map, positions) {
-  const { handle } = mappingsOf(map);
-  const { resolvedSources, names } = map;
-  const answer = new Uint32Array(4);
-  const call = (_, { line, column }) => {
-    native.lookup(handle, line - 1, column, answer);
-    const source = answer[0];
-    if (source === sourcemap.NONE) return { source: null, line: null, column: null, name: null };
-    const name = answer[3];
-    return {
-      source: resolvedSources[source],
-      line: answer[1],
-      column: answer[2],
-      name: name === sourcemap.NONE ? null : names[name],
-    };
-  };
-  return askPositions(call, map, positions);
+function askSegments({ traceSegment }, map, positions) {
+  let sum = 0;
+  for (let i = 0; i < positions.length; i += 2) {
+    const segment = traceSegment(map, positions[i] - 1, positions[i + 1]);
+    if (segment !== null && segment.length > 1) sum += segment[2] + 1 + segment[3];
+  }
+  return sum;
 }
 
 const ways = {
@@ -70,7 +58,8 @@ const ways = {
   'this package': (text, positions) =>
     askPositions(sourcemap.originalPositionFor, new sourcemap.AnyMap(text), positions),
   'in one call': (text, positions) => sumOf(sourcemap.originalPositionsFor(new sourcemap.AnyMap(text), positions)),
-  'each by addon': (text, positions) => askAddon(new sourcemap.AnyMap(text), positions),
+  'its segments': (text, positions) => askSegments(peer, new peer.AnyMap(text), positions),
+  segments: (text, positions) => askSegments(sourcemap, new sourcemap.AnyMap(text), positions),
 };
 
 function processorTime() {
@@ -99,8 +88,14 @@ function measure(text, positions) {
 
 function report(file) {
   const text = readFileSync(file, 'utf8').replace(/^[)\]}'][^\n]*/, '');
-  const random = randomPositions(sourcemap.decodedMappings(sourcemap.AnyMap(text)));
-  const orders = { random, 'in order': [...random].sort((a, b) => a[0] - b[0] || a[1] - b[1]) };
+  const mappings = sourcemap.decodedMappings(sourcemap.AnyMap(text));
+  const random = randomPositions(mappings);
+  const tokens = mappings.flatMap((line, number) => line.map(([column]) => [number + 1, column]));
+  const orders = {
+    random,
+    'in order': [...random].sort((a, b) => a[0] - b[0] || a[1] - b[1]),
+    'each token': Array.from({ length: COUNT }, (_, i) => tokens[i % tokens.length]),
+  };
   for (const [order, list] of Object.entries(orders)) {
     const medians = measure(text, Uint32Array.from(list.flat()));
     const peers = medians['trace-mapping'];

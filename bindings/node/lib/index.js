@@ -1,7 +1,7 @@
 'use strict';
 
 const { native, SourceMapError } = require('./native.js');
-const { TraceMap, FlattenMap, mappingsOf, tokensOf, checkTraceMap } = require('./trace-map.js');
+const { TraceMap, FlattenMap, mappingsOf, lookupOf, tokensOf, checkTraceMap } = require('./trace-map.js');
 const { CompiledMap, compile } = require('./compiled-map.js');
 const { NONE } = require('./mappings.js');
 const {
@@ -20,6 +20,10 @@ const GREATEST_LOWER_BOUND = 1;
 /** How many numbers the answer of `originalPositionsFor` to one position has. */
 const ANSWER_WORDS = 4;
 
+function noPosition() {
+  return { source: null, line: null, column: null, name: null };
+}
+
 function sourceIndex(map, source) {
   checkTraceMap(map);
   checkSource(source);
@@ -32,7 +36,7 @@ function sourceIndex(map, source) {
 function originalOf(map, { originals }, index) {
   const at = 4 * index;
   const source = originals[at];
-  if (source === NO_ID) return { source: null, line: null, column: null, name: null };
+  if (source === NO_ID) return noPosition();
   const name = originals[at + 3];
   return {
     source: map.resolvedSources[source] ?? null,
@@ -42,26 +46,27 @@ function originalOf(map, { originals }, index) {
   };
 }
 
-const answer = new Uint32Array(ANSWER_WORDS);
-
-/** The original column for a generated column within a range, from the library. */
-function columnInRange(handle, line, column) {
-  native.lookup(handle, line, Math.min(Math.floor(column), NONE), answer);
-  return answer[2];
+/** The original position of the first token of the line at the column or after it. */
+function upperOriginalOf(map, line, column) {
+  const tokens = tokensOf(map);
+  const index = tokens.findUpper(line - 1, column);
+  return index === -1 ? noPosition() : originalOf(map, tokens, index);
 }
 
 function originalPositionFor(map, needle) {
-  const tokens = tokensOf(map);
+  const lookup = lookupOf(map);
   checkNeedle(needle);
   const { line, column, bias } = needle;
-  const isUpper = bias === LEAST_UPPER_BOUND;
-  const index = isUpper ? tokens.findUpper(line - 1, column) : tokens.find(line - 1, column);
-  if (index === -1) return { source: null, line: null, column: null, name: null };
-  const original = originalOf(map, tokens, index);
-  if (tokens.hasRanges && tokens.ranges[index] === 1 && tokens.columns[index] < column && original.line !== null) {
-    original.column = columnInRange(mappingsOf(map).handle, line - 1, column);
-  }
-  return original;
+  if (bias === LEAST_UPPER_BOUND) return upperOriginalOf(map, line, column);
+  lookup.find(line, column);
+  const { source, name } = lookup;
+  if (source === NO_ID) return noPosition();
+  return {
+    source: map.resolvedSources[source] ?? null,
+    line: lookup.originalLine,
+    column: lookup.originalColumn,
+    name: name === NO_ID ? null : map.names[name] ?? null,
+  };
 }
 
 function originalPositionsFor(map, positions) {

@@ -1,6 +1,7 @@
 'use strict';
 
 const { native, SourceMapError } = require('./native.js');
+const { Lookup } = require('./lookup.js');
 const { Tokens } = require('./tokens.js');
 
 /** How many numbers of 32 bits a token of the library has. */
@@ -47,14 +48,20 @@ function build(mappings, sourceCount, nameCount) {
   return native.build(words, sourceCount, nameCount);
 }
 
+/** As many items as a list has, without their texts; what is no list stays, for the library to refuse. */
+function outline(list, item) {
+  return Array.isArray(list) ? new Array(list.length).fill(item) : list;
+}
+
 /**
- * Opens a map. The library gets the mappings. If they are text it also gets
- * `rangeMappings` and the sources and names, else only how many sources and names
- * there are. All other fields stay in JavaScript.
+ * Opens a map. The library gets the mappings and, if they are text, `rangeMappings`; of
+ * the sources and names it gets only how many there are. All texts stay in JavaScript,
+ * so none is parsed as JSON a second time.
  */
 function open({ sources, names, mappings, rangeMappings }) {
   if (Array.isArray(mappings)) return build(mappings, sources?.length ?? 0, names?.length ?? 0);
-  return native.open(JSON.stringify({ version: 3, sources, names, mappings, rangeMappings }));
+  const outlined = { sources: outline(sources, ''), names: outline(names, 0) };
+  return native.open(JSON.stringify({ version: 3, ...outlined, mappings, rangeMappings }));
 }
 
 function isSorted(mappings) {
@@ -76,6 +83,7 @@ function linesOf(given) {
  */
 class Mappings {
   #given;
+  #lookup = null;
   #tokens = null;
   #decoded = null;
   #encoded = null;
@@ -89,6 +97,11 @@ class Mappings {
     this.handle = handle;
     this.#given = mappings ?? [];
     if (typeof mappings === 'string') this.#encoded = { mappings, rangeMappings };
+  }
+
+  get lookup() {
+    this.#lookup ??= new Lookup(this);
+    return this.#lookup;
   }
 
   get tokens() {

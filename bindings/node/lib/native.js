@@ -1,8 +1,12 @@
 'use strict';
 
 const path = require('node:path');
+const { webFunctions } = require('./web.js');
 
-/** Loads the addon, or says how to build it. */
+/**
+ * Loads the addon. If it is not built, takes the WebAssembly module for compiled maps, where there are 64-bit
+ * memories; else says how to build it.
+ */
 function loadAddon() {
   try {
     return require('../out/sourcemap.node');
@@ -10,7 +14,10 @@ function loadAddon() {
     if (error.code !== 'MODULE_NOT_FOUND') throw error;
   }
   const folder = path.dirname(__dirname);
-  throw new Error(`${folder} is not built: at the top of the clone run bindings/c/build and then bindings/node/build`);
+  const notBuilt = `${folder} is not built: at the top of the clone run bindings/c/build and then bindings/node/build`;
+  const functions = webFunctions(notBuilt);
+  if (functions === null) throw new Error(notBuilt);
+  return functions;
 }
 
 const native = loadAddon();
@@ -65,6 +72,7 @@ class SourceMapError extends Error {
   }
 }
 
-native.init(SourceMapError);
+/** `look()` answers the position in `words`, and writes the answer there. */
+const [words, look] = native.init(SourceMapError);
 
-module.exports = { native, SourceMapError };
+module.exports = { native, words, look, SourceMapError };

@@ -46,12 +46,14 @@ function ignoreListOf(fields) {
 /** Throws a TypeError if `map` is no TraceMap. */
 let checkTraceMap;
 
-/** These return the mappings of a TraceMap, and their tokens. Both throw a TypeError if the argument is no TraceMap. */
+/** These return the mappings of a TraceMap, their lookup and their tokens. All throw a TypeError if the argument is no TraceMap. */
 let mappingsOf;
+let lookupOf;
 let tokensOf;
 
 class TraceMap {
   #mappings;
+  #lookup = null;
   #tokens = null;
 
   static {
@@ -61,6 +63,14 @@ class TraceMap {
     mappingsOf = (map) => {
       checkTraceMap(map);
       return map.#mappings;
+    };
+    lookupOf = (map) => {
+      try {
+        return (map.#lookup ??= map.#mappings.lookup);
+      } catch (error) {
+        checkTraceMap(map);
+        throw error;
+      }
     };
     tokensOf = (map) => {
       try {
@@ -134,4 +144,4 @@ function FlattenMap(map, mapUrl) {
   return new TraceMap(flat, undefined, handle);
 }
 
-module.exports = { TraceMap, FlattenMap, parse, mappingsOf, tokensOf, checkTraceMap };
+module.exports = { TraceMap, FlattenMap, parse, mappingsOf, lookupOf, tokensOf, checkTraceMap };

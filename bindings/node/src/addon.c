@@ -3,7 +3,7 @@
 **
 ** A handle is an external value that owns an sm_map. Its finalizer closes it,
 ** at the latest when the environment ends. Between calls the addon keeps only
-** the handles, how many there are, and the error class of each environment, so
+** the handles, how many there are, and an `instance` for each environment, so
 ** any number of workers may load it.
 **
 ** Only the files of lib call this addon, and pass what each call expects. A
@@ -28,10 +28,25 @@ _Static_assert(offsetof(sm_token, is_range) == 6 * sizeof(uint32_t), "the flag i
 /* How many tokens, positions or ids one call of the library reads or writes at most. */
 #define CHUNK 512
 
+struct instance;
+
 typedef struct held_map {
     sm_map map;
     int64_t reported; /* the bytes reported to the garbage collector */
+    struct instance *own;
+    uint32_t id; /* its place in `own->maps` */
 } held_map;
+
+/* What the addon keeps of each environment: the class of its errors, the numbers that
+** look() reads and writes, and the open maps by their ids. Both references hold until
+** the environment ends; the rest, until its last map is closed too. */
+typedef struct instance {
+    napi_ref error_class, words_array;
+    uint32_t *words;
+    held_map **maps;
+    uint32_t room, count, first_free;
+    bool has_ended;
+} instance;
 
 /* How many maps are open in this process, in all environments. */
 static atomic_uint open_maps;
@@ -58,10 +73,10 @@ static napi_value throw_last(napi_env env) {
 
 /* Throws `new SourceMapError(text, code, number)`. */
 static napi_value throw_code(napi_env env, sm_code code, uint32_t number, const char *text, size_t length) {
-    napi_ref *class_ref = NULL;
+    instance *own = NULL;
     napi_value class, arguments[3], error;
-    TRY(napi_get_instance_data(env, (void **)&class_ref));
-    TRY(napi_get_reference_value(env, *class_ref, &class));
+    TRY(napi_get_instance_data(env, (void **)&own));
+    TRY(napi_get_reference_value(env, own->error_class, &class));
     TRY(napi_create_string_utf8(env, text, length, &arguments[0]));
     TRY(napi_create_uint32(env, code, &arguments[1]));
     TRY(napi_create_uint32(env, number, &arguments[2]));
@@ -88,29 +103,69 @@ static napi_value throw_out_of_memory(napi_env env) {
 ** HANDLES
 */
 
+/* Frees what is kept of an environment that has ended, once no map of it is open. */
+static void release(instance *own) {
+    if (own->has_ended && own->count == 0) {
+        free(own->maps);
+        free(own);
+    }
+}
+
+/* Gives a map the first free id. Returns false if memory runs out. */
+static bool enlist(instance *own, held_map *held) {
+    uint32_t id = own->first_free;
+    while (id < own->room && own->maps[id]) {
+        id++;
+    }
+    if (id == own->room) {
+        uint32_t room = 2 * own->room + 8;
+        held_map **maps = realloc(own->maps, room * sizeof *maps);
+        if (!maps) {
+            return false;
+        }
+        memset(maps + own->room, 0, (room - own->room) * sizeof *maps);
+        own->maps = maps;
+        own->room = room;
+    }
+    held->own = own;
+    held->id = id;
+    own->maps[id] = held;
+    own->first_free = id + 1;
+    own->count++;
+    return true;
+}
+
 static void finalize_map(napi_env env, void *data, void *hint) {
     (void)hint;
     held_map *held = data;
+    instance *own = held->own;
     int64_t total;
     sm_close(&held->map);
     napi_adjust_external_memory(env, -held->reported, &total);
+    own->maps[held->id] = NULL;
+    own->first_free = held->id < own->first_free ? held->id : own->first_free;
+    own->count--;
     free(held);
+    release(own);
     atomic_fetch_sub(&open_maps, 1);
 }
 
 /* Returns a new external value that holds an empty handle, or NULL with an
 ** exception. */
 static napi_value new_handle(napi_env env, held_map **held) {
+    instance *own = NULL;
     napi_value external;
+    TRY(napi_get_instance_data(env, (void **)&own));
     held_map *made = calloc(1, sizeof *made);
-    if (!made) {
+    if (!made || !enlist(own, made)) {
+        free(made);
         return throw_out_of_memory(env);
     }
+    atomic_fetch_add(&open_maps, 1);
     if (napi_create_external(env, made, finalize_map, NULL, &external) != napi_ok) {
-        free(made);
+        finalize_map(env, made, NULL);
         return throw_last(env);
     }
-    atomic_fetch_add(&open_maps, 1);
     *held = made;
     return external;
 }
@@ -431,24 +486,46 @@ static void write_answer(const sm_found *found, uint32_t line, uint32_t *answer)
     answer[3] = answers ? token->name : SM_NONE;
 }
 
-/* lookup(handle, line, column, answer): writes the answer to one position, line
-** and column from 0, into a Uint32Array. */
-static napi_value lookup(napi_env env, napi_callback_info info) {
-    napi_value arguments[4];
-    held_map *held = NULL;
-    uint32_t line = 0, column = 0, *answer = NULL;
-    size_t length = 0;
+/* The words of look(): the id of a map; a position, line and column from 0; the answer;
+** the column of its token; and a column before which the answer holds on this line, from
+** the position on, which is 0 if it may hold nowhere else. JavaScript has them as signed
+** numbers, with which V8 is fastest. */
+enum {
+    MAP_WORD,
+    LINE_WORD,
+    COLUMN_WORD,
+    FIRST_ANSWER_WORD,
+    START_WORD = FIRST_ANSWER_WORD + ANSWER_WORDS,
+    UNTIL_WORD,
+    LOOK_WORDS
+};
+
+/* look(): answers one position. It takes no arguments, since reading them would cost more
+** than most lookups, and is one function for all maps, since V8 calls that faster. The
+** caller keeps the handle. */
+static napi_value look(napi_env env, napi_callback_info info) {
+    instance *own = NULL;
     sm_found found = {0};
-    TRY(take_handle(env, info, 4, arguments, &held));
-    TRY(napi_get_value_uint32(env, arguments[1], &line));
-    TRY(napi_get_value_uint32(env, arguments[2], &column));
-    TRY(take_words(env, arguments[3], &answer, &length));
-    if (length < ANSWER_WORDS) {
-        return throw_short_array(env);
-    }
-    sm_lookup(&held->map, line, column, &found);
-    write_answer(&found, line, answer);
+    sm_position until = {0};
+    TRY(napi_get_cb_info(env, info, NULL, NULL, NULL, (void **)&own));
+    uint32_t *words = own->words, id = words[MAP_WORD], line = words[LINE_WORD];
+    bool is_open = id < own->room && own->maps[id];
+    bool holds_on = is_open &&
+                    sm_lookup_span(&own->maps[id]->map, line, words[COLUMN_WORD], &found, &until) == SM_OK &&
+                    !found.token.is_range;
+    write_answer(&found, line, words + FIRST_ANSWER_WORD);
+    words[START_WORD] = found.token.column;
+    words[UNTIL_WORD] = !holds_on ? 0 : until.line > line || until.column > INT32_MAX ? INT32_MAX : until.column;
     return NULL;
+}
+
+/* mapId(handle): the id by which look() knows the map, while its handle is kept. */
+static napi_value map_id(napi_env env, napi_callback_info info) {
+    napi_value handle, id;
+    held_map *held = NULL;
+    TRY(take_handle(env, info, 1, &handle, &held));
+    TRY(napi_create_uint32(env, held->id, &id));
+    return id;
 }
 
 /* Reads positions, each a line from 1 and a column from 0. */
@@ -660,7 +737,8 @@ static napi_value compiled_debug_id(napi_env env, napi_callback_info info) {
     return text_or_null(env, code, NULL, &bytes);
 }
 
-/* compiledLookup(bytes, line, column, answer): as lookup(). */
+/* compiledLookup(bytes, line, column, answer): writes the answer to one position, line
+** and column from 0, into a Uint32Array. */
 static napi_value compiled_lookup(napi_env env, napi_callback_info info) {
     napi_value arguments[4];
     byte_array bytes;
@@ -735,25 +813,45 @@ static napi_value open_count(napi_env env, napi_callback_info info) {
 static void finalize_instance(napi_env env, void *data, void *hint) {
     (void)env;
     (void)hint;
-    free(data);
+    instance *own = data;
+    own->has_ended = true;
+    release(own);
 }
 
-/* init(SourceMapError): sets the class of the errors of this environment. */
+/* Makes the words of look(), as an Int32Array, and the function. */
+static napi_status make_look(napi_env env, instance *own, napi_value *words, napi_value *function) {
+    napi_value buffer;
+    napi_status status = napi_create_arraybuffer(env, LOOK_WORDS * sizeof(uint32_t), (void **)&own->words, &buffer);
+    if (status == napi_ok) {
+        status = napi_create_typedarray(env, napi_int32_array, LOOK_WORDS, buffer, 0, words);
+    }
+    if (status == napi_ok) {
+        status = napi_create_reference(env, *words, 1, &own->words_array);
+    }
+    return status == napi_ok ? napi_create_function(env, "look", NAPI_AUTO_LENGTH, look, own, function) : status;
+}
+
+/* init(SourceMapError): sets the class of the errors of this environment. Returns the
+** words of look(), and this function, in an array. */
 static napi_value init(napi_env env, napi_callback_info info) {
     size_t count = 1;
-    napi_value class;
+    napi_value class, words, function, both;
     TRY(napi_get_cb_info(env, info, &count, &class, NULL, NULL));
-    napi_ref *class_ref = calloc(1, sizeof *class_ref);
-    if (!class_ref) {
+    instance *own = calloc(1, sizeof *own);
+    if (!own) {
         napi_throw_error(env, NULL, "out of memory");
         return NULL;
     }
-    if (napi_create_reference(env, class, 1, class_ref) != napi_ok ||
-        napi_set_instance_data(env, class_ref, finalize_instance, NULL) != napi_ok) {
-        free(class_ref);
+    if (napi_create_reference(env, class, 1, &own->error_class) != napi_ok ||
+        make_look(env, own, &words, &function) != napi_ok ||
+        napi_set_instance_data(env, own, finalize_instance, NULL) != napi_ok) {
+        free(own);
         return throw_last(env);
     }
-    return NULL;
+    TRY(napi_create_array_with_length(env, 2, &both));
+    TRY(napi_set_element(env, both, 0, words));
+    TRY(napi_set_element(env, both, 1, function));
+    return both;
 }
 
 NAPI_MODULE_INIT() {
@@ -764,7 +862,7 @@ NAPI_MODULE_INIT() {
         {"init", init},         {"open", open_json},    {"build", build},
         {"tokens", tokens},     {"sources", sources},   {"names", names},
         {"contents", contents}, {"ignoreList", ignore_list}, {"write", write_json},
-        {"lookup", lookup},     {"lookupMany", lookup_many}, {"openCount", open_count},
+        {"mapId", map_id},       {"lookupMany", lookup_many}, {"openCount", open_count},
         {"compile", compile_json},
         {"compiledCheck", compiled_check},
         {"compiledVerify", compiled_verify},

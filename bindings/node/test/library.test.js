@@ -9,22 +9,28 @@ const { realMaps } = require('../support/maps.js');
 
 const { NONE } = sourcemap;
 
-/** Compares the search in the tokens with the library's own lookup. */
+/** Compares the answers to single positions, and the search in the tokens, with the library's answers to many. */
 function sameAnswers(map, positions) {
   const answers = sourcemap.originalPositionsFor(map, positions);
   for (let i = 0; 2 * i < positions.length; i++) {
     const [line, column] = positions.subarray(2 * i);
     const [source, originalLine, originalColumn, name] = answers.subarray(4 * i);
     const found = sourcemap.originalPositionFor(map, { line, column });
-    if (source === NONE) assert.equal(found.line, null, `${line}:${column}`);
-    else {
-      assert.deepEqual(found, {
-        source: map.resolvedSources[source],
-        line: originalLine,
-        column: originalColumn,
-        name: name === NONE ? null : map.names[name],
-      }, `${line}:${column}`);
+    const segment = sourcemap.traceSegment(map, line - 1, column);
+    if (source === NONE) {
+      assert.deepEqual(found, { source: null, line: null, column: null, name: null }, `${line}:${column}`);
+      assert.ok(segment === null || segment.length === 1, `${line}:${column}`);
+      continue;
     }
+    assert.deepEqual(found, {
+      source: map.resolvedSources[source],
+      line: originalLine,
+      column: originalColumn,
+      name: name === NONE ? null : map.names[name],
+    }, `${line}:${column}`);
+    assert.deepEqual([segment[1], segment[2] + 1, segment[4] ?? NONE], [source, originalLine, name], `${line}:${column}`);
+    // within a range the answer is as far from the token's
+    assert.ok([0, column - segment[0]].includes(originalColumn - segment[3]), `${line}:${column}`);
   }
 }
 
@@ -36,7 +42,7 @@ function allPositions(lines, columns) {
   return Uint32Array.from(positions);
 }
 
-test('a search in the tokens is the lookup of the library: small maps, all positions', () => {
+test('one lookup, many and a search in the tokens answer the same: small maps, all positions', () => {
   const random = new Random(11);
   const digits = 'ABCDEFGHIJKLMNOPQRSTUVWXYZabcdef';
   for (let i = 0; i < 200; i++) {
@@ -45,11 +51,16 @@ test('a search in the tokens is the lookup of the library: small maps, all posit
     // with random range bits, some past the last segment
     const rangeMappings = random.list(6, () => random.pick(digits)).join(';');
     const { mappings } = sourcemap.encodedMap(new sourcemap.TraceMap(map));
-    sameAnswers(new sourcemap.TraceMap({ ...map, mappings, rangeMappings }), allPositions(8, 20));
+    const ranged = new sourcemap.TraceMap({ ...map, mappings, rangeMappings });
+    const positions = allPositions(8, 20);
+    sameAnswers(ranged, positions);
+    // in any order: what one answer says of the next positions does not hold before it
+    sameAnswers(ranged, Uint32Array.from(random.list(300, () => 2 * random.below(positions.length / 2))
+      .flatMap((at) => [...positions.subarray(at, at + 2)])));
   }
 });
 
-test('a search in the tokens is the lookup of the library: real maps', (t) => {
+test('one lookup, many and a search in the tokens answer the same: real maps', (t) => {
   const random = new Random(12);
   let count = 0;
   for (const { text } of realMaps(200)) {
@@ -62,6 +73,9 @@ test('a search in the tokens is the lookup of the library: real maps', (t) => {
       positions.push(line + 1, Math.max(column + random.below(7) - 3, 0));
     }
     sameAnswers(map, Uint32Array.from(positions));
+    // from token to token, with a few steps back and ahead
+    const tokens = mappings.flatMap((line, number) => line.map(([column]) => [number + 1, column])).slice(0, 2000);
+    sameAnswers(map, Uint32Array.from(tokens.flatMap((at, i) => (i % 97 === 96 ? [at, random.pick(tokens), at] : [at]).flat())));
     count++;
   }
   if (count === 0) t.skip('no real maps here');

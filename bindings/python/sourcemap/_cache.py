@@ -6,21 +6,15 @@ import fcntl
 import hashlib
 import os
 import re
-import resource
 import threading
 import uuid
 import zlib
 from pathlib import Path
-from typing import Callable, Iterator, Optional, Tuple
+from typing import Iterator, Optional, Union
 
 from ._compiled import CompiledMap
-from ._map import Map
+from ._compiler import compile_map
 from .errors import SourceMapError
-
-# To compile a map takes at most 16 bytes for each byte of it, and a few of its kinds take more: docs/LIMITS.md. What
-# takes more than this is hostile.
-MEMORY_FOR_EACH_BYTE = 32
-MEMORY_FOR_EACH_MAP = 64 << 20
 
 _NAME = re.compile(r'[0-9a-f]{8}\.compiled')
 _compiling = threading.Lock()
@@ -66,17 +60,15 @@ class Cache:
                 path.unlink()
         return None
 
-    def make(self, key: str, load: Callable[[], Map], size: int) -> Path:
-        """The compiled map of a key, from `load` if it is not there. `size` is how many bytes the map has. Of several
-        processes one compiles, and the others wait for it. Raises an error of the map, or `MemoryError` if it takes
-        more memory than a map of this size needs; `OSError` if the folder cannot be written."""
+    def make(self, key: str, data: Union[bytes, str]) -> Path:
+        """The compiled map of a key, made from JSON or a `data:` URL if it is not there. Of several processes one compiles,
+        and the others wait for it. Raises what `compile_map` does, and `OSError` if the folder cannot be written."""
         folder = self._folder / key
         folder.mkdir(parents=True, exist_ok=True)
         with _compiling, self._locked(key):
             found = self.find(key)
             if found is None:
-                with bounded_memory(MEMORY_FOR_EACH_BYTE * size + MEMORY_FOR_EACH_MAP), load() as map:
-                    compiled = map.compile()
+                compiled = compile_map(data)
                 found = folder / f'{zlib.crc32(compiled):08x}.compiled'
                 write_whole(found, compiled)
             return found
@@ -135,30 +127,3 @@ def write_whole(path: Path, data: bytes) -> None:
         with contextlib.suppress(FileNotFoundError):
             beside.unlink()
         raise
-
-
-@contextlib.contextmanager
-def bounded_memory(size: int) -> Iterator[None]:
-    """Lets the process take at most `size` bytes of memory more, where the system has such a limit and says how much
-    the process has. What would take more raises `MemoryError`."""
-    limits = _memory_limits(size)
-    if limits is None:
-        yield
-        return
-    old, new = limits
-    resource.setrlimit(resource.RLIMIT_AS, new)
-    try:
-        yield
-    finally:
-        resource.setrlimit(resource.RLIMIT_AS, old)
-
-
-def _memory_limits(size: int) -> Optional[Tuple[Tuple[int, int], Tuple[int, int]]]:
-    try:
-        pages = int(Path('/proc/self/statm').read_text().split()[0])
-    except (OSError, ValueError):
-        return None
-    old = resource.getrlimit(resource.RLIMIT_AS)
-    wanted = pages * resource.getpagesize() + size
-    soft = wanted if old[0] == resource.RLIM_INFINITY else min(wanted, old[0])
-    return old, (soft, old[1])

@@ -14,6 +14,8 @@ from typing import Any, Callable, cast
 
 VARIABLE = 'SOURCEMAP_LIBRARY_DIR'
 FILES = ('libsourcemap.so', 'libsourcemap.so.2', 'libsourcemap.dylib')
+# where a wheel has the library; beside the modules Python would take it for one
+INSIDE = Path(__file__).parent / 'lib'
 BUILT = Path(__file__).resolve().parents[2] / 'c' / 'out'
 INTERFACE = 2
 
@@ -63,7 +65,7 @@ def _library_path() -> str:
     the one in this package, as in a wheel, then the one that was built beside it, or else the one that the system
     finds."""
     named = os.environ.get(VARIABLE)
-    folders = [Path(named).absolute()] if named else [Path(__file__).parent, BUILT]
+    folders = [Path(named).absolute()] if named else [INSIDE, BUILT]
     for path in (folder / name for folder in folders for name in FILES):
         if path.is_file():
             return str(path)

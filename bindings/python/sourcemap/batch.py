@@ -6,6 +6,7 @@ so any engine may call it on parts of a table, in any order and any number of ti
 from __future__ import annotations
 
 import argparse
+import sys
 from pathlib import Path
 from typing import TYPE_CHECKING
 
@@ -16,15 +17,16 @@ if TYPE_CHECKING:
     import pandas
 
 COLUMNS = ('source', 'source_line', 'source_column', 'name', 'scope', 'context_line', 'status')
-PARTITION = 8_000_000
+PARTITION = 16_000_000
+INTERRUPTED = 130
 
 
 def symbolicate(frames: pandas.DataFrame, release: Release, *, zero_based: bool = False) -> pandas.DataFrame:
     """The table with the original position of each row. Needs pandas and numpy.
 
     `frames` has the columns `file`, `line` and `column`, and may have `debug_id`. All its columns are kept, such as
-    `function`. `file` is the path or URL of a generated file. Lines and columns count from 1, as stack traces print them; with `zero_based`
-    from 0. They are whole numbers, or texts with the digits of one. These columns are added:
+    `function`. `file` is the path or URL of a generated file. Lines and columns count from 1, as stack traces print them;
+    with `zero_based` from 0. They are whole numbers, or texts with the digits of one. These columns are added:
 
     - `source`, `source_line`, `source_column`: the original position. The last two have the type `Int64`, and count
       from the same number as `line`;
@@ -71,7 +73,7 @@ def add_arguments(parser: argparse.ArgumentParser) -> None:
                         help='how many processes work; else one for each processor. With 1 the program itself works')
     engine.add_argument('--dask', metavar='ADDRESS', help='the workers of the Dask cluster at this address work')
     parser.add_argument('--partition', metavar='BYTES', type=_positive, default=PARTITION,
-                        help=f'how much of the table a worker takes at once: {PARTITION} bytes')
+                        help=f'how much of the table a worker takes at once, at most: {PARTITION} bytes')
 
 
 def _positive(text: str) -> int:
@@ -83,8 +85,20 @@ def _positive(text: str) -> int:
 
 def run(arguments: argparse.Namespace) -> int:
     """Writes the table. Returns the exit status, which is 130 after Ctrl-C; other errors are raised."""
+    try:
+        _run(arguments)
+    except KeyboardInterrupt:
+        print('sourcemap: interrupted, and no table was written', file=sys.stderr)
+        return INTERRUPTED
+    return 0
+
+
+def _run(arguments: argparse.Namespace) -> None:
+    from ._tables.engines import prepare
+
+    prepare(arguments)
     need('numpy')
     need('pandas')
     from ._tables.job import run_job
 
-    return run_job(arguments)
+    run_job(arguments)

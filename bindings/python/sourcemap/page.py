@@ -1,12 +1,12 @@
 """`python -m sourcemap page`: an HTML file that shows a generated text and its sources side by side.
 
-The file works without a network. It holds the texts, and the mappings as the library writes them. A script in it draws
-the lines that can be seen.
+The file works without a network. It is the viewer of `bindings/web`, with the generated text and the compiled map in it.
 """
 
 from __future__ import annotations
 
 import argparse
+import base64
 import html
 import json
 from pathlib import Path
@@ -16,36 +16,58 @@ from ._generated import find_map, open_map, source_path
 from ._library import NONE
 from ._map import Map
 
-TEMPLATE = Path(__file__).with_name('page.html')
+VIEWER = 'viewer.html'
+# in a wheel it is in the package, in a clone where bindings/web/build makes it
+FOLDERS = (Path(__file__).resolve().parent, Path(__file__).resolve().parents[2] / 'web' / 'out')
 
-# The text of the mappings has a byte for each line up to that of the last token, which may be any line.
-LAST_LINE = 10_000_000
+TITLE = '<title>Source map viewer</title>'
+DATA = '<script type="application/json" id="data">null</script>'
 
 
 def page_text(name: str, generated: str, map: Map, map_path: Optional[Path] = None) -> str:
-    """The HTML of the page of a generated text and its map, which must not be an index map. `name` is the title. If
-    `map_path` is the file of the map, contents that the map does not have are read from the files that its sources lead
-    to."""
-    before, _, rest = TEMPLATE.read_text('utf-8').replace('{{TITLE}}', html.escape(name)).partition('{{DATA}}')
-    # In a script element `<` may begin its end tag. In JSON it occurs only in strings.
-    fields = _page_data(generated, map, map_path)
-    data = json.dumps(fields, ensure_ascii=False, separators=(',', ':')).replace('<', '\\u003c')
-    return f'{before}{data}{rest}'
-
-
-def _page_data(generated: str, map: Map, map_path: Optional[Path]) -> Dict[str, object]:
-    return {
+    """The HTML of the page of a generated text and its map, which must not be an index map. `name` is that of the text. If `map_path` is the file of the
+    map, contents that the map does not have are read from the files that its sources lead to. Raises
+    `FileNotFoundError` if the viewer is not there."""
+    title = f'<title>{html.escape(name)} and its sources</title>'
+    fields = {
+        'name': name,
         'generated': generated,
-        'mappings': _mappings(map),
-        'sources': list(map.sources),
-        'contents': list(_contents(map, map_path)),
-        'names': list(map.names),
+        'map': base64.b64encode(map.compile()).decode('ascii'),
+        'others': list(_others(map)),
+        'contents': {} if map_path is None else _contents(map, map_path),
     }
+    # In a script element `<` may begin its end tag. In JSON it occurs only in strings.
+    data = json.dumps(fields, ensure_ascii=False, separators=(',', ':')).replace('<', '\\u003c')
+    before, _, rest = _viewer().replace(TITLE, title).partition(DATA)
+    return f'{before}{DATA.replace("null", data)}{rest}'
 
 
-def _contents(map: Map, map_path: Optional[Path]) -> Iterator[Optional[str]]:
-    for source, contents in zip(map.sources, map.contents):
-        yield contents if contents is not None or map_path is None else _text_of(source, map_path)
+def _viewer() -> str:
+    """The page without a map."""
+    path = next((folder / VIEWER for folder in FOLDERS if (folder / VIEWER).is_file()), None)
+    if path is None:
+        places = ' nor in '.join(map(str, FOLDERS))
+        raise FileNotFoundError(f'{VIEWER} is not in {places}: bindings/web/build makes it')
+    return path.read_text('utf-8')
+
+
+def _others(map: Map) -> Iterator[int]:
+    """The tokens that have the position of the token ahead of them, so that no lookup answers them: eight numbers each,
+    as the viewer has tokens."""
+    last = None
+    for token in map.tokens():
+        at = (token.generated_line, token.generated_column)
+        if at == last:
+            fields = (token.line, token.column, token.source_id, token.name_id)
+            yield from (*at, *(NONE if field is None else field for field in fields), int(token.is_range), 1)
+        last = at
+
+
+def _contents(map: Map, map_path: Path) -> Dict[int, str]:
+    """The contents that the map does not have, and files do, by the ids of their sources."""
+    missing = (id for id, contents in enumerate(map.contents) if contents is None)
+    texts = {id: _text_of(map.sources[id], map_path) for id in missing}
+    return {id: text for id, text in texts.items() if text is not None}
 
 
 def _text_of(source: str, map_path: Path) -> Optional[str]:
@@ -55,15 +77,6 @@ def _text_of(source: str, map_path: Path) -> Optional[str]:
         return None if path is None else Path(path).read_text('utf-8')
     except (OSError, ValueError):
         return None
-
-
-def _mappings(map: Map) -> str:
-    last = map.lookup(NONE, NONE)
-    if last is not None and last.generated_line > LAST_LINE:
-        raise ValueError(f'the map has a token on line {last.generated_line}, which is too far down for a page')
-    mappings = json.loads(map.dumps())['mappings']
-    assert isinstance(mappings, str)
-    return mappings
 
 
 def add_arguments(parser: argparse.ArgumentParser) -> None:

@@ -12,8 +12,8 @@ from typing import TYPE_CHECKING, Callable, Dict, Iterable, Iterator, List, Lite
 
 from . import _cache
 from ._compiled import CompiledMap
+from ._compiler import CannotCompile
 from ._generated import path_parts, reason_of
-from ._map import Map
 from ._view import locate_reference, resolve_path
 from .errors import SourceMapError
 
@@ -327,10 +327,10 @@ class Release:
             except OSError as error:
                 return Problem(not isinstance(error, FileNotFoundError), reason_of(error))
             try:
-                found = self._cache.make(key, lambda: _load(data), len(data))
+                found = self._cache.make(key, data)
             except MemoryError:
                 return Problem(True, f'{path} takes more memory than a map of its size may take')
-            except (SourceMapError, UnicodeEncodeError) as error:
+            except (CannotCompile, UnicodeEncodeError) as error:
                 return Problem(True, f'{path}: {error}')
         return Compiled(key, found)
 
@@ -476,7 +476,3 @@ def _embedded_in(path: Path) -> str:
     except SourceMapError:  # a line is not UTF-8
         return ''
     return '' if reference is None else reference.url
-
-
-def _load(data: Union[bytes, str]) -> Map:
-    return Map.from_data_url(data) if isinstance(data, str) else Map(data)

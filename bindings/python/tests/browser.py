@@ -3,6 +3,7 @@
 from __future__ import annotations
 
 import base64
+import fcntl
 import json
 import os
 import select
@@ -44,9 +45,18 @@ class Browser:
         self.resize(width, height)
         self.use_colours('light')
 
+    @staticmethod
+    def _pipe() -> Tuple[int, int]:
+        """A pipe whose descriptors are not 3 and 4."""
+        ends = os.pipe()
+        reading, writing = (fcntl.fcntl(end, fcntl.F_DUPFD_CLOEXEC, 10) for end in ends)
+        for end in ends:
+            os.close(end)
+        return reading, writing
+
     def _start(self, program: str, width: int, height: int) -> subprocess.Popen[bytes]:
-        commands, self._to = os.pipe()
-        self._from, answers = os.pipe()
+        commands, self._to = self._pipe()
+        self._from, answers = self._pipe()
         words = [
             program, '--headless=new', '--remote-debugging-pipe', '--no-first-run', '--disable-gpu',
             '--disable-dev-shm-usage', '--disable-extensions', f'--user-data-dir={self._folder}',
@@ -54,9 +64,9 @@ class Browser:
         ]
         if os.geteuid() == 0:
             words.insert(1, '--no-sandbox')
-        # the shell moves the pipes to the descriptors that the browser expects
+        # the shell moves the pipes to the descriptors that the browser expects; sh takes no number of two digits
         process = subprocess.Popen(
-            ['sh', '-c', f'exec "$0" "$@" 3<&{commands} 4>&{answers}', *words],
+            ['bash', '-c', f'exec "$0" "$@" 3<&{commands} 4>&{answers}', *words],
             stdin=subprocess.DEVNULL, stdout=subprocess.DEVNULL, stderr=subprocess.DEVNULL,
             pass_fds=(commands, answers),
         )

@@ -208,7 +208,7 @@ class AsOneAtATime(Folder):
         lazy = sourcemap.dask.symbolicate(from_pandas(frames, npartitions=5), release)
         expected = batch.symbolicate(frames, release)
         self.assertEqual(lazy.dtypes.tolist(), expected.dtypes.tolist())
-        for scheduler in 'synchronous', 'threads':
+        for scheduler in 'synchronous', 'threads', 'processes':
             pd.testing.assert_frame_equal(lazy.compute(scheduler=scheduler), expected)
 
 

@@ -8,6 +8,7 @@ import glob
 import gzip
 import io
 import json
+import logging
 import os
 import pty
 import random
@@ -220,6 +221,26 @@ class Texts(Jobs):
         self.assertEqual([row[-1] for row in found[1:]], ['bad position'] * 2 + ['found'])
 
 
+def last_row_end(text: bytes) -> int:
+    """Goes from letter to letter: a quote opens a quoted field where a field begins; in it, two stand for one."""
+    end, at, begins, is_quoted = 0, 0, True, False
+    while at < len(text):
+        letter = text[at:at + 1]
+        if is_quoted:
+            if letter == b'"' and text[at + 1:at + 2] == b'"':
+                at += 1
+            elif letter == b'"':
+                is_quoted = False
+            begins = False
+        elif letter == b'"' and begins:
+            is_quoted = True
+        else:
+            begins = letter in (b',', b'\n', b'\r')
+            end = at + 1 if letter == b'\n' else end
+        at += 1
+    return end
+
+
 class Pieces(Folder):
     def cut(self, text: str, size: int, name: str = 'f.csv') -> List[bytes]:
         with Table(self.put(name, text), size, self.top) as table:
@@ -236,6 +257,13 @@ class Pieces(Folder):
             self.assertEqual(b''.join(found).decode(), text.partition('\n')[2])
             self.assertEqual([row for piece in found for row in csv.reader(io.StringIO(piece.decode(), newline=''))], rows)
 
+    def test_ends_of_rows(self) -> None:
+        """Where the last row ends, letter by letter."""
+        drawn = random.Random(11)
+        for _ in range(5000):
+            text = ''.join(drawn.choices(drawn.choice(['a",\n', '"",,\n', '""\n\r,a']), k=drawn.randrange(25))).encode()
+            self.assertEqual(pieces._last_row_end(text), last_row_end(text), text)
+
     def test_names(self) -> None:
         for text, names in [('a,b\n', ('a', 'b')), ('\ufeff"a\n""b""",c', ('a\n"b"', 'c')), ('a\r\n1\r\n', ('a',))]:
             with Table(self.put('f.csv', text), 3, self.top) as table:
@@ -243,6 +271,14 @@ class Pieces(Folder):
         for text in '', '\n', '\ufeff\n1,2\n':
             with self.assertRaisesRegex(ValueError, 'has no row with the names of columns'):
                 Table(self.put('f.csv', text), 3, self.top)
+
+    def test_pieces_have_some_rows(self) -> None:
+        with mock.patch.object(pieces, 'MOST_ROWS', 100), mock.patch.object(pieces, 'FIRST', 50):
+            for text, name in ('x\n' + 'abc\n' * 1000, 'f.csv'), ('{}\n' * 1000, 'f.jsonl'):
+                found = [piece.count(b'\n') for piece in self.cut(text, 10_000, name)]
+                self.assertEqual(sum(found), 1000)
+                self.assertTrue(all(90 < rows < 110 for rows in found), found)
+                self.assertEqual(len(self.cut(text[:text.index('\n', 90) + 1], 10_000, name)), 1)
 
     def test_rows_that_are_too_long(self) -> None:
         with mock.patch.object(pieces, 'LONGEST_ROW', 100):
@@ -326,6 +362,9 @@ class Errors(Jobs):
         frames = self.table('f.csv', [HEAD, *builds.rows(built, 20_000)])
         self.check(frames, 'No space left on device', '--workers', 1, '--partition', 50_000, out='disk/out.csv')
         self.assertEqual(os.listdir(disk), ['out.csv'])
+        if find_spec('distributed'):
+            self.check(frames, 'No space left on device', '--workers', 2, '--partition', 50_000, out='disk/out.csv')
+            self.assertEqual(os.listdir(disk), ['out.csv'])
         # the cache: nothing is left that another run would find
         small = self.top / 'small'
         small.mkdir()
@@ -347,14 +386,24 @@ class Errors(Jobs):
 
 
 class BadMaps(Jobs):
-    def test_their_rows_say_so(self) -> None:
-        built = builds.write(self.root)
+    def put_bad_maps(self) -> Dict[str, str]:
+        """Writes them, and returns the statuses of frames in their files."""
         hostile = {'version': 3, 'sourceRoot': 'r' * 128_000, 'sources': [''] * 10_600, 'names': [], 'mappings': 'AAAA'}
         self.put('static/cut.js.map', README[:50])
         self.put('static/hostile.js.map', json.dumps(hostile, separators=(',', ':')))
+        self.put('static/deep.js.map', '{"version":3,"sections":' * 50 + '[' * 100_000)
+        self.put('static/past.js.map', regular('A' + 'g' * 13 + 'A'))
+        self.put('static/nothing.js.map', '')
+        self.put('static/gone.js', '//# sourceMappingURL=gone.map')
         self.put('client/both.js.map', regular('AAAA'))
         self.put('server/both.js.map', regular('AAAC'))
-        bad = {'/static/cut.js': 'bad map', '/static/hostile.js': 'bad map', '/both.js': 'no map', '/static/none.js': 'no map'}
+        names = ('cut', 'hostile', 'deep', 'past', 'nothing')
+        return {**{f'/static/{name}.js': 'bad map' for name in names}, '/both.js': 'no map', '/static/none.js': 'no map',
+                '/static/gone.js': 'no map', '../../../etc/passwd': 'no map', '/etc/passwd': 'no map'}
+
+    def test_their_rows_say_so(self) -> None:
+        built = builds.write(self.root)
+        bad = self.put_bad_maps()
         reference = Reference(built)
         rows = list(builds.rows(built, 500))
         answers = [reference.answer(row) for row in rows]
@@ -370,11 +419,36 @@ class BadMaps(Jobs):
                       'size may take', lines)
         self.assertIn('sourcemap: /both.js: it is ambiguous, since these fit equally well: client/both.js.map, '
                       'server/both.js.map', lines)
-        found = COUNTS.fullmatch(lines[-1])
+        self.check_counts(lines[-1], answers)
+        if find_spec('distributed'):
+            self.assertEqual(self.output_of(frames, '--workers', 3, '--partition', 4000), answered(rows, answers))
+
+    def check_counts(self, line: str, answers: Sequence[Sequence[Optional[str]]]) -> None:
+        found = COUNTS.fullmatch(line)
         assert found is not None
         names = ('found', 'no map', 'no token', 'bad position', 'bad map')
         self.assertEqual([int(each) for each in found.groups()],
-                         [len(rows), *(sum(answer[6] == name for answer in answers) for name in names)])
+                         [len(answers), *(sum(answer[6] == name for answer in answers) for name in names)])
+
+
+class DamagedCache(Jobs):
+    def test_made_again(self) -> None:
+        """Files of the cache that are truncated, turned or gone, which several workers meet at once."""
+        frames = self.table('f.csv', [HEAD, *builds.rows(builds.write(self.root), 5000)])
+        wanted = self.output_of(frames, '--workers', 1)
+        made = {path: path.read_bytes() for path in sorted((self.top / 'cache').glob('*/*.compiled'))}
+        self.assertEqual(len(made), 7)
+        damages: List[Callable[[bytes], bytes]] = [
+            lambda data: data[:-1], lambda data: data[:len(data) // 2], lambda data: b'', lambda data: data[::-1],
+            lambda data: data[:len(data) // 2] + data[len(data) // 2 + 1:] + b'\0',
+            lambda data: data[:-9] + bytes([data[-9] ^ 1]) + data[-8:]]
+        for workers in [1, 3] if find_spec('distributed') else [1]:
+            for path, damage in zip(made, damages):
+                path.write_bytes(damage(made[path]))
+            list(made)[-1].unlink()
+            self.assertEqual(self.output_of(frames, '--workers', workers, '--partition', 20_000), wanted)
+            found = {path: path.read_bytes() for path in sorted((self.top / 'cache').glob('*/*.compiled'))}
+            self.assertEqual(found, made)
 
 
 class Bar(Jobs):
@@ -472,7 +546,7 @@ class Processes(Jobs):
                 self.assertTrue(self.wait_for(program, int(part * len(wanted))), 'the table was written too early')
                 killed.append(drawn.choice(workers_of(program.pid)))
                 os.kill(killed[-1], signal.SIGKILL)
-            _, errors = program.communicate(timeout=120)
+            _, errors = program.communicate(timeout=600)
         self.assertEqual((program.returncode, len(set(killed))), (0, 3), errors)
         self.assertEqual(self.out.read_bytes(), wanted)
         self.assertEqual(self.leftovers(), [])
@@ -484,14 +558,14 @@ class Processes(Jobs):
             workers = workers_of(program.pid)
             self.assertEqual(len(workers), 0 if more[-1] == 1 else more[-1])
             stop(program.pid)
-            _, errors = program.communicate(timeout=60)
+            _, errors = program.communicate(timeout=600)
         self.assertEqual((program.returncode, errors.splitlines()[-1:]),
                          (130, ['sourcemap: interrupted, and no table was written']), errors)
         self.assertEqual((old.read_bytes(), self.leftovers()), (b'old', []))
         self.check_ended(workers)
 
     def check_ended(self, workers: List[int]) -> None:
-        end = time.monotonic() + 20
+        end = time.monotonic() + 120
         while any(map(fields_of, workers)):
             self.assertLess(time.monotonic(), end, 'a worker is still there')
             time.sleep(0.05)
@@ -512,6 +586,43 @@ class Processes(Jobs):
             program.wait()
             self.check_ended(workers)
         self.assertEqual(old.read_bytes(), b'old')
+
+    def test_cluster_at_an_address(self) -> None:
+        """The program is interrupted; its workers go on, and write the table when they are asked again."""
+        from distributed import Client, LocalCluster
+
+        with mock.patch.dict(os.environ, ENVIRONMENT), LocalCluster(
+                n_workers=3, threads_per_worker=2, processes=True, dashboard_address=None, silence_logs=logging.CRITICAL,
+                local_directory=str(self.top)) as cluster, Client(cluster, set_as_default=False) as client:
+            address = cluster.scheduler_address
+            old = builds.put(self.top, 'out.csv', b'old')
+            with self.started('--dask', address) as program:
+                self.assertTrue(self.wait_for(program, 100_000))
+                program.send_signal(signal.SIGINT)
+                _, errors = program.communicate(timeout=600)
+            self.assertEqual((program.returncode, errors), (130, 'sourcemap: interrupted, and no table was written\n'))
+            self.assertEqual((old.read_bytes(), self.leftovers()), (b'old', []))
+            self.assertEqual(client.submit(sum, [1, 2]).result(timeout=600), 3)
+            again = self.output_of(self.frames, '--dask', address)
+        self.assertEqual(self.output_of(self.frames, '--workers', 1), again)
+
+
+class Memory(Jobs):
+    @unittest.skipUnless(sys.platform == 'linux', 'memory is that of Linux')
+    def test_whatever_the_number_of_frames(self) -> None:
+        """A table of ten times the frames takes the same memory."""
+        rows = list(builds.rows(builds.write(self.root), 20_000))
+        code = ('import re, sys; from sourcemap.__main__ import main; status = main(sys.argv[1:]); '
+                'print(re.search("VmHWM:[^0-9]*([0-9]+)", open("/proc/self/status").read())[1]); sys.exit(status)')
+        most = []
+        for times in 2, 20:
+            frames = self.table('f.csv', [HEAD, *rows * times])
+            words = self.words(frames, '-o', self.top / 'out.csv', '--workers', 1, '--partition', 1_000_000)
+            run = subprocess.run([sys.executable, '-c', code, *words[3:]], cwd=FOLDER, env=ENVIRONMENT, check=True,
+                                 capture_output=True, text=True)
+            most.append(int(run.stdout))
+        self.assertLess(most[1] - most[0], 10_000, most)
+        self.assertLess(most[1], 300_000, most)
 
 
 if __name__ == '__main__':

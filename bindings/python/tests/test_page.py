@@ -3,6 +3,7 @@
 from __future__ import annotations
 
 import argparse
+import base64
 import json
 import subprocess
 import sys
@@ -10,15 +11,17 @@ import tempfile
 import time
 import unittest
 from pathlib import Path
-from typing import Any, Dict, List, Optional, Tuple
+from typing import Any, Dict, List, Optional, Sequence, Tuple
+from unittest import mock
 
-from sourcemap import Map, page
+from sourcemap import CompiledMap, Map, Token, page
 
-from . import example
+from . import builds, example
 from .browser import Browser, find_browser
 
 FOLDER = Path(__file__).resolve().parents[1]
 BROWSER = find_browser()
+HAS_VIEWER = any((folder / page.VIEWER).is_file() for folder in page.FOLDERS)
 
 # Two sources, one without contents, and texts that HTML, JSON or a reader might take for something else. Tokens, as
 # GENERATED -> SOURCE LINE:COLUMN: 0:0 -> 0 0:0, named; 0:12 -> 0 1:1, the emoji; 0:15 has no source; 1:0 -> 1 4:2;
@@ -65,6 +68,11 @@ class InFolder(unittest.TestCase):
         return path
 
 
+def fields_of(token: Token) -> Tuple[Optional[int], ...]:
+    return (token.generated_line, token.generated_column, token.line, token.column, token.source_id, token.name_id)
+
+
+@unittest.skipUnless(HAS_VIEWER, 'no viewer: bindings/web/build makes it')
 class Written(InFolder):
     """The file, without a browser."""
 
@@ -75,17 +83,35 @@ class Written(InFolder):
         assert isinstance(data, dict)
         return data
 
+    def map_of(self, data: Dict[str, Any]) -> CompiledMap:
+        return CompiledMap.from_bytes(base64.b64decode(data['map'], validate=True))
+
+    def assert_page_of(self, path: Path, map: Map, *, contents: Sequence[Optional[str]]) -> None:
+        """A page holds a map, and contents for its sources."""
+        data = self.data_of(path)
+        compiled = self.map_of(data)
+        compiled.verify()
+        self.assertEqual(list(compiled.sources), list(map.sources))
+        self.assertEqual(list(compiled.names), list(map.names))
+        held = [data['contents'].get(str(id), text) for id, text in enumerate(compiled.contents)]
+        self.assertTrue(held == list(contents))  # no difference of megabytes is printed
+        # the map answers the first token of each position; the others follow it in the page
+        others = iter(data['others'])
+        held_others = [tuple(None if field == 0xFFFFFFFF else field for field in each[:6])
+                       for each in zip(*[others] * 8)]
+        expected = [fields_of(each) for each in map.tokens()]
+        firsts = {each[:2]: each for each in reversed(expected)}
+        found = compiled.lookup_many([(line or 0, column or 0) for line, column in firsts])
+        self.assertTrue([each and fields_of(each) for each in found] == list(firsts.values()))
+        self.assertTrue(held_others == [each for at, each in enumerate(expected) if at and each[:2] == expected[at - 1][:2]])
+
     def test_map_by_reference(self) -> None:
         generated = example.write(self.folder)
         out = self.folder / 'out.html'
         self.assertEqual(page.run(arguments(str(generated), '-o', str(out))), 0)
-        self.assertEqual(self.data_of(out), {
-            'generated': example.GENERATED,
-            'mappings': json.loads(example.MAP)['mappings'],
-            'sources': ['../src/app.js'],
-            'contents': [example.SOURCE],
-            'names': ['readAll', 'path', 'main'],
-        })
+        self.assertEqual(self.data_of(out)['generated'], example.GENERATED)
+        self.assertEqual(self.data_of(out)['name'], 'app.min.js')
+        self.assert_page_of(out, Map.loads(example.MAP), contents=[example.SOURCE])
         self.assertIn('<title>app.min.js and its sources</title>', out.read_text('utf-8'))
 
     def test_named_map(self) -> None:
@@ -96,8 +122,7 @@ class Written(InFolder):
         out = self.folder / 'out.html'
         command = [sys.executable, '-m', 'sourcemap', 'page', str(generated), str(map), '-o', str(out)]
         subprocess.run(command, check=True, cwd=FOLDER)
-        self.assertEqual(self.data_of(out)['sources'], ['x.ts'])
-        self.assertEqual(self.data_of(out)['contents'], [None])
+        self.assert_page_of(out, Map.load(map), contents=[None])
 
     def test_contents_from_files(self) -> None:
         """Those that the map has not are read from the files that its sources lead to, from the folder of the map."""
@@ -113,7 +138,8 @@ class Written(InFolder):
         map.write_text(json.dumps({'version': 3, **fields}), 'utf-8')
         out = self.folder / 'out.html'
         self.assertEqual(page.run(arguments(str(generated), str(map), '-o', str(out))), 0)
-        self.assertEqual(self.data_of(out)['contents'], ['f<\u00e9>();\n', None, None, None, 'had', None, None])
+        contents = ['f<\u00e9>();\n', None, None, None, 'had', None, None]
+        self.assert_page_of(out, Map.load(map), contents=contents)
 
     def test_no_map(self) -> None:
         generated = self.folder / 'x.js'
@@ -130,17 +156,30 @@ class Written(InFolder):
         index.write_text(json.dumps({'version': 3, 'sections': sections}), 'utf-8')
         out = self.folder / 'out.html'
         page.run(arguments(str(generated), str(index), '-o', str(out)))
-        data = self.data_of(out)
-        self.assertEqual(data['sources'], ['../src/app.js', 'b.js'])
+        flat = json.loads(example.MAP)
         # 1:3 comes from 0:0 of source 1; the token before it, from 8:0 of source 0
-        self.assertEqual(data['mappings'], json.loads(example.MAP)['mappings'] + ';GCRA')
+        flat.update(sources=['../src/app.js', 'b.js'], sourcesContent=[example.SOURCE, None],
+                    mappings=flat['mappings'] + ';GCRA')
+        self.assert_page_of(out, Map.loads(json.dumps(flat)), contents=[example.SOURCE, None])
+
+    def test_tokens_at_one_position(self) -> None:
+        """The page holds all tokens of all kinds of maps."""
+        for name, count in [('duplicates', 27), ('regular', 0), ('hermes', 0), ('ranges', 0), ('root', 0)]:
+            map = Map.load(builds.TEST_MAPS / f'{name}.map')
+            path = self.folder / 'page.html'
+            path.write_text(page.page_text('a.js', '', map), 'utf-8')
+            self.assert_page_of(path, map, contents=list(map.contents))
+            self.assertEqual(len(self.data_of(path)['others']), 8 * count)
 
     def test_text_of_scripts(self) -> None:
         """No text ends the script element that holds it, and all texts are read back unchanged."""
-        path = self.write_page(HOSTILE_GENERATED, HOSTILE_MAP, '<script>{{DATA}}')
+        path = self.write_page(HOSTILE_GENERATED, HOSTILE_MAP, '<script>null')
         text = path.read_bytes().decode('utf-8')
-        self.assertEqual(text.count('</script>'), 2)
-        self.assertIn('<h1>&lt;script&gt;{{DATA}}</h1>', text)
+        self.assertEqual(text.count('</script>'), 3)
+        self.assertIn('<title>&lt;script&gt;null and its sources</title>', text)
+        self.assertEqual(self.data_of(path)['name'], '<script>null')
+        self.assertEqual(self.data_of(path)['generated'], HOSTILE_GENERATED)
+        self.assert_page_of(path, Map.loads(HOSTILE_MAP), contents=[HOSTILE_SOURCE, None])
 
     def test_five_megabytes(self) -> None:
         """Texts of 5 MB together: the page holds all of them, and the mappings."""
@@ -169,25 +208,39 @@ class Written(InFolder):
         out = self.folder / 'out.html'
         command = [sys.executable, '-m', 'sourcemap', 'page', str(self.folder / 'big.js'), '-o', str(out)]
         subprocess.run(command, check=True, cwd=FOLDER)
-        expected = {'generated': generated, 'mappings': mappings, 'sources': names, 'contents': contents, 'names': []}
         data = self.data_of(out)
-        self.assertEqual(list(data), list(expected))
-        for key, value in expected.items():
-            self.assertTrue(data[key] == value, key)  # no difference of megabytes is printed
-        # in the page `<` takes six bytes, a quote and a line end two: 25 bytes more for the two texts of a statement
-        least = size + len(mappings) + 25 * count
-        self.assertGreater(out.stat().st_size, least)
-        self.assertLess(out.stat().st_size, least + 100_000)
+        self.assertTrue(data['generated'] == generated)
+        self.assert_page_of(out, Map.load(self.folder / 'big.js.map'), contents=contents)
+        # `<` takes six bytes in the generated text, a quote and a line end two: 12 bytes more for a statement
+        texts = len(generated.encode('utf-8')) + 12 * count
+        added = out.stat().st_size - (page.FOLDERS[-1] / page.VIEWER).stat().st_size
+        self.assertGreater(added, texts + len(data['map']))
+        self.assertLess(added, texts + len(data['map']) + 1000)
+        # the compiled map has the contents, and less than 7 bytes for each token
+        self.assertLess(len(data['map']) * 3 // 4, sum(len(each.encode('utf-8')) for each in contents) + 7 * count)
 
-    def test_line_too_far_down(self) -> None:
-        """Ten million lines are too many: the mappings would have a byte for each."""
-        section = {'offset': {'line': 10_000_001, 'column': 0}, 'map': {'sources': ['b.js'], 'mappings': 'AAAA'}}
+    def test_line_far_down(self) -> None:
+        """The line of a token may be any line."""
+        section = {'offset': {'line': 4_000_000_000, 'column': 0}, 'map': {'sources': ['b.js'], 'mappings': 'AAAA'}}
         map = Map.loads(json.dumps({'version': 3, 'sections': [section]}))
         map.flatten()
-        with self.assertRaisesRegex(ValueError, '10000001'):
-            page.page_text('a.js', '', map)
+        path = self.folder / 'page.html'
+        path.write_text(page.page_text('a.js', '', map), 'utf-8')
+        token = self.map_of(self.data_of(path)).lookup(4_000_000_000, 0)
+        assert token is not None
+        self.assertEqual((token.generated_line, token.source), (4_000_000_000, 'b.js'))
 
 
+class WithoutViewer(unittest.TestCase):
+    def test_no_viewer(self) -> None:
+        """A message says what is to do."""
+        message = 'viewer.html is not in /none nor in /other: bindings/web/build makes it'
+        with mock.patch.object(page, 'FOLDERS', (Path('/none'), Path('/other'))), \
+                self.assertRaisesRegex(FileNotFoundError, message):
+            page.page_text('a.js', '', Map.loads(example.MAP))
+
+
+@unittest.skipUnless(HAS_VIEWER, 'no viewer: bindings/web/build makes it')
 @unittest.skipIf(BROWSER is None, 'no browser: install the package chromium')
 class InBrowser(InFolder):
     """The page in headless Chromium, opened from a file."""
@@ -197,24 +250,29 @@ class InBrowser(InFolder):
     @classmethod
     def setUpClass(cls) -> None:
         assert BROWSER is not None
-        cls.browser = Browser(BROWSER)
+        cls.browser = Browser(BROWSER, width=1480, height=760)
         cls.addClassCleanup(cls.browser.close)
 
     def open(self, generated: str, map: str) -> None:
         self.browser.errors.clear()
         self.browser.open(self.write_page(generated, map))
+        self.wait_until_ready()
         self.addCleanup(lambda: self.assertEqual(self.browser.errors, []))
+
+    def wait_until_ready(self) -> None:
+        self.browser.wait_until('document.body && document.body.dataset.state === "ready"')
 
     def ask(self, expression: str) -> Any:
         return self.browser.evaluate(expression)
 
     def status(self) -> Any:
+        self.wait_until_ready()
         return self.ask('document.getElementById("status").textContent')
 
     def tokens(self, pane: str, kind: str = 'token') -> List[Tuple[str, str]]:
         """The drawn tokens of a kind in a pane: the number of their row, and their text."""
         found = self.ask(f'''Array.from(document.querySelectorAll("#{pane} .{kind}"), (token) =>
-            [token.parentElement.firstChild.textContent, token.textContent])''')
+            [token.closest(".row").firstChild.textContent, token.textContent])''')
         return [(number, text) for number, text in found]
 
     def middle(self, pane: str, text: str, index: int = 0) -> Tuple[float, float]:
@@ -364,25 +422,39 @@ class InBrowser(InFolder):
         self.browser.press('Enter')
         self.assertEqual(self.status(), first)
 
+    def test_tokens_at_one_position(self) -> None:
+        """The generated text shows the first one, which lookups answer; a source leads to each of them."""
+        # 0:0 -> 0:0, 0:0 -> 1:0, 0:0 -> 1:0 again, 0:2 -> 0:0
+        fields = {'sources': ['a.js'], 'sourcesContent': ['one\ntwo'], 'names': []}
+        self.open('abc', json.dumps({'version': 3, **fields, 'mappings': 'AAAA,AACA,AAAA,EADA'}))
+        self.assertEqual(self.status(), '4 mappings, 1 source')
+        self.assertEqual(self.tokens('generated'), [('1', 'ab'), ('1', 'c')])
+        self.browser.click(self.middle('generated', 'ab'))
+        self.assertEqual(self.status(), 'Generated 1:1 \u2192 a.js 1:1 (1 of 2)')
+        self.browser.click(self.middle('source', 'two'))
+        self.assertEqual(self.status(), 'Generated 1:1 \u2192 a.js 2:1 (1 of 2)')
+        self.assertEqual(self.tokens('generated', 'selected'), [('1', 'ab')])
+        self.browser.press('Enter')
+        self.assertEqual(self.status(), 'Generated 1:1 \u2192 a.js 2:1 (2 of 2)')
+        self.browser.press('Enter')
+        self.assertEqual(self.status(), 'Generated 1:1 \u2192 a.js 2:1 (1 of 2)')
+
     def test_source_without_contents(self) -> None:
         self.open(HOSTILE_GENERATED, HOSTILE_MAP)
-        options = 'Array.from(document.getElementById("sources").options, (option) => option.text)'
+        options = 'Array.from(document.querySelectorAll("#sources [role=option]"), (option) => option.title)'
         self.assertEqual(self.ask(options), ['root/<i>a.js', 'root/b.js (no contents)'])
         self.browser.click(self.middle('generated', 'a;'))
         self.assertEqual(self.status(), 'Generated 2:1 \u2192 root/b.js 5:3')
-        self.assertEqual(self.ask('document.getElementById("sources").value'), '1')
+        self.assertEqual(self.ask('document.getElementById("source-name").textContent'), 'root/b.js')
         notice = 'The map holds no contents of this source.'
-        self.assertEqual(self.ask('document.getElementById("source").textContent'), notice)
+        self.assertIn(notice, self.ask('document.getElementById("source").textContent'))
         self.browser.click(self.middle('generated', 'b&amp;'))
-        self.assertEqual(self.ask('document.getElementById("sources").value'), '0')
+        self.assertEqual(self.ask('document.getElementById("source-name").textContent'), 'root/<i>a.js')
         self.assert_seen('source', 'selected')
 
     def choose_source(self, number: int) -> None:
-        self.ask(f'''(() => {{
-            const list = document.getElementById("sources");
-            list.value = "{number}";
-            list.dispatchEvent(new Event("change"));
-        }})()''')
+        self.ask(f'document.querySelectorAll("#sources [role=option]")[{number}].click()')
+        self.wait_until_ready()
 
     def test_list_of_sources(self) -> None:
         """Of three sources the middle one has no mapping, and contents all the same."""
@@ -430,8 +502,8 @@ class InBrowser(InFolder):
             return row && row.querySelector(".number").textContent;
         })()'''
         self.browser.wait_until(f'{top} === "501"')
-        self.addCleanup(self.browser.resize, 1200, 700)
-        self.browser.resize(800, 700)
+        self.addCleanup(self.browser.resize, 1480, 760)
+        self.browser.resize(1000, 760)
         rows = 'document.querySelector("#generated > div").offsetHeight / 20'
         self.browser.wait_until(f'{rows} === 2000')
         self.browser.wait_until(f'{top} === "501"')
@@ -463,6 +535,19 @@ class InBrowser(InFolder):
         self.assertGreater(len(rows), 5)
         self.assertEqual(''.join(rows), text)
         self.assertEqual({row.strip('"').replace('\U0001f600', '') for row in rows}, {''})
+
+    def test_contents_from_files(self) -> None:
+        """They are shown, and the others stay."""
+        (self.folder / 'b.ts').write_text('from a file', 'utf-8')
+        fields = {'sources': ['a.ts', 'b.ts'], 'sourcesContent': ['from the map', None], 'names': []}
+        map = json.dumps({'version': 3, **fields, 'mappings': 'AAAA,CCAA'})
+        path = self.folder / 'page.html'
+        path.write_text(page.page_text('x.js', 'xy', Map.loads(map), self.folder / 'x.js.map'), 'utf-8')
+        self.browser.open(path)
+        self.wait_until_ready()
+        self.assertEqual(self.tokens('source'), [('1', 'from the map')])
+        self.browser.click(self.middle('generated', 'y'))
+        self.assertEqual(self.tokens('source', 'selected'), [('1', 'from a file')])
 
     def test_text_taller_than_an_element(self) -> None:
         """450,000 lines of 20 pixels; browsers draw fewer."""

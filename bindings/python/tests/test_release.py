@@ -5,14 +5,18 @@ from __future__ import annotations
 import json
 import os
 import pickle
+import signal
 import subprocess
 import sys
 import tempfile
 import unittest
+from concurrent.futures import ThreadPoolExecutor
 from pathlib import Path
 from typing import List
+from unittest import mock
 
-from sourcemap import CompiledMap, Map, Release, _cache, errors
+from sourcemap import CompiledMap, Map, Release, _cache, _compiler, errors
+from sourcemap.release import Problem
 
 from . import builds
 from .builds import ID, put
@@ -303,6 +307,39 @@ class BadMaps(Folder):
             release.open('app.js')
         with release.open('other.js') as map:
             self.assertEqual(str(map.lookup(0, 0)), 'a.js:0:0')
+
+    def test_a_hostile_map_takes_no_memory_from_others(self) -> None:
+        """The limit is one of another process: beside it this one takes what it wants."""
+        record = {'version': 3, 'sourceRoot': 'r' * 128_000, 'sources': [''] * 10_600, 'names': [], 'mappings': 'AAAA'}
+        text = json.dumps(record, separators=(',', ':'))
+        for number in range(4):
+            self.put(f'{number}.js.map', text + ' ' * number)
+        release = self.release()
+        with ThreadPoolExecutor(1) as threads:
+            asked = [threads.submit(release.compiled, f'{number}.js', None) for number in range(4)]
+            while not all(each.done() for each in asked):
+                bytes(300_000_000)
+            self.assertEqual([type(each.result()) for each in asked], [Problem] * 4)
+
+    def test_a_process_that_is_killed(self) -> None:
+        """The map is compiled by another one."""
+        self.put_map('0.js.map')
+        self.put_map('1.js.map', 'b.js')
+        release = self.release()
+        release.open('0.js').close()
+        process = _compiler._process
+        assert process is not None
+        process.kill()
+        with release.open('1.js') as map:
+            self.assertEqual(map.sources, ['b.js'])
+        self.assertEqual(process.returncode, -signal.SIGKILL)
+
+    def test_a_process_that_does_not_start(self) -> None:
+        self.put_map('app.js.map')
+        _compiler._forget()
+        with mock.patch('sys.executable', '/bin/false'), self.assertRaisesRegex(OSError, 'did not start'):
+            self.release().open('app.js')
+        self.release().open('app.js').close()
 
     def test_changed_reference(self) -> None:
         with Map(regular('AAAA')) as map:

@@ -1,6 +1,6 @@
 //! Whether bytes are a map, and which map a generated text refers to.
 
-use std::io::Read;
+use std::io::{BufRead, BufReader, Read};
 use std::path::{Path, PathBuf};
 
 use crate::decoder::decode_data_url;
@@ -62,10 +62,20 @@ pub(crate) fn resolve_path(reference: &str, base: &Path) -> Option<PathBuf> {
     must(handle::resolve_path(reference, base.to_str()?)).map(PathBuf::from)
 }
 
-/// Reads a generated text to its end, and returns its reference, as
-/// [`locate_sourcemap_reference_slice`] does.
+/// Reads a generated text up to its first reference, and returns that, as
+/// [`locate_sourcemap_reference_slice`] does. What is after the line of the reference
+/// may be read in part.
 pub fn locate_sourcemap_reference<R: Read>(rdr: R) -> Result<Option<SourceMapRef>> {
-    locate_sourcemap_reference_slice(&read_all(rdr)?)
+    let mut text = BufReader::new(rdr);
+    let mut line = Vec::new();
+    while text.read_until(b'\n', &mut line)? != 0 {
+        let found = locate_sourcemap_reference_slice(&line)?;
+        if found.is_some() {
+            return Ok(found);
+        }
+        line.clear();
+    }
+    Ok(None)
 }
 
 /// Returns the first reference to a map in a generated text. A reference is a line

@@ -8,7 +8,7 @@ use std::marker::PhantomData;
 use std::ops::Range;
 use std::path::Path;
 
-use crate::errors::{Error, Result};
+use crate::errors::{Error, RangeError, Result};
 use crate::handle::{BundleHandle, SplitHandle};
 use crate::sourceview::SourceView;
 use crate::types::{SourceMap, SourceMapIndex};
@@ -21,6 +21,53 @@ const HEADER_SIZE: usize = 12;
 const ENTRY_SIZE: usize = 8;
 const MODULES_FOLDER: &str = "js-modules";
 const MAGIC_FILE: &str = "UNBUNDLE";
+
+/// What an indexed RAM bundle begins with. It is read from the bytes of a bundle:
+///
+/// ```
+/// use sourcemap::ram_bundle::RamBundleHeader;
+/// let header = RamBundleHeader::try_from(&b"\xe5\xd1\x0b\xfb\x01\0\0\0\x02\0\0\0.."[..]).unwrap();
+/// assert!(header.is_valid_magic());
+/// ```
+#[derive(Debug, Clone, Copy)]
+pub struct RamBundleHeader {
+    magic: u32,
+    #[allow(dead_code)] // printed
+    module_count: u32,
+    #[allow(dead_code)]
+    startup_code_size: u32,
+}
+
+impl RamBundleHeader {
+    /// Returns whether the bytes begin as an indexed bundle does.
+    pub fn is_valid_magic(&self) -> bool {
+        self.magic == RAM_BUNDLE_MAGIC
+    }
+}
+
+/// Fails with [`Error::Scroll`] if there are fewer than 12 bytes.
+impl TryFrom<&[u8]> for RamBundleHeader {
+    type Error = Error;
+
+    fn try_from(bytes: &[u8]) -> Result<RamBundleHeader> {
+        let header = bytes.first_chunk().ok_or(Error::Scroll(RangeError {
+            start: 0,
+            size: HEADER_SIZE as u64,
+            len: bytes.len() as u64,
+        }))?;
+        let [magic, module_count, startup_code_size] = words(header);
+        Ok(RamBundleHeader {
+            magic,
+            module_count,
+            startup_code_size,
+        })
+    }
+}
+
+/// Three numbers in little-endian order.
+fn words(bytes: &[u8; HEADER_SIZE]) -> [u32; 3] {
+    [0, 4, 8].map(|at| u32::from_le_bytes([bytes[at], bytes[at + 1], bytes[at + 2], bytes[at + 3]]))
+}
 
 /// The form of a RAM bundle.
 #[derive(Debug, Clone, PartialEq, Eq, Hash, Ord, PartialOrd)]

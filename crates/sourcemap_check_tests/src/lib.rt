@@ -1,12 +1,18 @@
-//! Tests of checks: the codes of maps, where findings are, and tokens that look wrong.
+//! Tests of checks: the codes of maps, where findings are, tokens that look wrong, and shifts.
 #![tactic(auto)]
 
 #[cfg(test)]
 mod edges;
 #[cfg(test)]
+mod generated;
+#[cfg(test)]
+mod lists;
+#[cfg(test)]
 mod places;
 #[cfg(test)]
 mod rules;
+#[cfg(test)]
+mod shifts;
 #[cfg(test)]
 mod texts;
 

@@ -1,1 +1,5 @@
+pub mod GeneratedLemmas
+pub mod MarkedLemmas
 pub mod PlaceLemmas
+pub mod ShiftLemmas
+pub mod SpotLemmas

@@ -1,6 +1,6 @@
 -- When a token of a regular map looks wrong, though the map is valid.
 use Rattle.std.specs.Prelude.{◌≡◌, ℕ, zero, suc, ◌==◌, ◌&&◌, Bool, not, false, is_none, nat_lt, nat_eq, List, [], ◌∷◌, ◌++◌}
-use Rattle.std.specs.Prelude.{length, take, drop, cond, Option, Some, None, option_and_then, slice_get}
+use Rattle.std.specs.Prelude.{length, take, drop, cond, Option, None, option_and_then, slice_get}
 use Rattle.std.specs.List.{starts_with}
 use Rattle.std.specs.Option.{option_map_or}
 use Rattle.std.specs.Str.{chars}

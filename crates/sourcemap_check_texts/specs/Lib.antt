@@ -1,1 +1,3 @@
 pub mod Doubts
+pub mod Generated
+pub mod Shifts

@@ -1,5 +1,6 @@
 //! Tokens that look wrong.
-ghost use Rattle.std.specs.Prelude.{◌≡◌, ◌≤◌, ◌<◌, ◌^◌, ◌+◌, ◌++◌, ◌∷◌, [], ℕ, List, IfOk, IfErr, OnOk, option_map, length, cond};
+ghost use Rattle.std.specs.Prelude.{◌≡◌, ◌↔◌, ◌≤◌, ◌<◌, ◌^◌, ◌+◌, ◌++◌, ◌∷◌, [], ℕ, List, Contains, Bool, true, cond};
+ghost use Rattle.std.specs.Prelude.{IfOk, IfErr, OnOk, option_map, length};
 ghost use Rattle.sourcemap_errors.specs.declared.errors.Error.TheVariants.{OutOfMemory};
 ghost use Rattle.sourcemap_check_texts.specs.Doubts.{are_at_one_position, have_one_original, has_two_originals, ArePlaces};
 ghost use Rattle.sourcemap_check_texts.specs.Doubts.{is_past_source, is_past_line, splits_pair, stands_at, marked};
@@ -92,7 +93,7 @@ fn is_past_source(map: &SourceMap, token: RawToken) -> bool
 }
 
 // The line of the contents that the original position is on.
-fn original_line(map: &SourceMap, token: RawToken) -> Option<&str>
+pub(crate) fn original_line(map: &SourceMap, token: RawToken) -> Option<&str>
     ensures { option_map (λ line. line.now) result ≡ original_line map.now token }
 {
     map.get_source_view(token.src_id)?.get_line(token.src_line)
@@ -113,13 +114,13 @@ fn splits_pair(line: &str, column: u32) -> bool
     }
 }
 
-fn stands_at(line: &str, column: u32, text: &str) -> bool
+pub(crate) fn stands_at(line: &str, column: u32, text: &[u8]) -> bool
     ensures { result ≡ stands_at line.now column text.now }
 {
     match reach(line, u64::from(column)) {
         Some(at) => {
             let rest = &line[at.offset..];
-            rest.as_bytes().starts_with(text.as_bytes())
+            rest.as_bytes().starts_with(text)
         }
         None => false,
     }
@@ -129,7 +130,7 @@ fn has_other_name(map: &SourceMap, line: &str, token: RawToken) -> bool
     ensures { result ≡ has_other_name map.now line.now token }
 {
     match map.get_name(token.name_id) {
-        Some(name) => !stands_at(line, token.src_col, name),
+        Some(name) => !stands_at(line, token.src_col, name.as_bytes()),
         None => false,
     }
 }
@@ -163,7 +164,7 @@ fn looks_wrong(map: &SourceMap, doubt: Doubt, before: Option<RawToken>, token: R
 }
 
 // Counts an index if its test holds. It is kept if fewer than `most` are.
-fn add_place(places: &mut Places, most: usize, index: usize, holds: bool) -> Result<()>
+pub(crate) fn add_place(places: &mut Places, most: usize, index: usize, holds: bool) -> Result<()>
     requires few { places.old.count ≤ index }
     requires small { index + 1 < 2 ^ 64 }
     ensures added { (all : List ℕ) → ArePlaces most all places.old
@@ -203,3 +204,11 @@ pub fn doubtful_tokens(alloc: Global, map: &SourceMap, doubt: Doubt, most: usize
     }
     Ok(places)
 }
+
+/// A law about the lists that `doubtful_tokens` and `doubtful_positions` are the start of: they have
+/// each index below the count at which the test holds, and no other. So a list that was not cut off
+/// has every token that looks wrong.
+pub fn all_places_are_marked()
+    ensures { (test : ℕ → Bool) (count index : ℕ)
+        → Contains (marked test count) index ↔ ((index < count) × (test index ≡ true)) }
+{}

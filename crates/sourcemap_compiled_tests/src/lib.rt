@@ -9,3 +9,5 @@ mod lookups;
 mod maps;
 #[cfg(test)]
 mod texts;
+#[cfg(test)]
+mod written;

@@ -8,7 +8,7 @@ use sourcemap::encoder::Encodable;
 use sourcemap::errors::{Error, Result};
 use sourcemap::types::{DecodedMap, SourceMapIndex, SourceMapSection};
 use sourcemap_test_support::checks::{Checked, check};
-use sourcemap_test_support::results::box_result;
+use sourcemap_test_support::results::{box_result, owned_text};
 use std::alloc::Global;
 
 // A change to an index map that has two sections, or to one of these sections. Sections are
@@ -133,7 +133,7 @@ fn change_text(alloc: Global, index: &mut SourceMapIndex, change: Change) -> Res
     apply_whole(alloc, index, change)?;
     let sections = sections_text(alloc, index)?;
     let has_id = has_debug_id(index.get_section(1));
-    Ok(format!(in alloc; "{:?} {sections} {has_id}", index.get_file())?)
+    owned_text(format!(in alloc; "{:?} {sections} {has_id}", index.get_file()))
 }
 
 fn apply_change(alloc: Global, change: Change) -> Result<String> {
@@ -191,25 +191,25 @@ static CHANGES: [(Change, &str); 11] = [
 
 #[test]
 fn one_part_of_an_index_is_changed(rt: HostRuntime) -> Checked {
+    let alloc = rt.alloc();
     for (change, want) in CHANGES.iter() {
-        check(want, apply_change(rt.alloc(), *change), want)?;
+        check(want, apply_change(alloc, *change), want)?;
     }
     Ok(())
 }
 
 // An index map without sections, but with both lists of a RAM bundle: `x_facebook_offsets` and
 // `x_metro_module_paths`.
-fn bundle_index(alloc: Global) -> Result<Box<SourceMapIndex>> {
+fn bundle_index(alloc: Global) -> Result<SourceMapIndex> {
     let offsets = offsets(alloc)?;
     let paths = paths(alloc)?;
-    let index = SourceMapIndex::new_ram_bundle_compatible(
+    Ok(SourceMapIndex::new_ram_bundle_compatible(
         alloc,
         None,
         Vec::new(alloc),
         Some(offsets),
         Some(paths),
-    );
-    box_result(alloc, Ok(index))
+    ))
 }
 
 fn offsets(alloc: Global) -> Result<Vec<Option<u32>>> {
@@ -226,17 +226,14 @@ fn paths(alloc: Global) -> Result<Vec<String>> {
 }
 
 fn bundle_text(alloc: Global) -> Result<String> {
-    lists_text(alloc, &*bundle_index(alloc)?)
+    let index = box_result(alloc, bundle_index(alloc))?;
+    lists_text(alloc, &*index)
 }
 
 #[test]
 fn indexes_are_made_for_bundles(rt: HostRuntime) -> Checked {
     let want = r#"Some([Some(5), None]) Some(["a.js"]) true"#;
     check("a bundle", bundle_text(rt.alloc()), want)
-}
-
-fn empty(alloc: Global) -> Result<Box<SourceMapIndex>> {
-    box_result(alloc, index_of_file(alloc, Vec::new(alloc)))
 }
 
 fn is_index(map: &DecodedMap, index: &SourceMapIndex) -> bool {
@@ -251,25 +248,22 @@ fn is_read_from(alloc: Global, text: &str, index: &SourceMapIndex) -> Result<boo
 }
 
 // The text that an index is written as, and whether it is read back as the same index.
-fn writing_text(alloc: Global, index: &SourceMapIndex) -> Result<String> {
+fn written_text(alloc: Global, index: Result<SourceMapIndex>) -> Result<String> {
+    let index = box_result(alloc, index)?;
     let text = record_text(alloc, index.as_raw_sourcemap())?;
-    let is_read_back = is_read_from(alloc, text.as_str(), index)?;
-    Ok(format!(in alloc; "{text} {is_read_back}")?)
-}
-
-fn made_index_text(alloc: Global, index: Result<Box<SourceMapIndex>>) -> Result<String> {
-    writing_text(alloc, &*index?)
+    let is_read_back = is_read_from(alloc, text.as_str(), &*index)?;
+    owned_text(format!(in alloc; "{text} {is_read_back}"))
 }
 
 #[test]
 fn indexes_of_no_section_are_written_and_read_back(rt: HostRuntime) -> Checked {
     let alloc = rt.alloc();
     let want = r#"{"file":"test.js","sections":[],"sources":null,"version":3} true"#;
-    check("a file", made_index_text(alloc, empty(alloc)), want)?;
+    let index = index_of_file(alloc, Vec::new(alloc));
+    check("a file", written_text(alloc, index), want)?;
     let want = concat!(
         r#"{"sections":[],"sources":null,"version":3,"x_facebook_offsets":[5,null],"#,
         r#""x_metro_module_paths":["a.js"]} true"#,
     );
-    let got = made_index_text(alloc, bundle_index(alloc));
-    check("a bundle", got, want)
+    check("a bundle", written_text(alloc, bundle_index(alloc)), want)
 }

@@ -4,7 +4,7 @@ use crate::samples::{BUNDLE, HERMES, LINKED, NEITHER, NESTED, TWO};
 use sourcemap::errors::Result;
 use sourcemap::types::{DecodedMap, SourceMapIndex, SourceMapSection};
 use sourcemap_test_support::checks::{Checked, check};
-use sourcemap_test_support::results::box_result;
+use sourcemap_test_support::results::{box_result, owned_text};
 use std::alloc::Global;
 
 fn equals_copy(alloc: Global, map: &DecodedMap) -> Result<bool> {
@@ -15,14 +15,11 @@ fn equals(alloc: Global, map: &DecodedMap, other: &str) -> Result<bool> {
     Ok(*map == *map_of(alloc, other)?)
 }
 
-fn compared_text(alloc: Global, map: &DecodedMap, other: &str) -> Result<String> {
-    let copied = equals_copy(alloc, map)?;
-    let same = equals(alloc, map, other)?;
-    Ok(format!(in alloc; "{copied} {same}")?)
-}
-
 fn compare_maps(alloc: Global, text: &str, other: &str) -> Result<String> {
-    compared_text(alloc, &*map_of(alloc, text)?, other)
+    let map = map_of(alloc, text)?;
+    let copied = equals_copy(alloc, &*map)?;
+    let same = equals(alloc, &*map, other)?;
+    owned_text(format!(in alloc; "{copied} {same}"))
 }
 
 // Two maps, whether the first equals its copy, and whether the two are equal.
@@ -66,20 +63,20 @@ fn section_equals_copy(alloc: Global, section: Option<&SourceMapSection>) -> Res
     }
 }
 
-fn copies_text(alloc: Global, index: &SourceMapIndex) -> Result<String> {
-    let index_copied = index_equals_copy(alloc, index)?;
+fn copy_parts(alloc: Global, text: &str) -> Result<String> {
+    let index = index_of(alloc, text)?;
+    let index_copied = index_equals_copy(alloc, &*index)?;
     let section_copied = section_equals_copy(alloc, index.get_section(0))?;
-    Ok(format!(in alloc; "{index_copied} {section_copied}")?)
+    owned_text(format!(in alloc; "{index_copied} {section_copied}"))
 }
 
-fn copy_parts(alloc: Global, text: &str) -> Result<String> {
-    copies_text(alloc, &*index_of(alloc, text)?)
-}
+static COPIED: [&str; 5] = [TWO, LINKED, NEITHER, NESTED, HERMES];
 
 #[test]
 fn copies_of_indexes_and_sections_are_equal(rt: HostRuntime) -> Checked {
-    for text in [TWO, LINKED, NEITHER, NESTED, HERMES].iter() {
-        check(text, copy_parts(rt.alloc(), text), "true true")?;
+    let alloc = rt.alloc();
+    for text in COPIED.iter() {
+        check(text, copy_parts(alloc, text), "true true")?;
     }
     Ok(())
 }

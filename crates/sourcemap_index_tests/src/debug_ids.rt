@@ -6,7 +6,7 @@ use sourcemap::errors::Result;
 use sourcemap::jsontypes::DebugId;
 use sourcemap::types::DecodedMap;
 use sourcemap_test_support::checks::{Checked, check};
-use sourcemap_test_support::results::{box_result, error_of, text_or_none};
+use sourcemap_test_support::results::{box_result, error_of, owned_text, text_or_none};
 use std::alloc::Global;
 
 const ID: &str = "0123456789abcdef0123456789abcdef";
@@ -20,7 +20,7 @@ pub fn id_text(alloc: Global, map: &DecodedMap) -> Result<String> {
 fn id_and_text(alloc: Global, map: &DecodedMap) -> Result<String> {
     let id = id_text(alloc, map)?;
     let text = value_text(alloc, map.to_value())?;
-    Ok(format!(in alloc; "{id} {text}")?)
+    owned_text(format!(in alloc; "{id} {text}"))
 }
 
 fn read(alloc: Global, text: &str) -> Result<String> {
@@ -95,8 +95,9 @@ static READ: [(&str, &str); 8] = [
 
 #[test]
 fn debug_ids_of_indexes_are_read(rt: HostRuntime) -> Checked {
+    let alloc = rt.alloc();
     for (text, want) in READ.iter() {
-        check(text, read(rt.alloc(), text), want)?;
+        check(text, read(alloc, text), want)?;
     }
     Ok(())
 }
@@ -152,8 +153,9 @@ static SET: [(&str, Option<&str>, &str); 4] = [
 
 #[test]
 fn debug_ids_of_indexes_are_set(rt: HostRuntime) -> Checked {
+    let alloc = rt.alloc();
     for (text, id, want) in SET.iter() {
-        check(text, set(rt.alloc(), text, *id), want)?;
+        check(text, set(alloc, text, *id), want)?;
     }
     Ok(())
 }
@@ -173,7 +175,7 @@ fn made_text(alloc: Global, map: &mut DecodedMap) -> Result<String> {
         r#"{"version":3,"file":"test.js","sections":[],"debugId":"0123456789abcdef0123456789abcdef"}"#;
     let is_read = *map == *map_of(alloc, text)?;
     let has_it = map.debug_id() == DebugId::parse(ID);
-    Ok(format!(in alloc; "{had_none} {is_read} {has_it}")?)
+    owned_text(format!(in alloc; "{had_none} {is_read} {has_it}"))
 }
 
 fn empty_index_text(alloc: Global) -> Result<String> {

@@ -4,7 +4,7 @@ use sourcemap::errors::Result;
 use sourcemap::types::{DecodedMap, SourceMapIndex, SourceMapSection};
 use sourcemap_test_support::checks::{Checked, check};
 use sourcemap_test_support::readers::HaltingReader;
-use sourcemap_test_support::results::{box_result, error_of};
+use sourcemap_test_support::results::{box_result, error_of, owned_text};
 use std::alloc::Global;
 use std::io::ErrorKind;
 
@@ -16,7 +16,7 @@ fn section_text(alloc: Global, section: &SourceMapSection) -> Result<String> {
         Some(DecodedMap::Hermes(_)) => "a Hermes map",
     };
     let (line, col) = section.get_offset();
-    Ok(format!(in alloc; "{line}:{col} {:?} {held};", section.get_url())?)
+    owned_text(format!(in alloc; "{line}:{col} {:?} {held};", section.get_url()))
 }
 
 /// Returns a text with the offset, the URL and the kind of map (or `no map`) of each section. The
@@ -32,8 +32,8 @@ pub fn sections_text(alloc: Global, index: &SourceMapIndex) -> Result<String> {
 fn map_text(alloc: Global, map: &DecodedMap) -> Result<String> {
     match map {
         DecodedMap::Index(index) => sections_text(alloc, index),
-        DecodedMap::Regular(_) => Ok(String::from_str(alloc, "a regular map")?),
-        DecodedMap::Hermes(_) => Ok(String::from_str(alloc, "a Hermes map")?),
+        DecodedMap::Regular(_) => owned_text(String::from_str(alloc, "a regular map")),
+        DecodedMap::Hermes(_) => owned_text(String::from_str(alloc, "a Hermes map")),
     }
 }
 
@@ -156,20 +156,31 @@ fn one_by_one(bytes: &[u8]) -> HaltingReader<'_> {
     HaltingReader::new(bytes, usize::MAX, ErrorKind::TimedOut)
 }
 
-fn read_owned(alloc: Global, text: &str) -> Result<DecodedMap> {
-    decode_vec(alloc, Vec::from_slice(alloc, text.as_bytes())?)
+fn read(alloc: Global, bytes: &[u8]) -> Result<String> {
+    describe(alloc, decode_slice(alloc, bytes))
+}
+
+fn read_owned(alloc: Global, bytes: &[u8]) -> Result<String> {
+    let bytes = Vec::from_slice(alloc, bytes)?;
+    describe(alloc, decode_vec(alloc, bytes))
+}
+
+fn stream(alloc: Global, bytes: &[u8]) -> Result<String> {
+    describe(alloc, decode(alloc, bytes))
+}
+
+fn stream_one_by_one(alloc: Global, bytes: &[u8]) -> Result<String> {
+    describe(alloc, decode(alloc, one_by_one(bytes)))
 }
 
 #[test]
 fn records_are_read_section_by_section(rt: HostRuntime) -> Checked {
     let alloc = rt.alloc();
     for (text, want) in TEXTS.iter() {
-        let bytes = text.as_bytes();
-        check(text, describe(alloc, decode_slice(alloc, bytes)), want)?;
-        check(text, describe(alloc, read_owned(alloc, text)), want)?;
-        check(text, describe(alloc, decode(alloc, bytes)), want)?;
-        let read = decode(alloc, one_by_one(bytes));
-        check(text, describe(alloc, read), want)?;
+        check(text, read(alloc, text.as_bytes()), want)?;
+        check(text, read_owned(alloc, text.as_bytes()), want)?;
+        check(text, stream(alloc, text.as_bytes()), want)?;
+        check(text, stream_one_by_one(alloc, text.as_bytes()), want)?;
     }
     Ok(())
 }
@@ -214,17 +225,25 @@ static INDEXES: [(&str, &str); 8] = [
     ("", "bad json: the text is not JSON"),
 ];
 
+fn read_index(alloc: Global, bytes: &[u8]) -> Result<String> {
+    index_text(alloc, SourceMapIndex::from_slice(alloc, bytes))
+}
+
+fn stream_index(alloc: Global, bytes: &[u8]) -> Result<String> {
+    index_text(alloc, SourceMapIndex::from_reader(alloc, bytes))
+}
+
+fn stream_index_one_by_one(alloc: Global, bytes: &[u8]) -> Result<String> {
+    index_text(alloc, SourceMapIndex::from_reader(alloc, one_by_one(bytes)))
+}
+
 #[test]
 fn indexes_alone_are_read(rt: HostRuntime) -> Checked {
     let alloc = rt.alloc();
     for (text, want) in INDEXES.iter() {
-        let bytes = text.as_bytes();
-        let read = SourceMapIndex::from_slice(alloc, bytes);
-        check(text, index_text(alloc, read), want)?;
-        let streamed = SourceMapIndex::from_reader(alloc, bytes);
-        check(text, index_text(alloc, streamed), want)?;
-        let streamed = SourceMapIndex::from_reader(alloc, one_by_one(bytes));
-        check(text, index_text(alloc, streamed), want)?;
+        check(text, read_index(alloc, text.as_bytes()), want)?;
+        check(text, stream_index(alloc, text.as_bytes()), want)?;
+        check(text, stream_index_one_by_one(alloc, text.as_bytes()), want)?;
     }
     Ok(())
 }

@@ -185,13 +185,14 @@ static REWRITTEN: [(&str, bool, bool, &str); 6] = [
 
 #[test]
 fn flat_maps_are_rewritten(rt: HostRuntime) -> Checked {
+    let alloc = rt.alloc();
     for (text, with_names, load_contents, want) in REWRITTEN.iter() {
         let options = RewriteOptions {
             with_names: *with_names,
             load_local_source_contents: *load_contents,
             ..RewriteOptions::default()
         };
-        let got = rewrite_flat(&rt, rt.alloc(), text, &options);
+        let got = rewrite_flat(&rt, alloc, text, &options);
         check(text, got, want)?;
     }
     Ok(())

@@ -4,6 +4,7 @@ use crate::maps::map_of;
 use sourcemap::errors::{Error, Result};
 use sourcemap::types::{DecodedMap, SourceMapIndex};
 use sourcemap_test_support::checks::{Checked, check};
+use sourcemap_test_support::results::owned_text;
 use std::alloc::Global;
 
 const FULL: &str = concat!(
@@ -31,28 +32,28 @@ enum Getter {
 
 fn parts_as_text(alloc: Global, index: &SourceMapIndex) -> Result<String> {
     let counts = (index.get_section_count(), index.sections().count());
-    Ok(format!(in alloc; "{:?} {counts:?}", index.get_file())?)
+    owned_text(format!(in alloc; "{:?} {counts:?}", index.get_file()))
 }
 
 /// The offsets and module paths of an index map, and whether it is for a RAM bundle.
 pub fn lists_text(alloc: Global, index: &SourceMapIndex) -> Result<String> {
     let offsets = index.x_facebook_offsets();
     let paths = index.x_metro_module_paths();
-    Ok(format!(in alloc; "{offsets:?} {paths:?} {}", index.is_for_ram_bundle())?)
+    owned_text(format!(in alloc; "{offsets:?} {paths:?} {}", index.is_for_ram_bundle()))
 }
 
 fn section_text(alloc: Global, index: &SourceMapIndex, id: u32) -> Result<String> {
     let Some(section) = index.get_section(id) else {
-        return Ok(String::from_str(alloc, "none")?);
+        return owned_text(String::from_str(alloc, "none"));
     };
     let line = section.get_offset_line();
     let col = section.get_offset_col();
     let has_map = section.get_sourcemap().is_some();
-    Ok(format!(in alloc;
+    owned_text(format!(in alloc;
         "{line} {col} {:?} {:?} {has_map}",
         section.get_offset(),
         section.get_url()
-    )?)
+    ))
 }
 
 fn describe(alloc: Global, map: &DecodedMap, getter: Getter) -> Result<String> {
@@ -111,8 +112,9 @@ static ANSWERS: [(&str, Getter, &str); 13] = [
 
 #[test]
 fn getters_return_parts(rt: HostRuntime) -> Checked {
+    let alloc = rt.alloc();
     for (text, getter, want) in ANSWERS.iter() {
-        check(want, answer(rt.alloc(), text, *getter), want)?;
+        check(want, answer(alloc, text, *getter), want)?;
     }
     Ok(())
 }

@@ -6,7 +6,7 @@ use sourcemap::errors::Result;
 use sourcemap::types::DecodedMap;
 use sourcemap::{SourceMap, SourceMapHermes};
 use sourcemap_test_support::checks::{Checked, check};
-use sourcemap_test_support::results::error_of;
+use sourcemap_test_support::results::{error_of, owned_text};
 use std::alloc::Global;
 
 const TWO_FUNCTIONS: &str = concat!(
@@ -58,12 +58,9 @@ fn name_text(map: &DecodedMap, offset: u32) -> &str {
     }
 }
 
-fn copy_name(alloc: Global, map: &DecodedMap, offset: u32) -> Result<String> {
-    Ok(String::from_str(alloc, name_text(map, offset))?)
-}
-
 fn name_at(alloc: Global, text: &str, offset: u32) -> Result<String> {
-    copy_name(alloc, &*map_of(alloc, text)?, offset)
+    let map = map_of(alloc, text)?;
+    owned_text(String::from_str(alloc, name_text(&*map, offset)))
 }
 
 // A map, a bytecode offset, and the name of the function at this offset, or `none`. For an index
@@ -81,8 +78,9 @@ static NAMES: [(&str, u32, &str); 8] = [
 
 #[test]
 fn functions_of_a_decoded_map_have_names(rt: HostRuntime) -> Checked {
+    let alloc = rt.alloc();
     for (text, offset, want) in NAMES.iter() {
-        check(text, name_at(rt.alloc(), text, *offset), want)?;
+        check(text, name_at(alloc, text, *offset), want)?;
     }
     Ok(())
 }
@@ -102,10 +100,13 @@ fn read_back_text(alloc: Global, text: &str) -> Result<String> {
     value_text(alloc, read_back(alloc, &value))
 }
 
+static WRITTEN: [&str; 3] = [SECOND_SOURCE, SHORT, BROKEN];
+
 #[test]
 fn scopes_are_written_as_they_were_read(rt: HostRuntime) -> Checked {
-    for text in [SECOND_SOURCE, SHORT, BROKEN].iter() {
-        check(text, read_back_text(rt.alloc(), text), text)?;
+    let alloc = rt.alloc();
+    for text in WRITTEN.iter() {
+        check(text, read_back_text(alloc, text), text)?;
     }
     Ok(())
 }
@@ -116,7 +117,7 @@ fn ids_text(alloc: Global, map: &mut DecodedMap) -> Result<String> {
     let old = id_text(alloc, map)?;
     map.set_debug_id(None);
     let new = id_text(alloc, map)?;
-    Ok(format!(in alloc; "{old} {new} {}", name_text(map, 0))?)
+    owned_text(format!(in alloc; "{old} {new} {}", name_text(map, 0)))
 }
 
 fn ids(alloc: Global, text: &str) -> Result<String> {
@@ -137,7 +138,7 @@ fn debug_ids_of_hermes_maps_are_set(rt: HostRuntime) -> Checked {
 fn kinds(alloc: Global, text: &str) -> Result<String> {
     let regular = error_of(alloc, SourceMap::from_slice(alloc, text.as_bytes()))?;
     let hermes = error_of(alloc, SourceMapHermes::from_slice(alloc, text.as_bytes()))?;
-    Ok(format!(in alloc; "{regular}; {hermes}")?)
+    owned_text(format!(in alloc; "{regular}; {hermes}"))
 }
 
 // A text, and the errors of reading the text as a regular map and as a Hermes map.
@@ -155,8 +156,9 @@ static KINDS: [(&str, &str); 3] = [
 
 #[test]
 fn each_kind_is_decoded_by_its_own_reader(rt: HostRuntime) -> Checked {
+    let alloc = rt.alloc();
     for (text, want) in KINDS.iter() {
-        check(text, kinds(rt.alloc(), text), want)?;
+        check(text, kinds(alloc, text), want)?;
     }
     Ok(())
 }

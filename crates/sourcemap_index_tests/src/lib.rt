@@ -1,10 +1,12 @@
 //! Tests of index maps: decoding, construction, lookups, changes, flattening and writing. Also
-//! tests of Hermes maps, of reading and writing maps of each kind, and of splitting a RAM bundle
-//! and its index map into modules.
+//! tests of Hermes maps, of reading, writing and compiling maps of each kind, and of splitting a
+//! RAM bundle and its index map into modules.
 #![tactic(auto)]
 
 #[cfg(test)]
 mod changes;
+#[cfg(test)]
+mod compiled;
 #[cfg(test)]
 mod copies;
 #[cfg(test)]

@@ -4,7 +4,7 @@ use sourcemap::decoder::decode_slice;
 use sourcemap::errors::{Error, Result};
 use sourcemap::jsontypes::RawSourceMap;
 use sourcemap::types::{DecodedMap, SourceMapIndex};
-use sourcemap_test_support::results::{box_result, error_of};
+use sourcemap_test_support::results::{box_result, error_of, owned_text};
 use std::alloc::Global;
 
 /// Decodes a text to a map of any kind. The errors are those of `decode_slice`.
@@ -35,7 +35,7 @@ pub fn record_text(alloc: Global, record: Result<RawSourceMap>) -> Result<String
 /// memory stays an error.
 pub fn value_text(alloc: Global, value: Result<Value>) -> Result<String> {
     match value {
-        Ok(value) => Ok(value.to_string(alloc)?),
+        Ok(value) => owned_text(value.to_string(alloc)),
         error => error_of(alloc, error),
     }
 }

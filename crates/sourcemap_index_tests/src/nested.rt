@@ -6,7 +6,7 @@ use sourcemap::decoder::decode_slice;
 use sourcemap::errors::Result;
 use sourcemap::types::{DecodedMap, SourceMapIndex, SourceMapSection};
 use sourcemap_test_support::checks::{Checked, check};
-use sourcemap_test_support::results::{again, box_result, error_of, text_or_none};
+use sourcemap_test_support::results::{again, box_result, error_of, owned_text, text_or_none};
 use std::alloc::Global;
 
 const INNERMOST: &str = r#"{"sources":["a.js"],"mappings":"AAAA"}"#;
@@ -37,7 +37,7 @@ fn nested_index(alloc: Global, depth: usize) -> Result<Box<DecodedMap>> {
 fn nested_text(alloc: Global, depth: usize) -> Result<String> {
     let head = OPENED.repeat(alloc, depth)?;
     let tail = CLOSED.repeat(alloc, depth)?;
-    Ok(format!(in alloc; "{head}{INNERMOST}{tail}")?)
+    owned_text(format!(in alloc; "{head}{INNERMOST}{tail}"))
 }
 
 /// The text of the token at 0:0 in a map, or the error.
@@ -78,7 +78,7 @@ fn nested_index_maps_are_looked_up(rt: HostRuntime) -> Checked {
 fn flat_first_token_text(alloc: Global, map: &DecodedMap) -> Result<String> {
     match map {
         DecodedMap::Index(index) => flat_token_text(alloc, index, 0, 0),
-        _ => Ok(String::from_str(alloc, "no index")?),
+        _ => owned_text(String::from_str(alloc, "no index")),
     }
 }
 
@@ -90,7 +90,7 @@ fn flatten_nested(alloc: Global, depth: usize) -> Result<String> {
 // The text of the token at 0:0 of `made`, and whether `made` equals `map`.
 fn text_beside(alloc: Global, map: &DecodedMap, made: &DecodedMap) -> Result<String> {
     let token = text_or_none(alloc, made.lookup_token(0, 0))?;
-    Ok(format!(in alloc; "{token} {}", *made == *map)?)
+    owned_text(format!(in alloc; "{token} {}", *made == *map))
 }
 
 fn read_value(alloc: Global, value: Result<Value>) -> Result<Box<DecodedMap>> {
@@ -107,32 +107,25 @@ fn read_back(alloc: Global, depth: usize) -> Result<String> {
     again(|| read_back_text(alloc, &*map))
 }
 
-fn copy_text(alloc: Global, map: &DecodedMap) -> Result<String> {
-    text_beside(alloc, map, &*box_result(alloc, map.clone())?)
-}
-
 fn copy_nested(alloc: Global, depth: usize) -> Result<String> {
-    copy_text(alloc, &*nested_index(alloc, depth)?)
-}
-
-fn moved_text(alloc: Global, map: &DecodedMap, value: Result<Value>) -> Result<String> {
-    text_beside(alloc, map, &*read_value(alloc, value)?)
+    let map = nested_index(alloc, depth)?;
+    let copy = box_result(alloc, map.clone())?;
+    text_beside(alloc, &*map, &*copy)
 }
 
 fn move_nested(alloc: Global, depth: usize) -> Result<String> {
     let value = wrap_often(alloc, depth)?.into_value();
-    moved_text(alloc, &*nested_index(alloc, depth)?, value)
+    let made = read_value(alloc, value)?;
+    let map = nested_index(alloc, depth)?;
+    text_beside(alloc, &*map, &*made)
 }
 
 // How many sections occur in the `Debug` text of a map.
-fn count_sections(alloc: Global, map: &DecodedMap) -> Result<String> {
-    let text = format!(in alloc; "{map:?}")?;
-    let count = text.split("SourceMapSection {").skip(1).count();
-    Ok(format!(in alloc; "{count}")?)
-}
-
 fn print_nested(alloc: Global, depth: usize) -> Result<String> {
-    count_sections(alloc, &*nested_index(alloc, depth)?)
+    let map = nested_index(alloc, depth)?;
+    let text = format!(in alloc; "{:?}", &*map)?;
+    let count = text.split("SourceMapSection {").skip(1).count();
+    owned_text(format!(in alloc; "{count}"))
 }
 
 #[test]
@@ -158,13 +151,10 @@ fn bytes_of(alloc: Global, map: &DecodedMap) -> Result<Vec<u8>> {
     Ok(bytes)
 }
 
-fn written_text(alloc: Global, map: &DecodedMap) -> Result<String> {
-    let bytes = bytes_of(alloc, map)?;
-    text_of_bytes(alloc, map, bytes.as_slice())
-}
-
 fn write_nested(alloc: Global, depth: usize) -> Result<String> {
-    written_text(alloc, &*nested_index(alloc, depth)?)
+    let map = nested_index(alloc, depth)?;
+    let bytes = bytes_of(alloc, &*map)?;
+    text_of_bytes(alloc, &*map, bytes.as_slice())
 }
 
 // The number of nested index maps, and the result of decoding the JSON text written for them. The
@@ -179,8 +169,9 @@ static WRITTEN: [(usize, &str); 4] = [
 
 #[test]
 fn nested_index_maps_are_written_at_any_depth(rt: HostRuntime) -> Checked {
+    let alloc = rt.alloc();
     for (depth, want) in WRITTEN.iter() {
-        check(want, write_nested(rt.alloc(), *depth), want)?;
+        check(want, write_nested(alloc, *depth), want)?;
     }
     Ok(())
 }

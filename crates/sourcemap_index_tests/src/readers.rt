@@ -8,7 +8,7 @@ use sourcemap::errors::{Error, Result};
 use sourcemap::types::{DecodedMap, SourceMap, SourceMapIndex};
 use sourcemap_test_support::checks::{Checked, check, check_that};
 use sourcemap_test_support::readers::HaltingReader;
-use sourcemap_test_support::results::{again, box_result, error_of};
+use sourcemap_test_support::results::{again, box_result, error_of, owned_text};
 use std::alloc::Global;
 use std::io::ErrorKind;
 
@@ -38,35 +38,41 @@ fn decode_halting(alloc: Global, text: &str, reads: usize) -> Result<String> {
     first_token_text(alloc, box_result(alloc, decode(alloc, reader)))
 }
 
-fn is_as_from_slice(alloc: Global, map: &DecodedMap, text: &str) -> Result<bool> {
-    Ok(*map_of(alloc, text)? == *map)
-}
-
 // Whether a reader of a text decodes to the same map as a slice of its bytes.
 fn is_read_alike(alloc: Global, text: &str) -> Result<String> {
     let reader = halting_reader(text, usize::MAX, ErrorKind::TimedOut);
     let map = box_result(alloc, DecodedMap::from_reader(alloc, reader))?;
-    Ok(format!(in alloc; "{}", is_as_from_slice(alloc, &*map, text)?)?)
+    let sliced = map_of(alloc, text)?;
+    owned_text(format!(in alloc; "{}", *sliced == *map))
+}
+
+fn check_byte_by_byte(alloc: Global, text: &str) -> Checked {
+    check(text, again(|| is_read_alike(alloc, text)), "true")?;
+    let got = again(|| decode_halting(alloc, text, usize::MAX));
+    check(text, got, "a.js:0:0")
 }
 
 #[test]
 fn maps_are_read_byte_by_byte(rt: HostRuntime) -> Checked {
     let alloc = rt.alloc();
     for text in TEXTS.iter() {
-        check(text, again(|| is_read_alike(alloc, text)), "true")?;
-        let got = again(|| decode_halting(alloc, text, usize::MAX));
-        check(text, got, "a.js:0:0")?;
+        check_byte_by_byte(alloc, text)?;
+    }
+    Ok(())
+}
+
+fn check_failing(alloc: Global, text: &str) -> Checked {
+    for reads in 0..=text.len() {
+        check(text, decode_halting(alloc, text, reads), "timed out")?;
     }
     Ok(())
 }
 
 #[test]
 fn each_read_may_fail(rt: HostRuntime) -> Checked {
+    let alloc = rt.alloc();
     for text in TEXTS.iter() {
-        for reads in 0..=text.len() {
-            let got = decode_halting(rt.alloc(), text, reads);
-            check(text, got, "timed out")?;
-        }
+        check_failing(alloc, text)?;
     }
     Ok(())
 }
@@ -97,6 +103,13 @@ static KINDS: [(Kind, &str, &str); 3] = [
     (Kind::Index, INDEX, HERMES),
 ];
 
+fn check_failing_kind(alloc: Global, kind: Kind, text: &str) -> Checked {
+    for reads in 0..=text.len() {
+        check(text, read_error(alloc, kind, text, reads), "timed out")?;
+    }
+    Ok(())
+}
+
 #[test]
 fn maps_of_one_kind_are_read(rt: HostRuntime) -> Checked {
     let alloc = rt.alloc();
@@ -106,9 +119,7 @@ fn maps_of_one_kind_are_read(rt: HostRuntime) -> Checked {
         check(text, got, "no error")?;
         let got = read_error(alloc, *kind, other, usize::MAX);
         check(other, got, incompatible)?;
-        for reads in 0..=text.len() {
-            check(text, read_error(alloc, *kind, text, reads), "timed out")?;
-        }
+        check_failing_kind(alloc, *kind, text)?;
     }
     Ok(())
 }
@@ -120,8 +131,9 @@ fn ran_out(alloc: Global, text: &str, reads: usize) -> bool {
 
 #[test]
 fn a_read_that_runs_out_of_memory_is_out_of_memory(rt: HostRuntime) -> Checked {
+    let alloc = rt.alloc();
     for reads in 0..=REGULAR.len() {
-        check_that("out of memory", ran_out(rt.alloc(), REGULAR, reads))?;
+        check_that("out of memory", ran_out(alloc, REGULAR, reads))?;
     }
     Ok(())
 }

@@ -4,12 +4,13 @@ use crate::maps::index_of;
 use sourcemap::errors::Result;
 use sourcemap::types::SourceMapIndex;
 use sourcemap_test_support::checks::{Checked, check};
+use sourcemap_test_support::results::owned_text;
 use std::alloc::Global;
 
 fn moved_text(alloc: Global, index: &mut SourceMapIndex, rows: u32) -> Result<String> {
     let fits = index.adjust_sections_offset_rows(rows);
     let out = sections_text(alloc, index)?;
-    Ok(format!(in alloc; "{fits} {out}")?)
+    owned_text(format!(in alloc; "{fits} {out}"))
 }
 
 fn move_rows(alloc: Global, text: &str, rows: u32) -> Result<String> {
@@ -102,7 +103,7 @@ fn move_and_compare(
     after: &SourceMapIndex,
 ) -> Result<String> {
     let fits = index.adjust_sections_offset_rows(rows);
-    Ok(format!(in alloc; "{fits} {}", *index == *after)?)
+    owned_text(format!(in alloc; "{fits} {}", *index == *after))
 }
 
 fn decode_and_move(alloc: Global, text: &str, rows: u32, after: &str) -> Result<String> {

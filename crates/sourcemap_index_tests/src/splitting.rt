@@ -5,7 +5,7 @@ use sourcemap::ram_bundle::{RamBundle, SplitRamBundleModuleIter, split_ram_bundl
 use sourcemap::sourceview::SourceView;
 use sourcemap::types::{SourceMap, SourceMapIndex};
 use sourcemap_test_support::checks::{Checked, check};
-use sourcemap_test_support::results::error_of;
+use sourcemap_test_support::results::{error_of, owned_text};
 use std::alloc::Global;
 use std::fs;
 use std::rt::Files;
@@ -329,7 +329,7 @@ static ROWS: [Row; 28] = [
 
 fn parts_text(alloc: Global, name: &str, source: &str, map: SourceMap) -> Result<String> {
     let record = record_text(alloc, map.into_raw_sourcemap())?;
-    Ok(format!(in alloc; "{name} [{source}] {record}")?)
+    owned_text(format!(in alloc; "{name} [{source}] {record}"))
 }
 
 // For `Ok`, the name, the text and the map of the module. For `Err`, the text of the error, but
@@ -368,8 +368,9 @@ fn read_and_split(alloc: Global, bytes: &[u8], text: &str) -> Result<String> {
 
 #[test]
 fn bundles_are_split(rt: HostRuntime) -> Checked {
-    for row in &ROWS {
-        let items = read_and_split(rt.alloc(), row.bundle, row.index);
+    let alloc = rt.alloc();
+    for row in ROWS.iter() {
+        let items = read_and_split(alloc, row.bundle, row.index);
         check(row.about, items, row.items)?;
     }
     Ok(())
@@ -452,7 +453,7 @@ fn split_where_memory_fails(alloc: Global) -> Result<String> {
         other => other?,
     };
     let again = split_text(alloc, &bundle, &*index)?;
-    Ok(format!(in alloc; "{count} | {again}")?)
+    owned_text(format!(in alloc; "{count} | {again}"))
 }
 
 // If one allocation fails while an item is made, only this item is `OutOfMemory`. The other items

@@ -6,6 +6,7 @@ use sourcemap::encoder::encode;
 use sourcemap::errors::{Error, Result};
 use sourcemap::types::DecodedMap;
 use sourcemap_test_support::checks::{Checked, check};
+use sourcemap_test_support::results::owned_text;
 use sourcemap_test_support::writers::{HaltingWriter, NarrowWriter};
 use std::alloc::Global;
 use std::io::{BufWriter, Write};
@@ -47,9 +48,9 @@ fn put<W: Write + Drop>(map: &DecodedMap, writer: W) -> Result<()> {
 fn held_text(alloc: Global, held: &[u8], outcome: Result<()>) -> Result<String> {
     let held = str::from_utf8(held)?;
     match outcome {
-        Ok(()) => Ok(String::from_str(alloc, held)?),
+        Ok(()) => owned_text(String::from_str(alloc, held)),
         Err(Error::OutOfMemory) => Err(Error::OutOfMemory),
-        Err(error) => Ok(format!(in alloc; "{held} {error}")?),
+        Err(error) => owned_text(format!(in alloc; "{held} {error}")),
     }
 }
 
@@ -119,42 +120,43 @@ static WHOLE: [Way; 4] = [
     Way::AnyBuffered,
 ];
 
-#[test]
-fn all_bytes_are_written(rt: HostRuntime) -> Checked {
-    for text in WRITTEN.iter() {
-        for way in WHOLE.iter() {
-            check(text, write_by(rt.alloc(), text, *way), text)?;
-        }
+fn check_whole(alloc: Global, text: &str) -> Checked {
+    for way in WHOLE.iter() {
+        check(text, write_by(alloc, text, *way), text)?;
     }
     Ok(())
 }
 
-// The first `most` characters of a text, a space, and the text of an error.
-fn cut_text(alloc: Global, text: &str, most: usize, error: &str) -> Result<String> {
-    let mut out = String::new(alloc);
-    for letter in text.chars().take(most) {
-        out.push(letter)?;
+#[test]
+fn all_bytes_are_written(rt: HostRuntime) -> Checked {
+    let alloc = rt.alloc();
+    for text in WRITTEN.iter() {
+        check_whole(alloc, text)?;
     }
-    out.push(' ')?;
-    out.push_str(error)?;
-    Ok(out)
+    Ok(())
 }
 
-fn check_cut(alloc: Global, text: &str, way: Way, want: Result<String>) -> Checked {
-    let want = want?;
+// Checks that a text is written up to `most` bytes, and that the error follows.
+fn check_cut(alloc: Global, text: &str, way: Way, (most, error): (usize, &str)) -> Checked {
+    let held = text.get(..most).unwrap_or("none");
+    let want = format!(in alloc; "{held} {error}")?;
     check(text, write_by(alloc, text, way), want.as_str())
+}
+
+fn check_cuts(alloc: Global, text: &str) -> Checked {
+    for most in 0..text.len() {
+        check_cut(alloc, text, Way::Failing(Some(most)), (most, "broken pipe"))?;
+        let full = (most, "failed to write whole buffer");
+        check_cut(alloc, text, Way::Halting(Some(most)), full)?;
+    }
+    Ok(())
 }
 
 #[test]
 fn each_write_may_fail_or_take_nothing(rt: HostRuntime) -> Checked {
     let alloc = rt.alloc();
     for text in WRITTEN.iter() {
-        for most in 0..text.len() {
-            let failed = cut_text(alloc, text, most, "broken pipe");
-            check_cut(alloc, text, Way::Failing(Some(most)), failed)?;
-            let full = cut_text(alloc, text, most, "failed to write whole buffer");
-            check_cut(alloc, text, Way::Halting(Some(most)), full)?;
-        }
+        check_cuts(alloc, text)?;
     }
     Ok(())
 }

@@ -20,14 +20,6 @@ fn into_record_text(alloc: Global, text: &str) -> Result<String> {
     record_text(alloc, index.into_raw_sourcemap())
 }
 
-fn put(alloc: Global, text: &str, bytes: &mut Vec<u8>) -> Result<()> {
-    map_of(alloc, text)?.to_writer(bytes)
-}
-
-fn put_index(alloc: Global, text: &str, bytes: &mut Vec<u8>) -> Result<()> {
-    index_of(alloc, text)?.to_writer(bytes)
-}
-
 fn text_of(bytes: Vec<u8>) -> Result<String> {
     match String::from_utf8(bytes) {
         Ok(text) => Ok(text),
@@ -36,14 +28,16 @@ fn text_of(bytes: Vec<u8>) -> Result<String> {
 }
 
 fn to_writer_text(alloc: Global, text: &str) -> Result<String> {
+    let map = map_of(alloc, text)?;
     let mut bytes = Vec::new(alloc);
-    put(alloc, text, &mut bytes)?;
+    map.to_writer(&mut bytes)?;
     text_of(bytes)
 }
 
 fn index_to_writer_text(alloc: Global, text: &str) -> Result<String> {
+    let index = index_of(alloc, text)?;
     let mut bytes = Vec::new(alloc);
-    put_index(alloc, text, &mut bytes)?;
+    index.to_writer(&mut bytes)?;
     text_of(bytes)
 }
 

@@ -1,7 +1,7 @@
 """What `batch.symbolicate` adds to a table of frames, as arrays."""
 from __future__ import annotations
 
-from typing import Any, Callable, Dict, List, NamedTuple, Tuple
+from typing import TYPE_CHECKING, Any, Callable, Dict, List, NamedTuple, Tuple, Union
 
 import numpy as np
 import pandas as pd
@@ -10,6 +10,12 @@ from numpy.typing import NDArray
 from ..release import Compiled, Problem, Release
 from .columns import Codes, Texts, distinct, positions
 from .opened import Numbers, OpenedMap
+
+if TYPE_CHECKING:
+    from typing_extensions import TypeAlias
+
+# Some rows of an array: those from one to another, or those of these numbers.
+Where: TypeAlias = Union[slice, Codes]
 
 STATUSES = ('found', 'no map', 'no token', 'bad position', 'bad map')
 FOUND, NO_MAP, NO_TOKEN, BAD_POSITION, BAD_MAP = range(len(STATUSES))
@@ -29,72 +35,78 @@ class Answers(NamedTuple):
     problems: Dict[str, str]
 
 
-class Distinct(NamedTuple):
-    """The distinct keys of rows, and for each row the number of its key among them."""
-
-    keys: NDArray[Any]
-    codes: Codes
-
-
-def distinct_ids(ids: Numbers, count: int) -> Distinct:
-    """The distinct ids, of those below `count`."""
-    is_used = np.zeros(count, bool)
-    is_used[ids] = True
-    used = np.flatnonzero(is_used)
-    numbers = np.empty(count, np.int64)
-    numbers[used] = np.arange(len(used))
-    return Distinct(used, numbers[ids])
-
-
 class _Column:
     """A column of texts that is filled map by map."""
 
     def __init__(self, count: int) -> None:
         self._codes = np.full(count, -1, np.int64)
-        self._texts: List[str] = []
+        self._texts: List[bytes] = []
 
-    def add(self, rows: Codes, keys: Distinct, read: Callable[[Any], List[str]]) -> None:
-        """Sets the texts of rows. Rows with one key have one text; `read` gets each key once."""
-        self.add_texts(rows, keys.codes, read(keys.keys))
+    def add(self, where: Where, ids: Numbers, count: int, read: Callable[[Any], List[bytes]]) -> None:
+        """Sets texts by their ids, where they are below `count`; `read` gets each id once."""
+        ids = np.minimum(ids, count)
+        is_used = np.zeros(count + 1, bool)
+        is_used[ids] = True
+        used = np.flatnonzero(is_used[:-1])
+        numbers = np.full(count + 1, -1, np.int64)
+        numbers[used] = np.arange(len(self._texts), len(self._texts) + len(used))
+        self._codes[where] = numbers[ids]
+        self._texts.extend(read(used))
 
-    def add_texts(self, rows: Codes, codes: Codes, texts: List[str]) -> None:
-        """Sets the texts of rows by their numbers in a list; -1 is none."""
-        self._codes[rows] = np.where(codes < 0, -1, codes + len(self._texts))
+    def add_texts(self, where: Where, codes: Codes, texts: List[bytes]) -> None:
+        """Sets texts by their numbers in a list; -1 is none."""
+        self._codes[where] = np.where(codes < 0, -1, codes + len(self._texts))
         self._texts.extend(texts)
 
-    def texts(self) -> Texts:
-        return Texts(self._codes, self._texts)
+    def texts(self, rows: Codes, count: int) -> Texts:
+        """The column of a table with so many rows. What was filled are these ones."""
+        return Texts(_placed(self._codes, rows, count), self._texts)
+
+
+def _placed(values: Codes, rows: Codes, count: int) -> Codes:
+    """A column that has values in these rows, and -1 in others."""
+    placed = np.full(count, -1, np.int64)
+    placed[rows] = values
+    return placed
 
 
 class _Answering:
-    """The columns while they are filled."""
+    """What is found at positions, each a row of its line and its column. They come in the order of their maps."""
 
-    def __init__(self, count: int, base: int) -> None:
-        self._base = base
-        self.status = np.full(count, BAD_POSITION, np.int8)
+    def __init__(self, positions: Numbers) -> None:
+        count = len(positions)
+        self._positions = positions
+        self._status = np.full(count, NO_TOKEN, np.int8)
         self._line, self._column = np.full(count, -1, np.int64), np.full(count, -1, np.int64)
         self._source, self._name, self._scope, self._context = (_Column(count) for _ in range(4))
 
-    def ask(self, map: OpenedMap, rows: Codes, lines: Numbers, columns: Numbers) -> None:
-        """Asks a map for these rows, which have these positions."""
-        found, has_original = map.lookup(lines, columns)
-        self.status[rows] = np.where(has_original, FOUND, NO_TOKEN)
+    def ask(self, map: OpenedMap, first: int, end: int) -> None:
+        """Asks a map for these positions."""
+        positions = self._positions[first:end]
+        found, has_original = map.lookup(positions)
+        where: Where = slice(first, end)
         if not has_original.all():
-            rows, found = rows[has_original], found[has_original]
-            lines, columns = lines[has_original], columns[has_original]
-        self._line[rows] = found['line'].astype(np.int64) + self._base
-        self._column[rows] = found['column'].astype(np.int64) + self._base
-        self._source.add(rows, distinct_ids(found['source'], map.source_count), map.sources)
-        names = found['name']
-        named = names < map.name_count
-        self._name.add(rows[named], distinct_ids(names[named], map.name_count), map.names)
+            where = first + np.flatnonzero(has_original)
+            positions, found = positions[has_original], found[has_original]
+        self._status[where] = FOUND
+        self._line[where] = found['line']
+        self._column[where] = found['column']
+        self._source.add(where, found['source'], map.source_count, map.sources)
+        self._name.add(where, found['name'], map.name_count, map.names)
         if map.has_scopes:
-            self._scope.add_texts(rows, *map.scopes(lines, columns, found))
-        self._context.add_texts(rows, *map.context(found))
+            self._scope.add_texts(where, *map.scopes(positions, found))
+        self._context.add_texts(where, *map.context(found))
 
-    def answers(self, problems: Dict[str, str]) -> Answers:
-        return Answers(self._source.texts(), self._line, self._column, self._name.texts(), self._scope.texts(),
-                       self._context.texts(), self.status, problems)
+    def answers(self, rows: Codes, status: NDArray[np.int8], base: int, problems: Dict[str, str]) -> Answers:
+        """The answers to a table in which the positions have these rows. `status` is that of other rows."""
+        status[rows] = self._status
+        count = len(status)
+        for numbers in self._line, self._column:
+            numbers[numbers >= 0] += base
+        source, name, scope, context = (column.texts(rows, count)
+                                        for column in (self._source, self._name, self._scope, self._context))
+        return Answers(source, _placed(self._line, rows, count), _placed(self._column, rows, count), name, scope, context,
+                       status, problems)
 
 
 class _Maps(NamedTuple):
@@ -112,16 +124,16 @@ def answer(frames: pd.DataFrame, release: Release, base: int) -> Answers:
     columns, have_columns = positions(frames['column'], base)
     have_positions = have_lines & have_columns
     maps = _maps_of(frames, release)
-    answering = _Answering(len(frames), base)
-    answering.status[have_positions] = maps.status[have_positions]
+    status = np.where(have_positions, maps.status, np.int8(BAD_POSITION))
     numbers = np.where(have_positions, maps.numbers, -1)
     order = np.argsort(numbers.astype(np.int16) if len(maps.compiled) < 1 << 15 else numbers, kind='stable')
-    bounds = np.searchsorted(numbers[order], np.arange(len(maps.compiled) + 1))
+    bounds = np.searchsorted(numbers[order], np.arange(len(maps.compiled) + 1)).tolist()
+    rows = order[bounds[0]:]
+    answering = _Answering(np.stack((lines[rows], columns[rows]), axis=1))
     for compiled, first, end in zip(maps.compiled, bounds, bounds[1:]):
         if first < end:
-            rows = order[first:end]
-            answering.ask(release.opened(compiled), rows, lines[rows], columns[rows])
-    return answering.answers(maps.problems)
+            answering.ask(release.opened(compiled), first - bounds[0], end - bounds[0])
+    return answering.answers(rows, status, base, maps.problems)
 
 
 def _maps_of(frames: pd.DataFrame, release: Release) -> _Maps:

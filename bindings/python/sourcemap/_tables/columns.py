@@ -21,16 +21,28 @@ _WHOLE = re.compile(r'[ \t\n\v\f\r]*(?:-0+|\+?0*([0-9]{1,10}))[ \t\n\v\f\r]*')
 
 
 class Texts(NamedTuple):
-    """A column of texts: for each row the number of its text in `texts`, or -1 for none."""
+    """A column of texts in UTF-8: for each row the number of its text in `texts`, or -1 for none."""
 
     codes: Codes
-    texts: List[str]
+    texts: List[bytes]
 
     def values(self) -> NDArray[np.object_]:
         """The text of each row, or None."""
         texts = np.empty(len(self.texts) + 1, object)
-        texts[:-1] = self.texts
+        texts[:-1] = _decoded(self.texts)
         return np.asarray(texts[self.codes])
+
+
+def _decoded(texts: List[bytes]) -> List[str]:
+    """The texts, decoded at once, unless one has the character that is put between them."""
+    found = str(b'\0'.join(texts), 'utf-8', 'replace').split('\0')
+    return found if len(found) == len(texts) else [str(text, 'utf-8', 'replace') for text in texts]
+
+
+def encoded(texts: List[str]) -> List[bytes]:
+    """The texts in UTF-8, encoded as `_decoded` decodes. Bytes that reading a file escaped are bytes again."""
+    found = '\0'.join(texts).encode('utf-8', 'surrogateescape').split(b'\0')
+    return found if len(found) == len(texts) else [text.encode('utf-8', 'surrogateescape') for text in texts]
 
 
 def distinct(column: pd.Series) -> Tuple[Codes, List[Any]]:

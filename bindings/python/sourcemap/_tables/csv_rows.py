@@ -15,11 +15,11 @@ import pandas as pd
 from numpy.typing import NDArray
 
 from ..release import Release
-from .answers import STATUSES, Answers, answer
-from .columns import Codes, Texts, distinct
+from .answers import FOUND, STATUSES, Answers, answer
+from .columns import Codes, Texts, distinct, encoded
 from .pieces import SPECIAL, quoted
 
-BLOCK = 8192
+BLOCK = 1024
 _SMALL = 1 << 16
 _NUMBER = re.compile(r'[ \t\n\v\f\r]*[+-]?[0-9]{1,25}[ \t\n\v\f\r]*')
 _LARGEST = (1 << 63) - 1
@@ -40,9 +40,8 @@ def answer_rows(data: bytes, names: Sequence[str], release: Release, base: int, 
     frames = pd.DataFrame({name: table[names.index(name)] for name in used})
     answers = answer(frames, release, base)
     columns = [_of_input(table[place], names[place] in ('line', 'column')) for place in range(len(names))]
-    status = Texts(answers.status.astype(np.int64), list(STATUSES))
     _write(file, [*columns, answers.source, _Numbers(answers.source_line, True), _Numbers(answers.source_column, True),
-                  answers.name, answers.scope, _Quoted(answers.context_line), status], len(table))
+                  answers.name, answers.scope, _Last(answers.context_line, answers.status)], len(table))
     return answers
 
 
@@ -53,10 +52,12 @@ class _Numbers(NamedTuple):
     added: bool
 
 
-class _Quoted(NamedTuple):
-    """A column of texts that are all put into quotes, as most need them. So a line that is empty differs from none."""
+class _Last(NamedTuple):
+    """The last two columns: the line of the source, which only rows have that are found, and the status. The lines are
+    all put into quotes, as most need them. So a line that is empty differs from none."""
 
-    texts: Texts
+    context: Texts
+    status: NDArray[np.int8]
 
 
 def _read(data: bytes, names: Sequence[str]) -> pd.DataFrame:
@@ -89,7 +90,7 @@ def _of_input(column: pd.Series, has_numbers: bool) -> Any:
     if column.dtype == np.int64:
         return _Numbers(column.to_numpy(), False)
     codes, texts = distinct(column)
-    return Texts(codes, [_plain(text) for text in texts] if has_numbers else texts)
+    return Texts(codes, encoded([_plain(text) for text in texts] if has_numbers else texts))
 
 
 def _plain(text: str) -> str:
@@ -102,22 +103,42 @@ def _plain(text: str) -> str:
 
 
 def _write(file: BinaryIO, columns: List[Any], count: int) -> None:
-    ends = [b','] * (len(columns) - 1) + [b'\n']
-    cells = [_cells(column, end) for column, end in zip(columns, ends)]
+    cells = _cells_of(columns)
     block = np.empty((BLOCK, len(cells)), object)
     for first in range(0, count, BLOCK):
         rows = block[:min(BLOCK, count - first)]
         for place, (codes, rendered) in enumerate(cells):
-            rows[:, place] = rendered[codes[first:first + BLOCK]]
+            rows[:, place] = rendered.take(codes[first:first + BLOCK])
         file.write(b''.join(rows.ravel().tolist()))
+
+
+def _cells_of(columns: List[Any]) -> List[_Cells]:
+    """The columns, ready to be written. Of one that no row has a text in, only the comma is left: it goes to the column
+    ahead of it."""
+    found: List[_Cells] = []
+    end = b'\n'
+    for place, column in reversed(list(enumerate(columns))):
+        if place and isinstance(column, Texts) and not column.texts:
+            end = b',' + end
+        else:
+            found.insert(0, _cells(column, end))
+            end = b','
+    return found
 
 
 def _cells(column: Any, end: bytes) -> _Cells:
     if isinstance(column, _Numbers):
         return _number_cells(column, end)
-    if isinstance(column, _Quoted):
-        return _text_cells(column.texts, end, True)
-    return _text_cells(column, end, False)
+    if isinstance(column, _Last):
+        return _last_cells(column, end)
+    return _Cells(column.codes, _objects([*_fields(column.texts, end, False), end]))
+
+
+def _last_cells(column: _Last, end: bytes) -> _Cells:
+    codes, texts = column.context
+    endings = [f',{status}'.encode() + end for status in STATUSES]
+    rendered = _objects([*_fields(texts, endings[FOUND], True), *endings])
+    return _Cells(np.where(codes < 0, len(texts) + column.status.astype(np.int64), codes), rendered)
 
 
 def _objects(items: Sequence[bytes]) -> NDArray[np.object_]:
@@ -126,17 +147,15 @@ def _objects(items: Sequence[bytes]) -> NDArray[np.object_]:
     return array
 
 
-def _text_cells(column: Texts, end: bytes, in_quotes: bool) -> _Cells:
-    texts = column.texts
-    joined = '\0'.join(texts)
-    if texts and joined.count('\0') == len(texts) - 1 and (in_quotes or SPECIAL.search(joined) is None):
-        # all at once; the zero character divides them again
-        start, stop = ('"', '"' + end.decode()) if in_quotes else ('', end.decode())
-        whole = joined.replace('"', '""').replace('\0', f'{stop}\0{start}')
-        rendered = f'{start}{whole}{stop}'.encode('utf-8', 'surrogateescape').split(b'\0')
-    else:
-        rendered = [quoted(text, in_quotes).encode('utf-8', 'surrogateescape') + end for text in texts]
-    return _Cells(column.codes, _objects([*rendered, end]))
+def _fields(texts: List[bytes], end: bytes, in_quotes: bool) -> List[bytes]:
+    """The texts as fields of CSV, each with what follows it."""
+    joined = b'\0'.join(texts)
+    if not texts or joined.count(b'\0') >= len(texts) or not in_quotes and SPECIAL.search(joined):
+        return [quoted(text, in_quotes) + end for text in texts]
+    # all at once; the zero byte divides them again
+    start, stop = (b'"', b'"' + end) if in_quotes else (b'', end)
+    whole = joined.replace(b'"', b'""').replace(b'\0', stop + b'\0' + start)
+    return (start + whole + stop).split(b'\0')
 
 
 _small_numbers: Dict[bytes, NDArray[np.object_]] = {}

@@ -4,10 +4,14 @@ from __future__ import annotations
 import argparse
 import contextlib
 import logging
+import multiprocessing
 import os
+import signal
+import threading
 import uuid
 from collections import deque
 from functools import partial
+from multiprocessing import forkserver
 from pathlib import Path
 from typing import Any, Callable, Deque, Iterator, TypeVar
 
@@ -26,11 +30,33 @@ Done = TypeVar('Done')
 Run = Callable[[Callable[[Any, Any], Any], Any, Iterator[Any]], Iterator[Any]]
 
 
+def prepare(arguments: argparse.Namespace) -> None:
+    """Starts the process that workers are forked from, if there are to be some. It imports what they need while this
+    process does."""
+    with contextlib.suppress(OSError):
+        is_small = os.path.getsize(arguments.frames) <= arguments.partition
+        if arguments.dask is None and _workers(arguments) > 1 and not is_small:
+            _start_to_fork()
+
+
+def _start_to_fork() -> None:
+    """What is forked ignores Ctrl-C, since it ends with this process."""
+    multiprocessing.get_context('forkserver').set_forkserver_preload(['distributed', f'{__package__}.job'])
+    if threading.current_thread() is not threading.main_thread():
+        forkserver.ensure_running()
+        return
+    before = signal.signal(signal.SIGINT, signal.SIG_IGN)
+    try:
+        forkserver.ensure_running()
+    finally:
+        signal.signal(signal.SIGINT, before)
+
+
 @contextlib.contextmanager
 def started(arguments: argparse.Namespace, folder: Path, is_small: bool) -> Iterator[Run]:
     """Those who answer, until the block is left. If there is little to do it is this process, unless a cluster is
     named."""
-    workers = arguments.workers or _processors()
+    workers = _workers(arguments)
     # what is no error of ours, as a connection that was slow to close
     logging.getLogger('asyncio').setLevel(logging.CRITICAL)
     if arguments.dask is not None:
@@ -43,7 +69,9 @@ def started(arguments: argparse.Namespace, folder: Path, is_small: bool) -> Iter
             yield partial(_by_dask, client, AHEAD * workers)
 
 
-def _processors() -> int:
+def _workers(arguments: argparse.Namespace) -> int:
+    if arguments.workers is not None:
+        return int(arguments.workers)
     try:
         return len(os.sched_getaffinity(0))
     except AttributeError:
@@ -78,7 +106,7 @@ def _local(workers: int, folder: Path) -> Iterator[Any]:
     """The client of a cluster of worker processes on this machine. A worker that dies is started again, and its pieces
     are answered by another one."""
     distributed, config = need('distributed'), need('dask').config
-    # workers are forked from one process that imports what they need, once
+    _start_to_fork()
     with config.set({'distributed.scheduler.allowed-failures': MOST_DEATHS,
                      'distributed.worker.multiprocessing-method': 'forkserver'}), \
             distributed.LocalCluster(n_workers=workers, threads_per_worker=1, processes=True, memory_limit=0,

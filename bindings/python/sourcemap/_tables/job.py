@@ -34,7 +34,7 @@ from .tables import check_names
 
 # How many files without a map are named.
 MOST_PROBLEMS = 20
-INTERRUPTED = 130
+MOST_REMOVALS = 20
 
 
 class Job(NamedTuple):
@@ -114,7 +114,10 @@ class Output:
         self._remove()
 
     def _remove(self) -> None:
-        shutil.rmtree(self.folder, ignore_errors=True)
+        for _ in range(MOST_REMOVALS):  # a worker that nobody waits for may still begin a file
+            shutil.rmtree(self.folder, ignore_errors=True)
+            if not self.folder.exists():
+                return
 
     def write(self, data: bytes) -> None:
         """Appends bytes."""
@@ -136,25 +139,20 @@ class Output:
             os.replace(self.folder / 'whole', self.path)
 
 
-def run_job(arguments: argparse.Namespace) -> int:
-    """Writes the table. Returns the exit status: 0, or 130 after Ctrl-C or SIGTERM. Errors are raised; then there is no
-    table, and what was there under its name is still there."""
+def run_job(arguments: argparse.Namespace) -> None:
+    """Writes the table. Ctrl-C and SIGTERM raise `KeyboardInterrupt`. After any error there is no table, and what was there
+    under its name is still there."""
     began = time.monotonic()
-    try:
-        with _ended_alike(), Output(arguments.output) as output, \
-                Table(arguments.frames, arguments.partition, output.folder) as table:
-            wanted = Format(table.format.kind, False) if output.path is None else format_of(output.path)
-            if wanted.kind != table.format.kind:
-                raise ValueError(f'{arguments.output} is to have the format of {arguments.frames}')
-            job = Job(Release(arguments.release, arguments.cache), wanted, table.names, int(not arguments.zero_based),
-                      str(output.folder))
-            tally = _write(job, table, output, arguments)
-            output.finish()
-    except KeyboardInterrupt:
-        print('sourcemap: interrupted, and no table was written', file=sys.stderr)
-        return INTERRUPTED
+    with _ended_alike(), Output(arguments.output) as output, \
+            Table(arguments.frames, arguments.partition, output.folder) as table:
+        wanted = Format(table.format.kind, False) if output.path is None else format_of(output.path)
+        if wanted.kind != table.format.kind:
+            raise ValueError(f'{arguments.output} is to have the format of {arguments.frames}')
+        job = Job(Release(arguments.release, arguments.cache), wanted, table.names, int(not arguments.zero_based),
+                  str(output.folder))
+        tally = _write(job, table, output, arguments)
+        output.finish()
     tally.report(time.monotonic() - began)
-    return 0
 
 
 def _write(job: Job, table: Table, output: Output, arguments: argparse.Namespace) -> _Tally:

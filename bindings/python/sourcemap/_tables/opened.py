@@ -42,12 +42,10 @@ Found: TypeAlias = NDArray[np.void]
 
 class _Lines(NamedTuple):
     """Where the lines of contents are in the bytes of the file. `breaks` are the ends of lines, the bytes of line feeds
-    and of returns that stand alone, and then a 0; `begins` is 0, and then the bytes after each of them. For each source,
-    `starts` and `ends` are where its contents begin and end, `first` and `last` the numbers of the breaks that come next;
-    `is_there` says whether it has contents."""
+    and of returns that stand alone, and then a 0. For each source, `starts` and `ends` are where its contents begin and
+    end, `first` and `last` the numbers of the breaks that come next; `is_there` says whether it has contents."""
 
-    breaks: Places
-    begins: Places
+    breaks: Numbers
     starts: Places
     ends: Places
     first: Places
@@ -77,15 +75,12 @@ class OpenedMap:
         self._lines: Optional[_Lines] = None
         self._knows_lines = False
 
-    def lookup(self, lines: Numbers, columns: Numbers) -> Tuple[Found, Flags]:
-        """Looks up many positions, counted from 0. Returns what was found, and for each whether it has an original
-        position: it has none if there is no token, if the token has no source, or if it is on an earlier line and no range
-        token."""
-        positions = np.empty((len(lines), 2), np.uint32)
-        positions[:, 0] = lines
-        positions[:, 1] = columns
+    def lookup(self, positions: Numbers) -> Tuple[Found, Flags]:
+        """Looks up many positions, each a row of its line and its column, counted from 0. Returns what was found, and for
+        each whether it has an original position: it has none if there is no token, if the token has no source, or if it is
+        on an earlier line and no range token."""
         found = np.frombuffer(self._map.lookup_many(positions.reshape(-1).data)._found, FOUND)
-        on_line = (found['generated_line'] == lines) | found['is_range']
+        on_line = (found['generated_line'] == positions[:, 0]) | found['is_range']
         return found, found['found'] & on_line & (found['source'] < self._sources)
 
     # Texts
@@ -100,11 +95,11 @@ class OpenedMap:
         """How many names there are. Their ids are the numbers below it."""
         return self._names
 
-    def sources(self, ids: Places) -> List[str]:
+    def sources(self, ids: Places) -> List[bytes]:
         """The sources of these ids."""
         return self._texts(ids)
 
-    def names(self, ids: Places) -> List[str]:
+    def names(self, ids: Places) -> List[bytes]:
         """The names of these ids."""
         return self._texts(ids + self._sources)
 
@@ -113,43 +108,39 @@ class OpenedMap:
         starts = self._offsets[numbers].astype(np.int64)
         return starts, np.maximum(self._offsets[numbers + 1].astype(np.int64) - 1, starts)
 
-    def _texts(self, numbers: NDArray[Any]) -> List[str]:
+    def _texts(self, numbers: NDArray[Any]) -> List[bytes]:
         starts, ends = self._spans(numbers)
         texts = self._read(starts, ends)
         if len(ends) and int((ends - starts).max()) > LONGEST_TEXT:
-            return [text[:LONGEST_TEXT] for text in texts]
+            return [_cut(text) for text in texts]
         return texts
 
-    def _read(self, starts: Places, ends: Places) -> List[str]:
-        """The texts in these bytes. They are decoded at once, unless one has the character that is put between them."""
-        data = self._data
-        pieces = [data[start:end] for start, end in zip(starts.tolist(), ends.tolist())]
-        texts = str(b'\0'.join(pieces), 'utf-8', 'replace').split('\0')
-        return texts if len(texts) == len(pieces) else [str(piece, 'utf-8', 'replace') for piece in pieces]
+    def _read(self, starts: Places, ends: Places) -> List[bytes]:
+        """The texts in these bytes."""
+        return list(map(self._data.__getitem__, map(slice, starts.tolist(), ends.tolist())))
 
     @property
     def has_scopes(self) -> bool:
         """Whether tokens have names of functions, as those of Hermes maps do."""
         return self._scopes > 0
 
-    def scopes(self, lines: Numbers, columns: Numbers, found: Found) -> Tuple[Places, List[str]]:
+    def scopes(self, positions: Numbers, found: Found) -> Tuple[Places, List[bytes]]:
         """The functions of tokens that were found at these positions: for each position a number in the list of texts,
         or -1. Positions with one token are asked once: those that lie on the token itself, and those behind it, since
         these are two tokens if several stand at one position."""
         tokens = (found['generated_line'].astype(np.uint64) << np.uint64(32)) | found['generated_column']
         numbers, _ = pd.factorize(tokens)
-        is_exact = (found['generated_line'] == lines) & (found['generated_column'] == columns)
+        is_exact = (found['generated_line'] == positions[:, 0]) & (found['generated_column'] == positions[:, 1])
         _, places, codes = np.unique(numbers * 2 + is_exact, return_index=True, return_inverse=True)
-        asked = [self._map.scope_at(line, column)
-                 for line, column in zip(lines[places].tolist(), columns[places].tolist())]
+        asked = [self._map.scope_at(line, column) for line, column in positions[places].tolist()]
         texts = list(dict.fromkeys(scope for scope in asked if scope is not None))
         ids = {scope: id for id, scope in enumerate(texts)}
         of_token = np.array([-1 if scope is None else ids[scope] for scope in asked], np.int64)
-        return of_token[codes], [text[:LONGEST_TEXT] for text in texts]
+        return of_token[codes], [text[:LONGEST_TEXT].encode() for text in texts]
 
     # Lines of contents
 
-    def context(self, found: Found) -> Tuple[Places, List[str]]:
+    def context(self, found: Found) -> Tuple[Places, List[bytes]]:
         """The lines of the sources that were found: for each a number in the list of texts, or -1 if the contents of the
         source are not there, or have no such line. They are cut to `LONGEST_LINE`."""
         table = self._line_table()
@@ -159,7 +150,7 @@ class OpenedMap:
         number = table.first[sources] + lines
         is_there = table.is_there[sources] & (number <= table.last[sources])
         number[~is_there] = 0
-        starts = np.where(lines == 0, table.starts[sources], table.begins[number])
+        starts = np.where(lines == 0, table.starts[sources], table.breaks[number - 1].astype(np.int64) + 1)
         ends = np.where(number < table.last[sources], table.breaks[number], table.ends[sources])
         if table.has_returns:
             ends = self._without_return(starts, ends)
@@ -173,7 +164,7 @@ class OpenedMap:
             return codes - 1, self._read_lines(used[1:], starts[places[1:]], ends[places[1:]])
         return codes, self._read_lines(used, starts[places], ends[places])
 
-    def _read_lines(self, keys: Places, starts: Places, ends: Places) -> List[str]:
+    def _read_lines(self, keys: Places, starts: Places, ends: Places) -> List[bytes]:
         """The lines of these keys, which rise, and between these bytes."""
         is_long = ends - starts > LONGEST_LINE
         texts = self._read(starts, np.where(is_long, starts, ends))
@@ -208,11 +199,10 @@ class OpenedMap:
         starts, ends = (np.pad(places, missing) for places in self._spans(numbers))
         low, high = int(starts[is_there].min()), int(ends[is_there].max())
         chunks = [self._breaks_in(at, min(at + _CHUNK, high)) for at in range(low, high, _CHUNK)]
-        breaks = np.concatenate([*chunks, [0]])
-        begins = np.concatenate([[0], breaks[:-1] + 1])
+        breaks = np.concatenate([*chunks, [0]]).astype(np.uint32)
         first, last = np.searchsorted(breaks[:-1], starts), np.searchsorted(breaks[:-1], ends)
         has_returns = any((self._bytes[at:min(at + _CHUNK, high)] == _RETURN).any() for at in range(low, high, _CHUNK))
-        return _Lines(breaks, begins, starts, ends, first, last, is_there, has_returns)
+        return _Lines(breaks, starts, ends, first, last, is_there, has_returns)
 
     def _breaks_in(self, start: int, end: int) -> Places:
         chunk = self._bytes[start:end]
@@ -224,7 +214,12 @@ class OpenedMap:
         return feeds + start
 
 
-def _piece(units: bytes, bucket: int) -> str:
+def _piece(units: bytes, bucket: int) -> bytes:
     """The part of a line that is kept, from the UTF-16 units of the line."""
     start = 0 if len(units) <= 2 * LONGEST_LINE else max(0, bucket * STEP - STEP // 2)
-    return units[2 * start:2 * (start + LONGEST_LINE)].decode('utf-16-le', 'ignore')
+    return units[2 * start:2 * (start + LONGEST_LINE)].decode('utf-16-le', 'ignore').encode()
+
+
+def _cut(text: bytes) -> bytes:
+    """The part of a text that is kept."""
+    return text if len(text) <= LONGEST_TEXT else str(text, 'utf-8', 'replace')[:LONGEST_TEXT].encode()

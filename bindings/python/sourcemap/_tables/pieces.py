@@ -11,14 +11,20 @@ import io
 import re
 import zlib
 from pathlib import Path
-from typing import BinaryIO, Callable, Iterator, List, NamedTuple, Tuple
+from typing import Any, BinaryIO, Callable, Iterator, List, NamedTuple, Tuple
+
+import numpy as np
+from numpy.typing import NDArray
 
 SUFFIXES = {'.csv': 'csv', '.jsonl': 'json', '.ndjson': 'json'}
 LONGEST_ROW = 64 << 20
+# A piece has about so many rows at most, since a row takes memory however short it is. The first bytes tell their length.
+MOST_ROWS = 150_000
+FIRST = 1 << 16
 MARK = b'\xef\xbb\xbf'
 
 # What a field has in quotes alone.
-SPECIAL = re.compile('[",\r\n]')
+SPECIAL = re.compile(rb'[",\r\n]')
 # A quoted field with what is before it, and its closing quote if that is there.
 _QUOTED = re.compile(rb'(?:\A|[,\n\r])"[^"]*(?:""[^"]*)*("?)')
 
@@ -68,7 +74,8 @@ class Table:
 
     def __init__(self, path: Path, size: int, folder: Path) -> None:
         self._path = path
-        self._size = size
+        self._most = size
+        self._size = min(size, FIRST)
         self._folder = folder
         self.format = format_of(path)
         self._raw = open(path, 'rb')
@@ -78,6 +85,9 @@ class Table:
         self.names: Tuple[str, ...] = ()
         if self.format.kind == 'csv':
             self._read_names()
+        else:
+            self._held = self._read(self._size)
+        self._adapt(self._held)
 
     def __enter__(self) -> Table:
         return self
@@ -103,16 +113,23 @@ class Table:
         except (EOFError, gzip.BadGzipFile, zlib.error) as error:
             raise ValueError(f'{self._path}: {error}') from None
 
+    def _adapt(self, rows: bytes) -> None:
+        """Sets the size of the next piece, whose rows are taken to be as long as these."""
+        count = rows.count(b'\n')
+        self._size = min(self._most, MOST_ROWS * len(rows) // count) if count else self._most
+
     def _grow(self, block: bytes, end_of: Callable[[bytes], int]) -> Tuple[bytes, int]:
-        """The block and more bytes of the file, and where the rows in it end. They end with it where the file does."""
+        """The block, filled up to the size of a piece, with more bytes of the file until a row ends in it, and where its
+        rows end. They end with it where the file does."""
+        block += self._read(max(0, self._size - len(block)))
         while True:
-            data = self._read(self._size)
-            block += data
             end = end_of(block)
-            if end or not data:
+            data = b'' if end else self._read(self._size)
+            if not data:
                 return block, end or len(block)
             if len(block) > LONGEST_ROW:
                 raise ValueError(f'{self._path} has a row of more than {LONGEST_ROW} bytes after byte {self._at}')
+            block += data
 
     def pieces(self) -> Iterator[Piece]:
         """The pieces in their order. The last one may have no newline at its end."""
@@ -122,6 +139,7 @@ class Table:
             block, end = self._grow(self._held, end_of)
             if not block:
                 return
+            self._adapt(block[:end])
             yield self._piece(number, block[:end])
             self._at, self._held = self._at + end, block[end:]
             number += 1
@@ -141,7 +159,21 @@ def _line_end(data: bytes) -> int:
 
 def _last_row_end(data: bytes) -> int:
     """Where the last row of CSV ends; 0 if none does."""
-    return _row_end(data, first=False)
+    letters = np.frombuffer(data, np.uint8)
+    quotes = np.flatnonzero(letters == ord('"'))
+    if not _are_pairs(letters, quotes):
+        return _row_end(data, first=False)
+    outside = zip([*(quotes[1::2] + 1)[::-1], 0], [*[len(data)] * (len(quotes) % 2 == 0), *quotes[::2][::-1]])
+    return next((end for end in (data.rfind(b'\n', begin, end) + 1 for begin, end in outside) if end), 0)
+
+
+def _are_pairs(letters: NDArray[np.uint8], quotes: NDArray[Any]) -> bool:
+    """Whether each second quote, from the first on, opens a field, or is the second of two that stand for one. Then a
+    letter is in a quoted field exactly if the number of quotes ahead of it is odd."""
+    opening = quotes[::2]
+    opens = (opening == 0) | np.isin(letters[opening - 1], np.frombuffer(b',\n\r', np.uint8))
+    opens[1:] |= opening[1:] == quotes[1::2][:len(opening) - 1] + 1
+    return bool(opens.all())
 
 
 def _first_row_end(data: bytes) -> int:
@@ -163,11 +195,11 @@ def _row_end(data: bytes, first: bool) -> int:
     return find(b'\n', gap) + 1 or end
 
 
-def quoted(text: str, always: bool = False) -> str:
+def quoted(text: bytes, always: bool = False) -> bytes:
     """A field of CSV, in quotes if it needs them, or always."""
-    return '"' + text.replace('"', '""') + '"' if always or SPECIAL.search(text) else text
+    return b'"' + text.replace(b'"', b'""') + b'"' if always or SPECIAL.search(text) else text
 
 
 def row_of(names: List[str]) -> bytes:
     """A row of CSV."""
-    return (','.join(map(quoted, names)) + '\n').encode('utf-8', 'surrogateescape')
+    return b','.join(quoted(name.encode('utf-8', 'surrogateescape')) for name in names) + b'\n'

@@ -28,11 +28,11 @@ pub(crate) struct Section<'a> {
     pub map: Option<MapHandle>,
 }
 
-/// The answer to a lookup, and the positions that have the same answer: from the
-/// one that was looked up, up to `until`, which is not one of them.
+/// The answer to a lookup, and the positions that have the same answer: as many as
+/// `length`, from the one that was looked up.
 pub(super) struct Span {
     from: u64,
-    until: ffi::Position,
+    length: u64,
     found: ffi::Found,
 }
 
@@ -41,7 +41,7 @@ impl Default for Span {
     fn default() -> Span {
         Span {
             from: 0,
-            until: ffi::Position::default(),
+            length: 0,
             found: ffi::Found::NONE,
         }
     }
@@ -54,27 +54,22 @@ impl Span {
         u64::from(line) << 32 | u64::from(column)
     }
 
-    #[inline]
-    fn until(&self) -> u64 {
-        Span::number((self.until.line, self.until.column))
-    }
-
     /// Whether the answer of the span also answers this position.
     #[inline]
     fn has(&self, position: (u32, u32)) -> bool {
         // One comparison, since which of two positions is the later one can't be
         // predicted where they come in no order.
-        Span::number(position).wrapping_sub(self.from) < self.until().wrapping_sub(self.from)
+        Span::number(position).wrapping_sub(self.from) < self.length
     }
 
-    /// Sets where the span begins, after the library wrote the answer for this
-    /// position. The span of a range token is empty.
-    #[inline]
-    fn begin_at(&mut self, position: (u32, u32)) {
+    /// Sets the span, after the library wrote the answer for this position, and the
+    /// position that ends the span. The span of a range token is empty.
+    fn set(&mut self, position: (u32, u32), until: ffi::Position) {
+        self.from = Span::number(position);
         // The column of a range token is that of one position alone.
-        self.from = match self.found.token.is_range {
-            true => self.until(),
-            false => Span::number(position),
+        self.length = match self.found.token.is_range {
+            true => 0,
+            false => Span::number((until.line, until.column)).saturating_sub(self.from),
         };
     }
 }
@@ -266,13 +261,14 @@ impl MapHandle {
         let span = map.kept();
         if !span.has(position) {
             let (line, column) = position;
+            let mut until = ffi::Position::default();
             // SAFETY: it is a handle, and both structs have a value.
             let code =
-                unsafe { ffi::sm_lookup_span(at, line, column, &mut span.found, &mut span.until) };
+                unsafe { ffi::sm_lookup_span(at, line, column, &mut span.found, &mut until) };
             if code != ffi::SM_OK {
                 return None;
             }
-            span.begin_at(position);
+            span.set(position, until);
         }
         Some(span.found.token)
     }

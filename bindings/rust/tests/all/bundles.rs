@@ -4,8 +4,8 @@ use std::path::PathBuf;
 use std::process;
 
 use sourcemap::ram_bundle::{
-    is_ram_bundle_slice, is_unbundle_path, split_ram_bundle, RamBundle, RamBundleType,
-    RAM_BUNDLE_MAGIC,
+    is_ram_bundle_slice, is_unbundle_path, split_ram_bundle, RamBundle, RamBundleHeader,
+    RamBundleType, RAM_BUNDLE_MAGIC,
 };
 use sourcemap::{Error, RangeError, SourceMapIndex};
 
@@ -41,6 +41,22 @@ fn bundle_of(modules: &[Option<&[u8]>]) -> Vec<u8> {
         .map(u32::to_le_bytes)
         .concat();
     [header, table, code].concat()
+}
+
+#[test]
+fn the_header_of_an_indexed_bundle() {
+    let header = RamBundleHeader::try_from(&BUNDLE[..12]).expect("a header");
+    assert!(header.is_valid_magic());
+    assert_eq!(
+        format!("{header:?}"),
+        "RamBundleHeader { magic: 4211855845, module_count: 1, startup_code_size: 2 }"
+    );
+    let other = RamBundleHeader::try_from(&BUNDLE[1..]).expect("12 bytes");
+    assert!(!other.is_valid_magic());
+    match RamBundleHeader::try_from(&BUNDLE[..11]) {
+        Err(Error::Scroll(range)) => assert_eq!((range.start, range.size, range.len), (0, 12, 11)),
+        other => panic!("{other:?}"),
+    }
 }
 
 #[test]

@@ -1,4 +1,4 @@
-use std::io;
+use std::io::{self, Read};
 use std::path::{Path, PathBuf};
 
 use sourcemap::{
@@ -40,6 +40,31 @@ fn references_in_texts() {
             locate_sourcemap_reference(text.as_bytes()).expect("UTF-8"),
             expected
         );
+    }
+}
+
+/// Yields a text, and then fails.
+struct Failing(&'static [u8]);
+
+impl Read for Failing {
+    fn read(&mut self, buffer: &mut [u8]) -> io::Result<usize> {
+        match self.0.read(buffer) {
+            Ok(0) => Err(io::Error::other("the reader fails")),
+            read => read,
+        }
+    }
+}
+
+#[test]
+fn a_text_is_read_up_to_its_reference() {
+    let located = locate_sourcemap_reference(Failing(b"f();\n//# sourceMappingURL=a.js.map\ng();"));
+    assert_eq!(located.expect("a reference"), Some(reference("a.js.map")));
+    // the line may go on
+    for text in [&b"f();\n//# sourceMappingURL=a.js"[..], b"f();\n"] {
+        match locate_sourcemap_reference(Failing(text)) {
+            Err(Error::Io(error)) => assert_eq!(error.to_string(), "the reader fails"),
+            other => panic!("{other:?}"),
+        }
     }
 }
 

@@ -13,7 +13,8 @@ use std::path::{Path, PathBuf};
 use std::sync::Arc;
 
 use sourcemap::ram_bundle::{
-    self, RamBundle, RamBundleModule, RamBundleModuleIter, RamBundleType, SplitRamBundleModuleIter,
+    self, RamBundle, RamBundleHeader, RamBundleModule, RamBundleModuleIter, RamBundleType,
+    SplitRamBundleModuleIter,
 };
 use sourcemap::{
     DecodedMap, Error, NameIter, RawToken, Result, RewriteOptions, SourceContentsIter, SourceIter,
@@ -180,6 +181,7 @@ signatures! {
 signatures! {
     ram_bundle::is_ram_bundle_slice: fn(&[u8]) -> bool;
     ram_bundle::is_unbundle_path: fn(&Path) -> bool;
+    RamBundleHeader::is_valid_magic: fn(&RamBundleHeader) -> bool;
     RamBundle::parse_indexed_from_slice: fn(&'static [u8]) -> Result<RamBundle<'static>>;
     RamBundle::parse_indexed_from_vec: fn(Vec<u8>) -> Result<RamBundle<'static>>;
     RamBundle::parse_indexed_from_path: fn(&Path) -> Result<RamBundle<'static>>;

@@ -1,0 +1,700 @@
+/**
+ * Compiled maps in a page: lookups by proved code in WebAssembly. All maps lie in the memory of one instance of
+ * the module, which this file divides: the module itself allocates nothing. Types are in sourcemap.d.ts.
+ */
+
+export const NONE = 0xffffffff;
+
+const POSITION_WORDS = 2;
+const ANSWER_WORDS = 4;
+const TOKEN_WORDS = 8;
+// where the words of a token are, as the module writes them; of the last two only the lowest byte is written
+const [LINE, COLUMN, ORIGINAL_LINE, ORIGINAL_COLUMN, SOURCE, NAME, IS_RANGE, FOUND] = [0, 1, 2, 3, 4, 5, 6, 7];
+
+const OK = 0;
+const ABSENT = 32;
+const ERRORS = {
+  2: ['UTF8', 'a text of the compiled map is not UTF-8'],
+  35: ['COMPILED_TRUNCATED', 'the compiled map is truncated'],
+  36: ['COMPILED_MAGIC', 'not a compiled map'],
+  37: ['COMPILED_VERSION', 'unknown version of a compiled map'],
+  38: ['COMPILED_EXTENT', 'a table of the compiled map has a wrong extent'],
+  39: ['COMPILED_TEXT', 'a text passes the end of the compiled map'],
+  40: ['COMPILED_ORDER', 'the compiled map is out of order'],
+};
+
+const NO_MEMORY64 =
+  'the module needs 64-bit memories of WebAssembly, which are missing here: use Chrome or Edge 133, Firefox 134, ' +
+  'Node 24 or later; Node 20 and 22 have them with --experimental-wasm-memory64; Safari has none yet';
+
+export class SourceMapError extends Error {
+  constructor(message, code, options) {
+    super(message, options);
+    this.name = 'SourceMapError';
+    this.code = code;
+  }
+}
+
+/** Whether a call that returned this code has a value. Throws an error. */
+function hasValue(code) {
+  if (code === OK || code === ABSENT) return code === OK;
+  const [name, message] = ERRORS[code];
+  throw new SourceMapError(message, name);
+}
+
+const utf8 = new TextDecoder('utf-8', { ignoreBOM: true });
+
+/** A module with a 64-bit memory and nothing else. */
+const MEMORY64 = new Uint8Array([0, 0x61, 0x73, 0x6d, 1, 0, 0, 0, 5, 3, 1, 4, 0]);
+
+/*
+ * The memory of the module. From the bottom: the data and the stack of the module, the scratch of this file,
+ * and the maps, with free parts between them.
+ */
+
+const PAGE = 65536;
+const GRAIN = 16;
+/** How many positions are looked up in one call. */
+const BATCH = 2048;
+/** The words of the scratch: a slot for one result and one for another text, then positions, then tokens. */
+const SLOT_WORDS = 8;
+const POSITIONS_AT = SLOT_WORDS;
+const TOKENS_AT = POSITIONS_AT + POSITION_WORDS * BATCH;
+const SCRATCH_WORDS = TOKENS_AT + TOKEN_WORDS * BATCH;
+
+function rounded(size, grain) {
+  return Math.ceil(size / grain) * grain;
+}
+
+class Heap {
+  #module;
+  #instance;
+  #grow;
+  #base;
+  /** Free parts, `[start, end]`, in order; no two touch. */
+  #free;
+
+  constructor(module) {
+    this.#module = module;
+    this.#start();
+    const scratch = rounded(Number(this.calls.__heap_base.value), GRAIN);
+    this.#base = scratch + rounded(4 * SCRATCH_WORDS, GRAIN);
+    this.#free = [];
+    if (this.#end < this.#base) this.#growTo(this.#base);
+    if (this.#end > this.#base) this.#free.push([this.#base, this.#end]);
+    this.scratch = scratch;
+    this.slot = BigInt(scratch);
+    this.positions = BigInt(scratch + 4 * POSITIONS_AT);
+    this.tokens = BigInt(scratch + 4 * TOKENS_AT);
+    this.#view();
+  }
+
+  #start() {
+    this.#instance = new WebAssembly.Instance(this.#module, {});
+    this.calls = this.#instance.exports;
+    const { memory } = this.calls;
+    try {
+      memory.grow(0n);
+      this.#grow = (pages) => memory.grow(BigInt(pages));
+    } catch {
+      // Node before 24
+      this.#grow = (pages) => memory.grow(pages);
+    }
+  }
+
+  get #end() {
+    return this.calls.memory.buffer.byteLength;
+  }
+
+  /** How many bytes of memory there are. */
+  get size() {
+    return this.#end;
+  }
+
+  #view() {
+    const { buffer } = this.calls.memory;
+    this.bytes = new Uint8Array(buffer);
+    this.words = new Uint32Array(buffer, this.scratch, SCRATCH_WORDS);
+    this.slots = new BigUint64Array(buffer, this.scratch, SLOT_WORDS / 2);
+  }
+
+  /** The text in the slot. */
+  text() {
+    const start = Number(this.slots[0]);
+    return utf8.decode(this.bytes.subarray(start, start + Number(this.slots[1])));
+  }
+
+  #growTo(end) {
+    try {
+      this.#grow(Math.ceil((end - this.#end) / PAGE));
+    } catch (cause) {
+      throw new SourceMapError('the memory for the compiled map is refused', 'OUT_OF_MEMORY', { cause });
+    }
+  }
+
+  /** Takes the smallest free part that is large enough, or grows the memory. */
+  take(length) {
+    const size = Math.max(rounded(length, GRAIN), GRAIN);
+    let best = -1;
+    let least = Infinity;
+    this.#free.forEach(([start, end], index) => {
+      if (end - start >= size && end - start < least) [best, least] = [index, end - start];
+    });
+    if (best === -1) best = this.#extend(size);
+    const part = this.#free[best];
+    const at = part[0];
+    part[0] += size;
+    if (part[0] === part[1]) this.#free.splice(best, 1);
+    return { at, size };
+  }
+
+  /** Grows the memory until its last part has this size. Returns the index of this part. */
+  #extend(size) {
+    const last = this.#free.at(-1);
+    const end = this.#end;
+    const touches = last !== undefined && last[1] === end;
+    this.#growTo((touches ? last[0] : end) + size);
+    if (touches) last[1] = this.#end;
+    else this.#free.push([end, this.#end]);
+    this.#view();
+    return this.#free.length - 1;
+  }
+
+  give({ at, size }) {
+    const free = this.#free;
+    let next = free.findIndex(([start]) => start > at);
+    if (next === -1) next = free.length;
+    free.splice(next, 0, [at, at + size]);
+    if (next + 1 < free.length && free[next][1] === free[next + 1][0]) {
+      free[next][1] = free[next + 1][1];
+      free.splice(next + 1, 1);
+    }
+    if (next > 0 && free[next - 1][1] === free[next][0]) {
+      free[next - 1][1] = free[next][1];
+      free.splice(next, 1);
+    }
+  }
+
+  /**
+   * Another instance takes over the maps: after a trap, which would be a defect of the module, its stack is lost.
+   * Returns what is to be thrown.
+   */
+  failed(name, cause) {
+    this.renew();
+    return new SourceMapError(`the module failed in ${name}`, 'TRAP', { cause });
+  }
+
+  renew() {
+    const before = this.bytes;
+    this.#start();
+    if (this.#end < before.length) this.#growTo(before.length);
+    this.#view();
+    this.bytes.set(before.subarray(this.scratch), this.scratch);
+  }
+}
+
+/*
+ * The module, once
+ */
+
+let source = null;
+let heap = null;
+
+const CALLS = [
+  'check', 'verify', 'count', 'debug_id', 'lookup', 'lookup_many', 'scope', 'source', 'name', 'contents', 'file',
+].map((name) => `sm_compiled_${name}`).concat('sm_next_line', 'sm_slice');
+
+async function compiledModule() {
+  if (source instanceof WebAssembly.Module) return source;
+  const from = source ?? new URL('./sourcemap.wasm', import.meta.url);
+  try {
+    return await WebAssembly.compile(await bytesOf(from));
+  } catch (cause) {
+    throw new SourceMapError(`there is no module at ${from}: ${cause.message}`, 'NO_MODULE', { cause });
+  }
+}
+
+async function startHeap() {
+  const module = await compiledModule();
+  const names = new Set(WebAssembly.Module.exports(module).map(({ name }) => name));
+  const missing = ['memory', '__heap_base', ...CALLS].find((name) => !names.has(name));
+  if (missing !== undefined) throw new SourceMapError(`the module has no ${missing}`, 'NO_MODULE');
+  return new Heap(module);
+}
+
+function theHeap() {
+  if (heap === null) {
+    heap = startHeap();
+    heap.catch(() => { heap = null; });
+  }
+  return heap;
+}
+
+/*
+ * Bytes
+ */
+
+/** Whether a value is of a class that need not exist here. */
+function isA(value, name) {
+  return typeof globalThis[name] === 'function' && value instanceof globalThis[name];
+}
+
+/** The path of a file for Node, which has no `fetch` of files; null elsewhere. */
+function pathOf(from) {
+  const fs = globalThis.process?.getBuiltinModule?.('node:fs/promises');
+  if (fs === undefined) return null;
+  if (from instanceof URL) return from.protocol === 'file:' ? [fs, from] : null;
+  if (typeof from !== 'string' || /^(https?|data|blob):/.test(from)) return null;
+  return [fs, from.startsWith('file:') ? new URL(from) : from];
+}
+
+async function fetched(from) {
+  const file = pathOf(from);
+  if (file !== null) return file[0].readFile(file[1]);
+  const response = isA(from, 'Response') ? from : await fetch(from);
+  if (!response.ok) throw new Error(`status ${response.status} ${response.statusText}`.trim());
+  return new Uint8Array(await response.arrayBuffer());
+}
+
+function isNamed(from) {
+  return typeof from === 'string' || from instanceof URL || isA(from, 'Request') || isA(from, 'Response');
+}
+
+async function bytesOf(from) {
+  if (from instanceof ArrayBuffer || isA(from, 'SharedArrayBuffer')) return new Uint8Array(from);
+  if (ArrayBuffer.isView(from)) return new Uint8Array(from.buffer, from.byteOffset, from.byteLength);
+  if (isA(from, 'Blob')) return new Uint8Array(await from.arrayBuffer());
+  if (!isNamed(from)) throw new TypeError('a compiled map is a URL, a Response, a Blob, or bytes');
+  try {
+    return await fetched(from);
+  } catch (cause) {
+    const name = isA(from, 'Request') || isA(from, 'Response') ? from.url : from;
+    throw new SourceMapError(`cannot read ${name}: ${cause.message}`, 'IO', { cause });
+  }
+}
+
+/*
+ * Arguments
+ */
+
+function checkNumber(what, value) {
+  if (typeof value !== 'number' || Number.isNaN(value)) throw new TypeError(`${what} must be a number`);
+}
+
+function checkNeedle(needle) {
+  if (typeof needle !== 'object' || needle === null) throw new TypeError('the position must be an object');
+  checkNumber('`line`', needle.line);
+  checkNumber('`column`', needle.column);
+  if (needle.line < 1) throw new SourceMapError('`line` must be greater than 0 (lines start at line 1)', 'BAD_POSITION');
+  if (needle.column < 0) {
+    throw new SourceMapError('`column` must be greater than or equal to 0 (columns start at column 0)', 'BAD_POSITION');
+  }
+}
+
+function checkArray(what, array) {
+  if (!(array instanceof Uint32Array)) throw new TypeError(`${what} must be a Uint32Array`);
+}
+
+function checkRoom(array, wanted) {
+  checkArray('the array for answers', array);
+  if (array.length < wanted) throw new RangeError(`the array for answers has ${array.length} items, of ${wanted}`);
+}
+
+function checkId(id, what = 'an id') {
+  if (!Number.isInteger(id) || id < 0 || id > NONE) throw new TypeError(`${what} must be an integer from 0 to 4294967295`);
+}
+
+/** The line from 0 of a line from 1, or -1 if no token is on such a line. */
+function rowOf(line) {
+  const row = line - 1;
+  return row >>> 0 === row ? row : -1;
+}
+
+function columnOf(column) {
+  return Math.min(Math.floor(column), NONE);
+}
+
+export class CompiledMap {
+  #heap;
+  #part;
+  // the bytes of the map, as the module takes them
+  #at;
+  #length;
+  #sources = new Map();
+  #names = new Map();
+  #lists = {};
+
+  static isSupported() {
+    return typeof WebAssembly === 'object' && WebAssembly.validate(MEMORY64);
+  }
+
+  static useModule(module) {
+    if (heap !== null) throw new SourceMapError('the module is loaded already', 'NO_MODULE');
+    source = module;
+  }
+
+  static async load(from) {
+    if (!CompiledMap.isSupported()) throw new SourceMapError(NO_MEMORY64, 'NO_MEMORY64');
+    const [opened, bytes] = await Promise.all([theHeap(), bytesOf(from)]);
+    return new CompiledMap(opened, bytes);
+  }
+
+  constructor(opened, bytes) {
+    if (!(opened instanceof Heap)) throw new TypeError('use CompiledMap.load');
+    this.#heap = opened;
+    this.#part = opened.take(bytes.length);
+    opened.bytes.set(bytes, this.#part.at);
+    this.#at = BigInt(this.#part.at);
+    this.#length = BigInt(bytes.length);
+    try {
+      this.#check('sm_compiled_check');
+    } catch (error) {
+      this.close();
+      throw error;
+    }
+  }
+
+  #opened() {
+    if (this.#part === null) throw new SourceMapError('the map is closed', 'CLOSED');
+    return this.#heap;
+  }
+
+  /** Calls the module for this map, and returns the code. */
+  #call(name, ...args) {
+    const opened = this.#opened();
+    try {
+      return opened.calls[name](this.#at, this.#length, ...args);
+    } catch (cause) {
+      throw opened.failed(name, cause);
+    }
+  }
+
+  /** The same; returns whether there is a value, and throws any other code. */
+  #check(name, ...args) {
+    return hasValue(this.#call(name, ...args));
+  }
+
+  #text(name, ...args) {
+    return this.#check(name, ...args, this.#heap.slot) ? this.#heap.text() : null;
+  }
+
+  get file() {
+    return this.#text('sm_compiled_file');
+  }
+
+  get debugId() {
+    if (!this.#check('sm_compiled_debug_id', this.#heap.slot)) return null;
+    const { bytes, scratch } = this.#heap;
+    const hex = Array.from(bytes.subarray(scratch, scratch + 16), (byte) => byte.toString(16).padStart(2, '0')).join('');
+    return hex.replace(/^(.{8})(.{4})(.{4})(.{4})/, '$1-$2-$3-$4-');
+  }
+
+  #count(which) {
+    this.#check('sm_compiled_count', this.#heap.slot);
+    return this.#heap.words[which];
+  }
+
+  get tokenCount() {
+    return this.#count(0);
+  }
+
+  get sourceCount() {
+    return this.#count(1);
+  }
+
+  get nameCount() {
+    return this.#count(2);
+  }
+
+  get sources() {
+    this.#lists.sources ??= Object.freeze(Array.from({ length: this.sourceCount }, (_, id) => this.source(id)));
+    return this.#lists.sources;
+  }
+
+  get names() {
+    this.#lists.names ??= Object.freeze(Array.from({ length: this.nameCount }, (_, id) => this.name(id)));
+    return this.#lists.names;
+  }
+
+  source(id) {
+    checkId(id);
+    return this.#text('sm_compiled_source', id);
+  }
+
+  name(id) {
+    checkId(id);
+    return this.#text('sm_compiled_name', id);
+  }
+
+  sourceContent(id) {
+    checkId(id);
+    return this.#text('sm_compiled_contents', id);
+  }
+
+  /** Puts a line of the contents of a source into the slot. Returns whether there is such a line. */
+  #findLine(id, line) {
+    checkId(id);
+    checkNumber('`line`', line);
+    if (line < 1 || !this.#check('sm_compiled_contents', id, this.#heap.slot)) return false;
+    const { calls, slot, slots } = this.#heap;
+    for (let left = Math.floor(line); left >= 1; left -= 1) {
+      const isLast = calls.sm_next_line(slots[0], slots[1], slot, slot + 16n) === ABSENT;
+      if (left === 1) return true;
+      if (isLast) return false;
+      [slots[0], slots[1]] = [slots[2], slots[3]];
+    }
+    return false;
+  }
+
+  sourceLine(id, line) {
+    return this.#findLine(id, line) ? this.#heap.text() : null;
+  }
+
+  sourceSlice(id, line, column, span) {
+    checkId(column, '`column`');
+    checkId(span, '`span`');
+    if (!this.#findLine(id, line)) return null;
+    const { calls, slot, slots } = this.#heap;
+    return hasValue(calls.sm_slice(slots[0], slots[1], column, span, slot)) ? this.#heap.text() : null;
+  }
+
+  sourceContentFor(source) {
+    if (typeof source !== 'string') throw new TypeError('`source` must be a string');
+    const id = this.sources.indexOf(source);
+    return id === -1 ? null : this.sourceContent(id);
+  }
+
+  /** A text of an answer, which is kept. */
+  #kept(texts, call, id) {
+    if (id === NONE) return null;
+    let text = texts.get(id);
+    if (text === undefined) {
+      text = this.#text(call, id);
+      texts.set(id, text);
+    }
+    return text;
+  }
+
+  /** The words of the closest token, if it is on the line of the position; else null. */
+  #closest(row, column) {
+    const { calls, slot, words } = this.#opened();
+    if (row === -1) return null;
+    let code;
+    try {
+      code = calls.sm_compiled_lookup(this.#at, this.#length, row, column, slot);
+    } catch (cause) {
+      throw this.#heap.failed('sm_compiled_lookup', cause);
+    }
+    return hasValue(code) && words[LINE] === row ? words : null;
+  }
+
+  originalPositionFor(needle) {
+    checkNeedle(needle);
+    const words = this.#closest(rowOf(needle.line), columnOf(needle.column));
+    if (words === null || words[SOURCE] === NONE) return { source: null, line: null, column: null, name: null };
+    // a text that is read overwrites the words
+    const line = words[ORIGINAL_LINE] + 1;
+    const column = words[ORIGINAL_COLUMN];
+    const name = words[NAME];
+    return {
+      source: this.#kept(this.#sources, 'sm_compiled_source', words[SOURCE]),
+      line,
+      column,
+      name: this.#kept(this.#names, 'sm_compiled_name', name),
+    };
+  }
+
+  scopeFor(needle) {
+    checkNeedle(needle);
+    const [row, column] = [rowOf(needle.line), columnOf(needle.column)];
+    return this.#closest(row, column) === null ? null : this.#text('sm_compiled_scope', row, column);
+  }
+
+  /** Looks up `count` positions that are in the scratch. The tokens are then in the scratch. */
+  #lookUp(count) {
+    const { positions, tokens } = this.#heap;
+    this.#call('sm_compiled_lookup_many', positions, BigInt(count), tokens, BigInt(count));
+  }
+
+  lookupMany(positions, answers = new Uint32Array((positions.length >>> 1) * ANSWER_WORDS)) {
+    checkArray('the positions', positions);
+    const count = positions.length >>> 1;
+    checkRoom(answers, count * ANSWER_WORDS);
+    for (let i = 0; i < count; i += 1) {
+      if (positions[2 * i] === 0) throw new SourceMapError('`line` must be greater than 0 (lines start at line 1)', 'BAD_POSITION');
+    }
+    for (let first = 0; first < count; first += BATCH) {
+      const taken = Math.min(BATCH, count - first);
+      const { words } = this.#heap;
+      for (let i = 0; i < 2 * taken; i += 2) {
+        words[POSITIONS_AT + i] = positions[2 * first + i] - 1;
+        words[POSITIONS_AT + i + 1] = positions[2 * first + i + 1];
+      }
+      this.#lookUp(taken);
+      writeAnswers(words, taken, answers, ANSWER_WORDS * first);
+    }
+    return answers;
+  }
+
+  closestTokens(positions, tokens = new Uint32Array((positions.length >>> 1) * TOKEN_WORDS)) {
+    checkArray('the positions', positions);
+    const count = positions.length >>> 1;
+    checkRoom(tokens, count * TOKEN_WORDS);
+    for (let first = 0; first < count; first += BATCH) {
+      const taken = Math.min(BATCH, count - first);
+      const { words } = this.#heap;
+      words.set(positions.subarray(2 * first, 2 * (first + taken)), POSITIONS_AT);
+      this.#lookUp(taken);
+      for (let i = 0; i < taken; i += 1) copyToken(words, i, tokens, first + i);
+    }
+    return tokens;
+  }
+
+  /** The closest tokens of up to 64 positions, as the scratch has them; `place` writes each to an array. */
+  #sample(count, place) {
+    const { words } = this.#heap;
+    for (let i = 0; i < count; i += 1) {
+      const [line, column] = place(i);
+      words[POSITIONS_AT + 2 * i] = line;
+      words[POSITIONS_AT + 2 * i + 1] = column;
+    }
+    this.#lookUp(count);
+    return words;
+  }
+
+  tokensFrom(line, column, tokens) {
+    checkNumber('`line`', line);
+    checkNumber('`column`', column);
+    checkArray('the array for tokens', tokens);
+    const walk = new Walk((count, place) => this.#sample(count, place), line, column);
+    return walk.write(tokens, Math.floor(tokens.length / TOKEN_WORDS));
+  }
+
+  verify() {
+    this.#check('sm_compiled_verify');
+  }
+
+  close() {
+    if (this.#part === null) return;
+    this.#heap.give(this.#part);
+    this.#part = null;
+    this.#lists = {};
+    this.#sources.clear();
+    this.#names.clear();
+  }
+}
+
+/** Writes the answers of tokens in the scratch: of each that is on the line of its position. */
+function writeAnswers(words, count, answers, first) {
+  for (let i = 0, at = TOKENS_AT, to = first; i < count; i += 1, at += TOKEN_WORDS, to += ANSWER_WORDS) {
+    const isThere = (words[at + FOUND] & 0xff) !== 0 && words[at + LINE] === words[POSITIONS_AT + 2 * i]
+      && words[at + SOURCE] !== NONE;
+    answers[to] = isThere ? words[at + SOURCE] : NONE;
+    answers[to + 1] = isThere ? words[at + ORIGINAL_LINE] + 1 : 0;
+    answers[to + 2] = isThere ? words[at + ORIGINAL_COLUMN] : 0;
+    answers[to + 3] = isThere ? words[at + NAME] : NONE;
+  }
+}
+
+/** Copies token `index` of the scratch. */
+function copyToken(words, index, tokens, to) {
+  const from = TOKENS_AT + TOKEN_WORDS * index;
+  const at = TOKEN_WORDS * to;
+  for (let word = 0; word < IS_RANGE; word += 1) tokens[at + word] = words[from + word];
+  tokens[at + IS_RANGE] = words[from + IS_RANGE] & 0xff;
+  tokens[at + FOUND] = words[from + FOUND] & 0xff;
+}
+
+/** How many positions a search for the next token looks up at once. */
+const SAMPLES = 64;
+/** How many columns in a row are looked up at once. */
+const COLUMNS = 512;
+
+/**
+ * A walk over tokens by lookups alone: a token is where a lookup finds a token at the very position. `sample` looks
+ * up positions.
+ */
+class Walk {
+  constructor(sample, line, column) {
+    this.sample = sample;
+    this.line = line;
+    this.column = column;
+    this.found = 0;
+  }
+
+  /** Whether the token of a sample is at or after the place of the walk. */
+  isAhead(words, index) {
+    const at = TOKENS_AT + TOKEN_WORDS * index;
+    if ((words[at + FOUND] & 0xff) === 0) return false;
+    return words[at + LINE] > this.line || (words[at + LINE] === this.line && words[at + COLUMN] >= this.column);
+  }
+
+  write(tokens, room) {
+    while (this.found < room) {
+      const last = this.lastColumn();
+      const isDone = last === -1 ? !this.toNextLine() : !this.writeLine(tokens, room, last);
+      if (isDone) break;
+    }
+    return this.found;
+  }
+
+  /** The column of the last token of the line, if it is at or after the place of the walk; else -1. */
+  lastColumn() {
+    if (this.column > NONE) return -1;
+    const words = this.sample(1, () => [this.line, NONE]);
+    return this.isAhead(words, 0) ? words[TOKENS_AT + COLUMN] : -1;
+  }
+
+  /** Writes tokens up to the last one of the line. Returns false if the map is out of order. */
+  writeLine(tokens, room, last) {
+    while (this.column <= last && this.found < room) {
+      const { line, column, found } = this;
+      const count = Math.min(COLUMNS, last - column + 1);
+      const words = this.sample(count, (i) => [line, column + i]);
+      for (let i = 0; i < count && this.found < room; i += 1) {
+        this.column = column + i + 1;
+        const at = TOKENS_AT + TOKEN_WORDS * i;
+        if ((words[at + FOUND] & 0xff) !== 0 && words[at + LINE] === line && words[at + COLUMN] === column + i) {
+          copyToken(words, i, tokens, this.found);
+          this.found += 1;
+        }
+      }
+      if (this.found === found && this.column <= last && !this.skip(last)) return false;
+    }
+    return true;
+  }
+
+  /** Goes to the next token of the line, whose last token is known. */
+  skip(last) {
+    const column = this.first(this.column, last, (sampled) => [this.line, sampled]);
+    if (column === -1) return false;
+    this.column = column;
+    return true;
+  }
+
+  /** Goes to the start of the next line that has a token, if there is one. */
+  toNextLine() {
+    const words = this.sample(1, () => [NONE, NONE]);
+    if (!this.isAhead(words, 0)) return false;
+    const line = this.first(this.line + 1, words[TOKENS_AT + LINE], (sampled) => [sampled, NONE]);
+    if (line === -1) return false;
+    [this.line, this.column] = [line, 0];
+    return true;
+  }
+
+  /** The least number from `low` to `high` at whose place a lookup finds a token ahead; -1 if there is none. */
+  first(low, high, place) {
+    if (low <= high && this.isAhead(this.sample(1, () => place(low)), 0)) return low;
+    while (low <= high) {
+      const step = Math.max(Math.ceil((high - low + 1) / SAMPLES), 1);
+      const at = (i) => Math.min(low + step * (i + 1) - 1, high);
+      const words = this.sample(SAMPLES, (i) => place(at(i)));
+      let index = 0;
+      while (index < SAMPLES && !this.isAhead(words, index)) index += 1;
+      if (index === SAMPLES) return -1;
+      if (step === 1) return at(index);
+      [low, high] = [index === 0 ? low : at(index - 1) + 1, at(index)];
+    }
+    return -1;
+  }
+}

@@ -1,0 +1,3 @@
+pub mod ListLemmas
+pub mod MarkLemmas
+pub mod RepeatLemmas

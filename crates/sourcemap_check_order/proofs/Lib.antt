@@ -1,0 +1,4 @@
+pub mod ExactLemmas
+pub mod PlaceLemmas
+pub mod RangeLemmas
+pub mod SignLemmas
