@@ -110,9 +110,14 @@ class HeldMap {
 function functionsOf(module, notBuilt) {
   const maps = new WeakMap();
   let SourceMapError = Error;
+  const missing = () => {
+    throw new Error(notBuilt);
+  };
   const functions = {
     init(error) {
       SourceMapError = error;
+      // look() and its words: only maps of the addon are looked up by them
+      return [new Int32Array(0), missing];
     },
     compiledCheck(bytes) {
       const map = new HeldMap(module, bytes, SourceMapError);
@@ -149,9 +154,7 @@ function functionsOf(module, notBuilt) {
   };
   return new Proxy(functions, {
     get(target, name) {
-      return target[name] ?? (() => {
-        throw new Error(notBuilt);
-      });
+      return target[name] ?? missing;
     },
   });
 }
