@@ -3,8 +3,8 @@ import { CompiledMap } from '../out/sourcemap.js';
 import { Random } from './random.js';
 
 const ROUNDS = 9;
-/** How many openings are timed at once: a clock of a page may have steps of 0.1 ms. */
-const OPENINGS = 20;
+/** How many bytes are opened between two looks at the clock, which may have steps of 0.1 ms. */
+const OPENED = 2 ** 21;
 const LOOKUPS = 1000000;
 const SINGLE = 200000;
 
@@ -37,8 +37,8 @@ function drawPositions(map, count) {
   return positions;
 }
 
-async function repeated(call) {
-  for (let i = 0; i < OPENINGS; i += 1) await call();
+async function repeated(times, call) {
+  for (let i = 0; i < times; i += 1) await call();
 }
 
 function oneByOne(positions, count, originalPositionFor) {
@@ -57,13 +57,14 @@ export async function speed(path) {
   // the module is loaded once, before
   const map = await CompiledMap.load(bytes);
   const tracer = new peer.TraceMap(text);
+  const times = Math.ceil(OPENED / bytes.length);
   const opening = await least({
-    [`${OPENINGS} times load, one answer, close`]: () => repeated(async () => {
+    [`${times} times load, one answer, close`]: () => repeated(times, async () => {
       const opened = await CompiledMap.load(bytes);
       opened.originalPositionFor({ line: 1, column: 1000 });
       opened.close();
     }),
-    [`${OPENINGS} times new TraceMap`]: () => repeated(async () => new peer.TraceMap(text)),
+    [`${times} times new TraceMap`]: () => repeated(times, async () => new peer.TraceMap(text)),
   });
   const positions = drawPositions(map, LOOKUPS);
   const [ours, theirs] = [(needle) => map.originalPositionFor(needle), (needle) => peer.originalPositionFor(tracer, needle)];
