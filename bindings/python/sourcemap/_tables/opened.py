@@ -23,7 +23,6 @@ LONGEST_TEXT = 4096
 LONGEST_LINE = 200
 STEP = 100
 
-_BUCKET_BITS = 26
 _CHUNK = 4 << 20
 _LINE_FEED, _RETURN = 10, 13
 
@@ -43,14 +42,14 @@ Found: TypeAlias = NDArray[np.void]
 class _Lines(NamedTuple):
     """Where the lines of contents are in the bytes of the file. `breaks` are the ends of lines, the bytes of line feeds
     and of returns that stand alone, and then a 0. For each source, `starts` and `ends` are where its contents begin and
-    end, `first` and `last` the numbers of the breaks that come next; `is_there` says whether it has contents."""
+    end, `first` and `last` the numbers of its first and its last line. The number of a line is that of the breaks ahead
+    of it, and one more for each source ahead of its own. `last` is -1 if the contents are not there."""
 
     breaks: Numbers
     starts: Places
     ends: Places
     first: Places
     last: Places
-    is_there: Flags
     has_returns: bool
 
 
@@ -75,13 +74,9 @@ class OpenedMap:
         self._lines: Optional[_Lines] = None
         self._knows_lines = False
 
-    def lookup(self, positions: Numbers) -> Tuple[Found, Flags]:
-        """Looks up many positions, each a row of its line and its column, counted from 0. Returns what was found, and for
-        each whether it has an original position: it has none if there is no token, if the token has no source, or if it is
-        on an earlier line and no range token."""
-        found = np.frombuffer(self._map.lookup_many(positions.reshape(-1).data)._found, FOUND)
-        on_line = (found['generated_line'] == positions[:, 0]) | found['is_range']
-        return found, found['found'] & on_line & (found['source'] < self._sources)
+    def lookup(self, positions: Numbers) -> Found:
+        """What is found at many positions, each a row of its line and its column, counted from 0."""
+        return np.frombuffer(self._map.lookup_many(positions.reshape(-1).data)._found, FOUND)
 
     # Texts
 
@@ -140,41 +135,37 @@ class OpenedMap:
 
     # Lines of contents
 
-    def context(self, found: Found) -> Tuple[Places, List[bytes]]:
-        """The lines of the sources that were found: for each a number in the list of texts, or -1 if the contents of the
-        source are not there, or have no such line. They are cut to `LONGEST_LINE`."""
+    def line_numbers(self, sources: Places, lines: Numbers) -> Places:
+        """The numbers that lines of sources have among all lines of contents: all differ, and are less than 2^32. A line
+        has -1 if the contents of the source are not there, or have no such line."""
         table = self._line_table()
         if table is None:
-            return np.full(len(found), -1, np.int64), []
-        sources, lines = found['source'], found['line']
-        number = table.first[sources] + lines
-        is_there = table.is_there[sources] & (number <= table.last[sources])
-        number[~is_there] = 0
-        starts = np.where(lines == 0, table.starts[sources], table.breaks[number - 1].astype(np.int64) + 1)
-        ends = np.where(number < table.last[sources], table.breaks[number], table.ends[sources])
-        if table.has_returns:
-            ends = self._without_return(starts, ends)
-        keys = starts << _BUCKET_BITS
-        is_long = is_there & (ends - starts > LONGEST_LINE)
-        if is_long.any():
-            keys[is_long] |= found['column'][is_long].astype(np.int64) // STEP
-        keys[~is_there] = -1
-        used, places, codes = np.unique(keys, return_index=True, return_inverse=True)
-        if len(used) and used[0] < 0:
-            return codes - 1, self._read_lines(used[1:], starts[places[1:]], ends[places[1:]])
-        return codes, self._read_lines(used, starts[places], ends[places])
+            return np.full(len(sources), -1, np.int64)
+        numbers = table.first[sources] + lines
+        numbers[numbers > table.last[sources]] = -1
+        return numbers
 
-    def _read_lines(self, keys: Places, starts: Places, ends: Places) -> List[bytes]:
-        """The lines of these keys, which rise, and between these bytes."""
-        is_long = ends - starts > LONGEST_LINE
-        texts = self._read(starts, np.where(is_long, starts, ends))
-        last, units = -1, b''
-        for place in np.flatnonzero(is_long).tolist():
-            start, end = int(starts[place]), int(ends[place])
-            if start != last:
-                last, units = start, str(self._data[start:end], 'utf-8', 'replace').encode('utf-16-le')
-            texts[place] = _piece(units, int(keys[place]) & (1 << _BUCKET_BITS) - 1)
-        return texts
+    def lines(self, numbers: Places) -> Tuple[List[bytes], Flags]:
+        """The lines of these numbers, and for each whether it is longer than `LONGEST_LINE`: then it is not read."""
+        starts, ends = self._line_spans(numbers)
+        are_long = ends - starts > LONGEST_LINE
+        return self._read(starts, np.where(are_long, starts, ends)), are_long
+
+    def line_units(self, number: int) -> bytes:
+        """The line of a number, in UTF-16."""
+        (start,), (end,) = self._line_spans(np.array([number]))
+        return str(self._data[start:end], 'utf-8', 'replace').encode('utf-16-le')
+
+    def _line_spans(self, numbers: Places) -> Tuple[Places, Places]:
+        """Where the lines of these numbers begin and end, without what ends them."""
+        table = self._line_table()
+        assert table is not None
+        sources = np.searchsorted(table.first, numbers, 'right') - 1
+        ahead = numbers - sources
+        starts = np.where(numbers == table.first[sources], table.starts[sources],
+                          table.breaks[ahead - 1].astype(np.int64) + 1)
+        ends = np.where(numbers < table.last[sources], table.breaks[ahead], table.ends[sources])
+        return starts, self._without_return(starts, ends) if table.has_returns else ends
 
     def _without_return(self, starts: Places, ends: Places) -> Places:
         """Where lines end without the return that stands before their line feed."""
@@ -196,13 +187,13 @@ class OpenedMap:
         is_there = np.pad(self._offsets[numbers + 1] > self._offsets[numbers], missing)
         if not is_there.any():
             return None
-        starts, ends = (np.pad(places, missing) for places in self._spans(numbers))
+        starts, ends = (np.pad(places, missing, constant_values=len(self._bytes)) for places in self._spans(numbers))
         low, high = int(starts[is_there].min()), int(ends[is_there].max())
         chunks = [self._breaks_in(at, min(at + _CHUNK, high)) for at in range(low, high, _CHUNK)]
         breaks = np.concatenate([*chunks, [0]]).astype(np.uint32)
-        first, last = np.searchsorted(breaks[:-1], starts), np.searchsorted(breaks[:-1], ends)
+        first, last = (np.searchsorted(breaks[:-1], places) + np.arange(len(places)) for places in (starts, ends))
         has_returns = any((self._bytes[at:min(at + _CHUNK, high)] == _RETURN).any() for at in range(low, high, _CHUNK))
-        return _Lines(breaks, starts, ends, first, last, is_there, has_returns)
+        return _Lines(breaks, starts, ends, first, np.where(is_there, last, -1), has_returns)
 
     def _breaks_in(self, start: int, end: int) -> Places:
         chunk = self._bytes[start:end]
@@ -212,12 +203,6 @@ class OpenedMap:
             following = self._bytes[np.minimum(returns + (start + 1), len(self._bytes) - 1)]
             feeds = np.sort(np.concatenate([feeds, returns[following != _LINE_FEED]]))
         return feeds + start
-
-
-def _piece(units: bytes, bucket: int) -> bytes:
-    """The part of a line that is kept, from the UTF-16 units of the line."""
-    start = 0 if len(units) <= 2 * LONGEST_LINE else max(0, bucket * STEP - STEP // 2)
-    return units[2 * start:2 * (start + LONGEST_LINE)].decode('utf-16-le', 'ignore').encode()
 
 
 def _cut(text: bytes) -> bytes:
