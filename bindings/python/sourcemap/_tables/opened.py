@@ -40,17 +40,13 @@ Found: TypeAlias = NDArray[np.void]
 
 
 class _Lines(NamedTuple):
-    """Where the lines of contents are in the bytes of the file. `breaks` are the ends of lines, the bytes of line feeds
-    and of returns that stand alone, and then a 0. For each source, `starts` and `ends` are where its contents begin and
-    end, `first` and `last` the numbers of its first and its last line. The number of a line is that of the breaks ahead
-    of it, and one more for each source ahead of its own. `last` is -1 if the contents are not there."""
+    """Where the lines of contents begin and end in the bytes of the file, by their numbers. For each source, `first` and
+    `last` are the numbers of its first and its last line; `last` is -1 if its contents are not there."""
 
-    breaks: Numbers
-    starts: Places
-    ends: Places
+    starts: Numbers
+    ends: Numbers
     first: Places
     last: Places
-    has_returns: bool
 
 
 class OpenedMap:
@@ -147,32 +143,17 @@ class OpenedMap:
 
     def lines(self, numbers: Places) -> Tuple[List[bytes], Flags]:
         """The lines of these numbers, and for each whether it is longer than `LONGEST_LINE`: then it is not read."""
-        starts, ends = self._line_spans(numbers)
+        table = self._line_table()
+        assert table is not None
+        starts, ends = table.starts[numbers], table.ends[numbers]
         are_long = ends - starts > LONGEST_LINE
         return self._read(starts, np.where(are_long, starts, ends)), are_long
 
     def line_units(self, number: int) -> bytes:
         """The line of a number, in UTF-16."""
-        (start,), (end,) = self._line_spans(np.array([number]))
-        return str(self._data[start:end], 'utf-8', 'replace').encode('utf-16-le')
-
-    def _line_spans(self, numbers: Places) -> Tuple[Places, Places]:
-        """Where the lines of these numbers begin and end, without what ends them."""
         table = self._line_table()
         assert table is not None
-        sources = np.searchsorted(table.first, numbers, 'right') - 1
-        ahead = numbers - sources
-        starts = np.where(numbers == table.first[sources], table.starts[sources],
-                          table.breaks[ahead - 1].astype(np.int64) + 1)
-        ends = np.where(numbers < table.last[sources], table.breaks[ahead], table.ends[sources])
-        return starts, self._without_return(starts, ends) if table.has_returns else ends
-
-    def _without_return(self, starts: Places, ends: Places) -> Places:
-        """Where lines end without the return that stands before their line feed."""
-        # where the file ends no text goes on
-        following = self._bytes[np.minimum(ends, len(self._bytes) - 1)]
-        is_pair = (ends > starts) & (self._bytes[np.maximum(ends - 1, 0)] == _RETURN) & (following == _LINE_FEED)
-        return np.asarray(ends - is_pair)
+        return str(self._data[table.starts[number]:table.ends[number]], 'utf-8', 'replace').encode('utf-16-le')
 
     def _line_table(self) -> Optional[_Lines]:
         if not self._knows_lines:
@@ -183,19 +164,23 @@ class OpenedMap:
     def _find_lines(self) -> Optional[_Lines]:
         """None if no source has contents. There may be more places for contents than sources, or fewer."""
         numbers = np.arange(self._contents) + (self._sources + self._names + self._scopes + 1)
-        missing = (0, max(0, self._sources - self._contents))
-        is_there = np.pad(self._offsets[numbers + 1] > self._offsets[numbers], missing)
-        if not is_there.any():
+        starts, ends = self._spans(numbers)
+        are_there = self._offsets[numbers + 1] > self._offsets[numbers]
+        if not are_there.any():
             return None
-        starts, ends = (np.pad(places, missing, constant_values=len(self._bytes)) for places in self._spans(numbers))
-        low, high = int(starts[is_there].min()), int(ends[is_there].max())
-        chunks = [self._breaks_in(at, min(at + _CHUNK, high)) for at in range(low, high, _CHUNK)]
-        breaks = np.concatenate([*chunks, [0]]).astype(np.uint32)
-        first, last = (np.searchsorted(breaks[:-1], places) + np.arange(len(places)) for places in (starts, ends))
-        has_returns = any((self._bytes[at:min(at + _CHUNK, high)] == _RETURN).any() for at in range(low, high, _CHUNK))
-        return _Lines(breaks, starts, ends, first, np.where(is_there, last, -1), has_returns)
+        low, high = int(starts[are_there].min()), int(ends[are_there].max())
+        breaks = np.concatenate([self._breaks_in(at, min(at + _CHUNK, high)) for at in range(low, high + 1, _CHUNK)])
+        # the number of a line is that of the breaks ahead of it, and of the places for contents ahead of its own
+        first, last = (np.searchsorted(breaks, places) + np.arange(self._contents) for places in (starts, ends))
+        ended = np.searchsorted(ends, breaks, 'right') + np.arange(len(breaks))
+        lines = np.zeros((2, len(breaks) + self._contents), np.uint32)
+        lines[0, first], lines[0, ended + 1] = starts, breaks + 1
+        lines[1, last], lines[1, ended] = ends, self._without_return(breaks)
+        missing = np.full(max(0, self._sources - self._contents), -1)
+        return _Lines(lines[0], lines[1], np.append(first, missing), np.append(np.where(are_there, last, -1), missing))
 
     def _breaks_in(self, start: int, end: int) -> Places:
+        """The line feeds, and the returns that no line feed follows."""
         chunk = self._bytes[start:end]
         feeds = np.flatnonzero(chunk == _LINE_FEED)
         returns = np.flatnonzero(chunk == _RETURN)
@@ -203,6 +188,11 @@ class OpenedMap:
             following = self._bytes[np.minimum(returns + (start + 1), len(self._bytes) - 1)]
             feeds = np.sort(np.concatenate([feeds, returns[following != _LINE_FEED]]))
         return feeds + start
+
+    def _without_return(self, breaks: Places) -> Places:
+        """Where the lines that have these breaks end: ahead of the return that a line feed may follow."""
+        are_pairs = (self._bytes[breaks] == _LINE_FEED) & (self._bytes[breaks - 1] == _RETURN)
+        return np.asarray(breaks - are_pairs)
 
 
 def _cut(text: bytes) -> bytes:
