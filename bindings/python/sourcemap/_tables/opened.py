@@ -106,7 +106,7 @@ class OpenedMap:
             return [_cut(text) for text in texts]
         return texts
 
-    def _read(self, starts: Places, ends: Places) -> List[bytes]:
+    def _read(self, starts: NDArray[Any], ends: NDArray[Any]) -> List[bytes]:
         """The texts in these bytes."""
         return list(map(self._data.__getitem__, map(slice, starts.tolist(), ends.tolist())))
 

@@ -53,7 +53,8 @@ class Together:
         map, and below it 32 bits."""
         keys = self._of << 32 | low
         if are_there.all():
-            return pd.factorize(keys)
+            codes, used = pd.factorize(keys)
+            return codes, used
         codes = np.full(len(keys), -1, np.int64)
         codes[are_there], used = pd.factorize(keys[are_there])
         return codes, used
@@ -85,7 +86,7 @@ class Together:
         rows = np.flatnonzero(np.append(are_long, False)[codes])
         pieces, numbers = np.unique(codes[rows] << _BUCKET_BITS | columns[rows] // STEP, return_inverse=True)
         codes[rows] = numbers + len(texts)
-        for line, wanted in groupby(pieces.tolist(), lambda piece: piece >> _BUCKET_BITS):
+        for line, wanted in groupby(pieces.tolist(), lambda piece: int(piece) >> _BUCKET_BITS):
             key = int(keys[line])
             units = self._maps[key >> 32].line_units(key & _LOW)
             texts.extend(_piece(units, piece & _BUCKET) for piece in wanted)
