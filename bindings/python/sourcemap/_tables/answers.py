@@ -66,19 +66,14 @@ class _Answering:
         if not has_original.all():
             asked, rows = asked.kept(has_original), rows[has_original]
             found, positions = found[has_original], positions[has_original]
-        self._take(asked, rows, found)
-        for map, first, end in asked.parts():
-            if map.has_scopes:
-                self._scope.add(rows[first:end], *map.scopes(positions[first:end], found[first:end]))
-
-    def _take(self, asked: Together, rows: Codes, found: Found) -> None:
-        """Takes what was found, except for scopes."""
-        source, line, column, name = (found[field].copy() for field in ('source', 'line', 'column', 'name'))
-        self._line[rows], self._column[rows] = line, column
-        counts = [(map.source_count, map.name_count) for map, _, _ in asked.parts()]
-        self._source.add(rows, *asked.texts(source, [each for each, _ in counts], OpenedMap.sources))
-        self._name.add(rows, *asked.texts(name, [each for _, each in counts], OpenedMap.names))
-        self._context.add(rows, *asked.contexts(source, line, column))
+        self._line[rows], self._column[rows] = found['line'], found['column']
+        source, name = found['source'].copy(), found['name'].copy()
+        self._source.add(rows, *asked.texts(source, [map.source_count for map in maps], OpenedMap.sources))
+        self._name.add(rows, *asked.texts(name, [map.name_count for map in maps], OpenedMap.names))
+        if any(map.scope_count for map in maps):
+            scope = asked.scope_ids(positions, found)
+            self._scope.add(rows, *asked.texts(scope, [map.scope_count for map in maps], OpenedMap.scopes))
+        self._context.add(rows, *asked.contexts(source, found['line'], found['column']))
 
     def answers(self, base: int, problems: Dict[str, str]) -> Answers:
         """The answers. Lines and columns count from `base`."""

@@ -6,11 +6,11 @@ from pathlib import Path
 from typing import TYPE_CHECKING, Any, List, NamedTuple, Optional, Tuple
 
 import numpy as np
-import pandas as pd
 from numpy.typing import NDArray
 
 from .. import _library as library
 from .._compiled import CompiledMap
+from .blocks import TOKENS, Scopes, read_scopes
 
 if TYPE_CHECKING:
     from typing_extensions import TypeAlias
@@ -52,8 +52,8 @@ class _Lines(NamedTuple):
 class OpenedMap:
     """A compiled map that was checked. Any number of threads may use it.
 
-    The library looks positions up. The table of texts is read here, as docs/COMPILED.md describes it: a call for each
-    text would take longer than all lookups.
+    The library looks positions up. Texts and the scopes of tokens are read here, as docs/COMPILED.md describes them: a call
+    for each would take longer than all lookups.
     """
 
     def __init__(self, path: Path) -> None:
@@ -65,8 +65,10 @@ class OpenedMap:
         self._tokens, self._sources, self._names, self._contents = (int(header[at // 4]) for at in (12, 16, 20, 24))
         self._scopes = int(header[52 // 4])
         count = self._sources + self._names + self._scopes + 1 + self._contents
-        blocks = (self._tokens + 63) // 64
-        self._offsets: Numbers = np.frombuffer(self._data, '<u4', count + 1, int(header[48 // 4]) + 40 * blocks)
+        self._tables = int(header[48 // 4])
+        blocks = (self._tokens + TOKENS - 1) // TOKENS
+        self._offsets: Numbers = np.frombuffer(self._data, '<u4', count + 1, self._tables + 40 * blocks)
+        self._scopes_of_tokens: Optional[Scopes] = None
         self._lines: Optional[_Lines] = None
         self._knows_lines = False
 
@@ -110,24 +112,30 @@ class OpenedMap:
         """The texts in these bytes."""
         return list(map(self._data.__getitem__, map(slice, starts.tolist(), ends.tolist())))
 
-    @property
-    def has_scopes(self) -> bool:
-        """Whether tokens have names of functions, as those of Hermes maps do."""
-        return self._scopes > 0
+    # Functions, which Hermes maps have
 
-    def scopes(self, positions: Numbers, found: Found) -> Tuple[Places, List[bytes]]:
-        """The functions of tokens that were found at these positions: for each position a number in the list of texts,
-        or -1. Positions with one token are asked once: those that lie on the token itself, and those behind it, since
-        these are two tokens if several stand at one position."""
-        tokens = (found['generated_line'].astype(np.uint64) << np.uint64(32)) | found['generated_column']
-        numbers, _ = pd.factorize(tokens)
-        is_exact = (found['generated_line'] == positions[:, 0]) & (found['generated_column'] == positions[:, 1])
-        _, places, codes = np.unique(numbers * 2 + is_exact, return_index=True, return_inverse=True)
-        asked = [self._map.scope_at(line, column) for line, column in positions[places].tolist()]
-        texts = list(dict.fromkeys(scope for scope in asked if scope is not None))
-        ids = {scope: id for id, scope in enumerate(texts)}
-        of_token = np.array([-1 if scope is None else ids[scope] for scope in asked], np.int64)
-        return of_token[codes], [text[:LONGEST_TEXT].encode() for text in texts]
+    @property
+    def scope_count(self) -> int:
+        """How many names of functions there are. Their ids are the numbers below it."""
+        return self._scopes
+
+    def scopes(self, ids: Places) -> List[bytes]:
+        """The names of functions of these ids."""
+        return self._texts(ids + self._sources + self._names)
+
+    def scope_ids(self, positions: Numbers, found: Found) -> Numbers:
+        """The ids of the functions that the tokens found at these positions are in. What is no id stands for none."""
+        if self._scopes == 0:
+            return np.zeros(len(found), np.uint32)
+        if self._scopes_of_tokens is None:
+            self._scopes_of_tokens = read_scopes(self._data, self._tables, self._tokens)
+        tokens, numbers = self._scopes_of_tokens
+        lines, columns = found['generated_line'], found['generated_column']
+        token = lines.astype(np.uint64) << np.uint64(32) | columns
+        # of tokens at one position, a lookup of this position finds the first one, any other the last one
+        is_exact = (lines == positions[:, 0]) & (columns == positions[:, 1])
+        places = np.where(is_exact, np.searchsorted(tokens, token), np.searchsorted(tokens, token, 'right') - 1)
+        return np.asarray(numbers[places] - np.uint32(1))
 
     # Lines of contents
 

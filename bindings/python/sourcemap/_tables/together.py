@@ -48,6 +48,10 @@ class Together:
         codes, keys = self._numbered(ids, self.are_below(ids, counts))
         return codes, [text for map, used in self._by_map(keys) for text in read(map, used)]
 
+    def scope_ids(self, positions: Numbers, found: Found) -> Numbers:
+        """For each row the id of the function that its token is in."""
+        return np.concatenate([map.scope_ids(positions[first:end], found[first:end]) for map, first, end in self.parts()])
+
     def _numbered(self, low: Numbers, are_there: Flags) -> Tuple[Codes, Codes]:
         """For each row the number of its key, or -1, and the keys, which come in the order of their maps: the number of the
         map, and below it 32 bits."""
