@@ -7,7 +7,8 @@ import numpy as np
 import pandas as pd
 from numpy.typing import NDArray
 
-from ..release import MOST_MAPS, Compiled, Problem, Release
+from .. import release as releases
+from ..release import Compiled, Release
 from .columns import Codes, Texts, distinct, positions
 from .opened import Found, Numbers, OpenedMap
 from .together import Together
@@ -102,8 +103,9 @@ def answer(frames: pd.DataFrame, release: Release, base: int) -> Answers:
     numbers = np.where(have_positions, maps.numbers, -1)
     order = np.argsort(numbers.astype(np.int16) if len(maps.compiled) < 1 << 15 else numbers, kind='stable')
     bounds = np.searchsorted(numbers[order], np.arange(len(maps.compiled) + 1)).tolist()
-    for first in range(0, len(maps.compiled), MOST_MAPS):
-        group = maps.compiled[first:first + MOST_MAPS]
+    most = releases.MOST_MAPS
+    for first in range(0, len(maps.compiled), most):
+        group = maps.compiled[first:first + most]
         ends = bounds[first:first + len(group) + 1]
         rows = order[ends[0]:ends[-1]]
         answering.ask([release.opened(each) for each in group], [end - ends[0] for end in ends], rows,
@@ -113,19 +115,22 @@ def answer(frames: pd.DataFrame, release: Release, base: int) -> Answers:
 
 def _maps_of(frames: pd.DataFrame, release: Release) -> _Maps:
     codes, files, ids = _files_of(frames)
+    found = [release.compiled(file, debug_id) for file, debug_id in zip(files, ids)]
+    # those that are open come first, before others take their places
+    compiled = sorted({each.key: each for each in found if isinstance(each, Compiled)}.values(),
+                      key=lambda each: not release.is_open(each))
+    places = {each.key: place for place, each in enumerate(compiled)}
     numbers = np.full(len(files) + 1, -1, np.int64)
     status = np.full(len(files) + 1, NO_MAP, np.int8)
-    compiled: Dict[str, Tuple[int, Compiled]] = {}
     problems: Dict[str, str] = {}
-    for code, (file, debug_id) in enumerate(zip(files, ids)):
-        found = release.compiled(file, debug_id)
-        if isinstance(found, Problem):
-            status[code] = BAD_MAP if found.is_bad else NO_MAP
-            if file or debug_id:
-                problems[file or debug_id] = found.why
+    for code, (each, file, debug_id) in enumerate(zip(found, files, ids)):
+        if isinstance(each, Compiled):
+            numbers[code] = places[each.key]
         else:
-            numbers[code], _ = compiled.setdefault(found.key, (len(compiled), found))
-    return _Maps(numbers[codes], status[codes], [each for _, each in compiled.values()], problems)
+            status[code] = BAD_MAP if each.is_bad else NO_MAP
+            if file or debug_id:
+                problems[file or debug_id] = each.why
+    return _Maps(numbers[codes], status[codes], compiled, problems)
 
 
 def _files_of(frames: pd.DataFrame) -> Tuple[Codes, List[Any], List[Any]]:
