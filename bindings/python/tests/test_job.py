@@ -43,6 +43,8 @@ from .test_release import Folder
 HEAD = ['file', 'debug_id', 'line', 'column']
 COUNTS = re.compile(r'(\d+) rows: (\d+) found, (\d+) no map, (\d+) no token, (\d+) bad position, (\d+) bad map; '
                     r'\d+ frames a second')
+# how many seconds a step of a program may take, at most
+PATIENCE = 240
 needs_distributed = unittest.skipUnless(find_spec('distributed'), 'distributed is not installed')
 
 
@@ -528,44 +530,51 @@ class Processes(Jobs):
 
     def wait_for(self, program: 'subprocess.Popen[str]', size: int) -> bool:
         """Waits until so many bytes of the table are written. Returns false if the program ended before."""
+        end = time.monotonic() + PATIENCE
         while program.poll() is None:
             whole = [os.path.getsize(path) for path in glob.glob(str(self.top / '.batch.*' / 'whole')) if os.path.exists(path)]
             if whole and whole[0] >= size:
                 return True
+            self.assertLess(time.monotonic(), end, f'no {size} bytes are written')
             time.sleep(0.005)
         return False
 
-    def test_killed_workers(self) -> None:
-        """Workers are killed three times, one after another: the same bytes as without."""
-        wanted = self.output_of(self.frames, '--workers', 1)
+    def check_killed(self, wanted: bytes, workers: Callable[[int], List[int]], *more: object) -> None:
+        """Workers are killed three times, one after another: the same bytes as without. `workers` returns those of the
+        program of a number."""
         drawn = random.Random()
         self.out.unlink()
-        with self.started('--workers', 4) as program:
+        with self.started(*more) as program:
             killed = []
             for part in 0.05, 0.25, 0.45:
                 self.assertTrue(self.wait_for(program, int(part * len(wanted))), 'the table was written too early')
-                killed.append(drawn.choice(workers_of(program.pid)))
+                killed.append(drawn.choice([each for each in workers(program.pid) if fields_of(each)]))
                 os.kill(killed[-1], signal.SIGKILL)
-            _, errors = program.communicate(timeout=600)
+            _, errors = program.communicate(timeout=PATIENCE)
         self.assertEqual((program.returncode, len(set(killed))), (0, 3), errors)
         self.assertEqual(self.out.read_bytes(), wanted)
         self.assertEqual(self.leftovers(), [])
 
-    def check_interrupted(self, stop: Callable[[int], None], *more: object) -> None:
+    def test_killed_workers(self) -> None:
+        self.check_killed(self.output_of(self.frames, '--workers', 1), workers_of, '--workers', 4)
+
+    def check_interrupted(self, stop: Callable[[int], None], *more: object) -> str:
+        """Returns what the program says."""
         old = builds.put(self.top, 'out.csv', b'old')
         with self.started(*more) as program:
             self.assertTrue(self.wait_for(program, 100_000))
             workers = workers_of(program.pid)
-            self.assertEqual(len(workers), 0 if more[-1] == 1 else more[-1])
+            self.assertEqual(len(workers), more[-1] if more[0] == '--workers' and more[-1] != 1 else 0)
             stop(program.pid)
-            _, errors = program.communicate(timeout=600)
+            _, errors = program.communicate(timeout=PATIENCE)
         self.assertEqual((program.returncode, errors.splitlines()[-1:]),
                          (130, ['sourcemap: interrupted, and no table was written']), errors)
         self.assertEqual((old.read_bytes(), self.leftovers()), (b'old', []))
         self.check_ended(workers)
+        return errors
 
     def check_ended(self, workers: List[int]) -> None:
-        end = time.monotonic() + 120
+        end = time.monotonic() + PATIENCE
         while any(map(fields_of, workers)):
             self.assertLess(time.monotonic(), end, 'a worker is still there')
             time.sleep(0.05)
@@ -588,23 +597,21 @@ class Processes(Jobs):
         self.assertEqual(old.read_bytes(), b'old')
 
     def test_cluster_at_an_address(self) -> None:
-        """The program is interrupted; its workers go on, and write the table when they are asked again."""
+        """The program is interrupted: its workers go on. They are killed while they are asked again. The cluster waits for
+        them longer than 15 seconds, after which it would give them up."""
+        from dask import config
         from distributed import Client, LocalCluster
 
-        with mock.patch.dict(os.environ, ENVIRONMENT), LocalCluster(
+        wanted = self.output_of(self.frames, '--workers', 1)
+        patience = {'distributed.deploy.lost-worker-timeout': f'{PATIENCE}s'}
+        with mock.patch.dict(os.environ, ENVIRONMENT), config.set(patience), LocalCluster(
                 n_workers=3, threads_per_worker=2, processes=True, dashboard_address=None, silence_logs=logging.CRITICAL,
                 local_directory=str(self.top)) as cluster, Client(cluster, set_as_default=False) as client:
             address = cluster.scheduler_address
-            old = builds.put(self.top, 'out.csv', b'old')
-            with self.started('--dask', address) as program:
-                self.assertTrue(self.wait_for(program, 100_000))
-                program.send_signal(signal.SIGINT)
-                _, errors = program.communicate(timeout=600)
-            self.assertEqual((program.returncode, errors), (130, 'sourcemap: interrupted, and no table was written\n'))
-            self.assertEqual((old.read_bytes(), self.leftovers()), (b'old', []))
-            self.assertEqual(client.submit(sum, [1, 2]).result(timeout=600), 3)
-            again = self.output_of(self.frames, '--dask', address)
-        self.assertEqual(self.output_of(self.frames, '--workers', 1), again)
+            said = self.check_interrupted(lambda pid: os.kill(pid, signal.SIGINT), '--dask', address)
+            self.assertEqual(said, 'sourcemap: interrupted, and no table was written\n')
+            self.assertEqual(client.submit(sum, [1, 2]).result(timeout=PATIENCE), 3)
+            self.check_killed(wanted, lambda pid: [each.pid for each in cluster.workers.values() if each.pid], '--dask', address)
 
 
 class Memory(Jobs):

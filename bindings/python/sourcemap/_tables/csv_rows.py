@@ -112,7 +112,7 @@ def _write(file: BinaryIO, columns: List[Any], count: int) -> None:
         rows = block[:min(BLOCK, count - first)]
         for place, (codes, _, _) in enumerate(cells):
             np.add(codes[first:first + BLOCK], numbers[place], out=rows[:, place])
-        file.write(b''.join(all_cells.take(rows.ravel()).tolist()))
+        file.write(b''.join(all_cells[rows.ravel()].tolist()))
 
 
 def _numbered(cells: List[_Cells]) -> Tuple[List[int], NDArray[np.object_]]:

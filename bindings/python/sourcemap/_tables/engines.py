@@ -22,6 +22,9 @@ AHEAD = 4
 # How many workers may die with one piece.
 MOST_DEATHS = 10
 
+# How long a worker that died may take to start again. After that the engine gives it up: with the 15 seconds that it has by
+# itself, it gave up those of a machine with too much to do, one after another.
+RETURN = '1 hour'
 # What else the engine would do: look at each worker a hundred times a second, and look up for each piece the text of the
 # code that asks for it.
 UNUSED = {'distributed.worker.profile.enabled': False, 'distributed.diagnostics.computations.ignore-modules': ['']}
@@ -113,6 +116,7 @@ def _local(workers: int, folder: Path) -> Iterator[Any]:
     distributed, config = need('distributed'), need('dask').config
     _start_to_fork()
     with config.set({**UNUSED, 'distributed.scheduler.allowed-failures': MOST_DEATHS,
+                     'distributed.deploy.lost-worker-timeout': RETURN,
                      'distributed.worker.multiprocessing-method': 'forkserver'}), \
             distributed.LocalCluster(n_workers=workers, threads_per_worker=1, processes=True, memory_limit=0,
                                      dashboard_address=None, local_directory=str(folder),
