@@ -10,7 +10,7 @@ from numpy.typing import NDArray
 from .. import release as releases
 from ..release import Compiled, Release
 from .columns import Codes, Texts, distinct, positions
-from .opened import Found, Numbers, OpenedMap
+from .opened import FLAG, Found, Numbers, OpenedMap
 from .together import Together
 
 STATUSES = ('found', 'no map', 'no token', 'bad position', 'bad map')
@@ -61,20 +61,25 @@ class _Answering:
         next."""
         asked = Together(maps, bounds)
         found = asked.lookup(positions)
-        on_line = (found['generated_line'] == positions[:, 0]) | found['is_range']
-        has_original = found['found'] & on_line & asked.are_below(found['source'], [map.source_count for map in maps])
+        on_line = (found.generated_line == positions[:, 0]) | (found.is_range & FLAG != 0)
+        has_source = asked.are_below(found.source, [map.source_count for map in maps])
+        has_original = on_line & has_source & (found.found & FLAG != 0)
         self._status[rows] = np.where(has_original, FOUND, NO_TOKEN)
         if not has_original.all():
-            asked, rows = asked.kept(has_original), rows[has_original]
-            found, positions = found[has_original], positions[has_original]
-        self._line[rows], self._column[rows] = found['line'], found['column']
-        source, name = found['source'].copy(), found['name'].copy()
-        self._source.add(rows, *asked.texts(source, [map.source_count for map in maps], OpenedMap.sources))
-        self._name.add(rows, *asked.texts(name, [map.name_count for map in maps], OpenedMap.names))
+            kept = np.flatnonzero(has_original)
+            asked, rows, positions = asked.kept(has_original), rows[kept], positions[kept]
+            found = Found(*(field[kept] for field in found))
+        self._take(asked, maps, rows, positions, found)
+
+    def _take(self, asked: Together, maps: List[OpenedMap], rows: Codes, positions: Numbers, found: Found) -> None:
+        """Takes what was found, which all has an original position."""
+        self._line[rows], self._column[rows] = found.line, found.column
+        self._source.add(rows, *asked.texts(found.source, [map.source_count for map in maps], OpenedMap.sources))
+        self._name.add(rows, *asked.texts(found.name, [map.name_count for map in maps], OpenedMap.names))
         if any(map.scope_count for map in maps):
             scope = asked.scope_ids(positions, found)
             self._scope.add(rows, *asked.texts(scope, [map.scope_count for map in maps], OpenedMap.scopes))
-        self._context.add(rows, *asked.contexts(source, found['line'], found['column']))
+        self._context.add(rows, *asked.contexts(found.source, found.line, found.column))
 
     def answers(self, base: int, problems: Dict[str, str]) -> Answers:
         """The answers. Lines and columns count from `base`."""

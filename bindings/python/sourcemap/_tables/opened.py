@@ -31,12 +31,22 @@ Numbers: TypeAlias = NDArray[np.uint32]
 Places: TypeAlias = NDArray[np.int64]
 
 
-# An sm_found of the library.
-FOUND = np.dtype({'names': ['generated_line', 'generated_column', 'line', 'column', 'source', 'name', 'is_range', 'found'],
-                  'formats': [np.uint32] * 6 + [np.bool_] * 2, 'offsets': range(0, 32, 4), 'itemsize': 32})
+# what the lowest byte of a flag has
+FLAG = np.uint32(255)
 
-# What was found at many positions, with lines and columns counted from 0.
-Found: TypeAlias = NDArray[np.void]
+
+class Found(NamedTuple):
+    """What was found at many positions, with lines and columns counted from 0: the fields of the sm_found of the library.
+    The last two are flags in their lowest bytes."""
+
+    generated_line: Numbers
+    generated_column: Numbers
+    line: Numbers
+    column: Numbers
+    source: Numbers
+    name: Numbers
+    is_range: Numbers
+    found: Numbers
 
 
 class _Lines(NamedTuple):
@@ -72,9 +82,11 @@ class OpenedMap:
         self._lines: Optional[_Lines] = None
         self._knows_lines = False
 
-    def lookup(self, positions: Numbers) -> Found:
-        """What is found at many positions, each a row of its line and its column, counted from 0."""
-        return np.frombuffer(self._map.lookup_many(positions.reshape(-1).data)._found, FOUND)
+    def lookup(self, positions: Numbers) -> Numbers:
+        """What is found at many positions, each a row of its line and its column, counted from 0: a row of `Found` for
+        each."""
+        found = self._map.lookup_many(positions.reshape(-1).data)._found
+        return np.frombuffer(found, np.uint32).reshape(-1, len(Found._fields))
 
     # Texts
 
@@ -126,11 +138,11 @@ class OpenedMap:
     def scope_ids(self, positions: Numbers, found: Found) -> Numbers:
         """The ids of the functions that the tokens found at these positions are in. What is no id stands for none."""
         if self._scopes == 0:
-            return np.zeros(len(found), np.uint32)
+            return np.zeros(len(positions), np.uint32)
         if self._scopes_of_tokens is None:
             self._scopes_of_tokens = read_scopes(self._data, self._tables, self._tokens)
         tokens, numbers = self._scopes_of_tokens
-        lines, columns = found['generated_line'], found['generated_column']
+        lines, columns = found.generated_line, found.generated_column
         token = lines.astype(np.uint64) << np.uint64(32) | columns
         # of tokens at one position, a lookup of this position finds the first one, any other the last one
         is_exact = (lines == positions[:, 0]) & (columns == positions[:, 1])
@@ -139,7 +151,7 @@ class OpenedMap:
 
     # Lines of contents
 
-    def line_numbers(self, sources: Places, lines: Numbers) -> Places:
+    def line_numbers(self, sources: Numbers, lines: Numbers) -> Places:
         """The numbers that lines of sources have among all lines of contents: all differ, and are less than 2^32. A line
         has -1 if the contents of the source are not there, or have no such line."""
         table = self._line_table()

@@ -27,7 +27,10 @@ class Together:
 
     def lookup(self, positions: Numbers) -> Found:
         """What is found at the position of each row."""
-        return np.concatenate([map.lookup(positions[first:end]) for map, first, end in self.parts()])
+        found = np.empty((len(Found._fields), len(positions)), np.uint32)
+        for map, first, end in self.parts():
+            found[:, first:end] = map.lookup(positions[first:end]).T
+        return Found(*found)
 
     def parts(self) -> Iterator[Tuple[OpenedMap, int, int]]:
         """Each map, the first of its rows, and the one after its last."""
@@ -50,7 +53,8 @@ class Together:
 
     def scope_ids(self, positions: Numbers, found: Found) -> Numbers:
         """For each row the id of the function that its token is in."""
-        return np.concatenate([map.scope_ids(positions[first:end], found[first:end]) for map, first, end in self.parts()])
+        return np.concatenate([map.scope_ids(positions[first:end], Found(*(field[first:end] for field in found)))
+                               for map, first, end in self.parts()])
 
     def _numbered(self, low: Numbers, are_there: Flags) -> Tuple[Codes, Codes]:
         """For each row the number of its key, or -1, and the keys, which come in the order of their maps: the number of the
@@ -69,7 +73,7 @@ class Together:
         low = keys & _LOW
         return ((map, low[first:end]) for map, first, end in zip(self._maps, bounds, bounds[1:]) if first < end)
 
-    def contexts(self, sources: NDArray[np.int64], lines: Numbers, columns: Numbers) -> Tuple[Codes, List[bytes]]:
+    def contexts(self, sources: Numbers, lines: Numbers, columns: Numbers) -> Tuple[Codes, List[bytes]]:
         """For each row the number of the line of its source in the list of texts, or -1 if the contents of the source are
         not there, or have no such line. Lines are cut to `LONGEST_LINE`."""
         numbers = np.concatenate([map.line_numbers(sources[first:end], lines[first:end]) for map, first, end in self.parts()])
