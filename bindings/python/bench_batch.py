@@ -26,13 +26,13 @@ from pathlib import Path
 import numpy as np
 
 import sourcemap
-from sourcemap._tables import csv_rows, job, opened
+from sourcemap._tables import csv_rows, job, opened, together
 from sourcemap._tables.columns import Texts
 from sourcemap._tables.pieces import Table
 
 HEAD = b'file,line,column\n'
 PARTS = [('reading CSV', csv_rows._read), ('lookups', opened.CompiledMap.lookup_many),
-         ('texts', opened.OpenedMap._texts), ('lines of sources', opened.OpenedMap.context),
+         ('texts', opened.OpenedMap._texts), ('lines of sources', together.Together.contexts),
          ('writing CSV', csv_rows._write)]
 
 

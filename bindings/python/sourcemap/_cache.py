@@ -18,6 +18,7 @@ from .errors import SourceMapError
 
 _NAME = re.compile(r'[0-9a-f]{8}\.compiled')
 _compiling = threading.Lock()
+_BLOCK = 1 << 16
 
 
 def default_folder() -> Path:
@@ -34,7 +35,7 @@ def key_of(data: bytes) -> str:
 def key_of_file(path: Path) -> str:
     """The key of the bytes in a file, which are read block by block."""
     digest = hashlib.sha256()
-    block = bytearray(1 << 20)
+    block = bytearray(_BLOCK)
     with open(path, 'rb', buffering=0) as file:
         while (count := file.readinto(block)):
             digest.update(memoryview(block)[:count])
@@ -109,7 +110,7 @@ def _is_whole(path: Path) -> bool:
 def crc_of_file(path: Path) -> int:
     """The CRC-32 of the bytes in a file."""
     crc = 0
-    block = bytearray(1 << 20)
+    block = bytearray(_BLOCK)
     with open(path, 'rb', buffering=0) as file:
         while (count := file.readinto(block)):
             crc = zlib.crc32(memoryview(block)[:count], crc)

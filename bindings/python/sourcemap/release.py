@@ -66,10 +66,28 @@ class Problem(NamedTuple):
 
 
 class Compiled(NamedTuple):
-    """A compiled map: what it is cached by, and its file."""
+    """A compiled map: what it is cached by, its file, and which file that was when it was checked."""
 
     key: str
     path: Path
+    stamp: Tuple[int, ...]
+
+    @classmethod
+    def checked(cls, key: str, path: Path) -> Compiled:
+        """A compiled map that was just checked."""
+        return cls(key, path, _stamp_of(path))
+
+    def is_as_checked(self) -> bool:
+        """Whether the file has not changed since it was checked."""
+        return self.stamp == _stamp_of(self.path)
+
+
+def _stamp_of(path: Path) -> Tuple[int, ...]:
+    try:
+        state = os.stat(path)
+    except OSError:
+        return ()
+    return state.st_dev, state.st_ino, state.st_size, state.st_mtime_ns, state.st_ctime_ns
 
 
 class Release:
@@ -315,9 +333,11 @@ class Release:
                 key = self._key_of(match.map, match.embedded)
             except OSError as error:
                 return Problem(not isinstance(error, FileNotFoundError), reason_of(error))
-            if key not in self._compiled:
-                self._compiled[key] = self._compile(match.map, match.embedded, key)
-            return self._compiled[key]
+            found = self._compiled.get(key)
+            # what is open stays as it is; what is opened again was checked as it is now
+            if found is None or isinstance(found, Compiled) and not self.is_open(found) and not found.is_as_checked():
+                found = self._compiled[key] = self._compile(match.map, match.embedded, key)
+            return found
 
     def _compile(self, path: Path, embedded: bool, key: str) -> Union[Compiled, Problem]:
         found = self._cache.find(key)
@@ -332,7 +352,7 @@ class Release:
                 return Problem(True, f'{path} takes more memory than a map of its size may take')
             except (CannotCompile, UnicodeEncodeError) as error:
                 return Problem(True, f'{path}: {error}')
-        return Compiled(key, found)
+        return Compiled.checked(key, found)
 
     def open(self, file: Optional[str], debug_id: Optional[str] = None) -> CompiledMap:
         """The compiled map of a generated file. Raises `FileNotFoundError` if there is no map, `ValueError` if it cannot be
@@ -351,6 +371,10 @@ class Release:
     def compiled(self, file: Optional[str], debug_id: Optional[str]) -> Union[Compiled, Problem]:
         """The compiled map of a generated file, or why there is none. Raises `OSError` if the cache cannot be written."""
         return self._checked(self.find(file, debug_id))
+
+    def is_open(self, compiled: Compiled) -> bool:
+        """Whether a compiled map is open, to be asked by arrays."""
+        return compiled.key in self._opened
 
     def opened(self, compiled: Compiled) -> OpenedMap:
         """A compiled map, to be asked by arrays. The last ones stay open for the next time. Needs numpy and pandas."""

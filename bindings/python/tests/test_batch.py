@@ -9,7 +9,8 @@ import resource
 import subprocess
 import sys
 import unittest
-from typing import Any, List
+from pathlib import Path
+from typing import Any, Dict, List
 from unittest import mock
 
 try:
@@ -20,6 +21,7 @@ except ImportError:
 
 import sourcemap
 from sourcemap import batch
+from sourcemap._tables.opened import OpenedMap
 
 from . import builds
 from .builds import ID, WRONG, Reference
@@ -180,6 +182,26 @@ class Rows(Tables):
         with mock.patch('sourcemap.release.MOST_MAPS', 9):
             found = self.symbolicate(1, 1, files)
         self.assertEqual(found.source.tolist(), [f'{number % 60}.ts' for number in range(130)])
+
+    def test_maps_that_are_opened_again(self) -> None:
+        """Those that are open are asked first. The file of another one is checked if it has changed."""
+        for number in range(12):
+            self.put_map(f'{number}.js.map', f'{number}.ts')
+        frames = pd.DataFrame({'file': [f'{number}.js' for number in range(12)], 'line': 1, 'column': 1})
+        release = self.release()
+        opened = mock.Mock(side_effect=OpenedMap)
+        whole: Dict[Path, bytes] = {}
+        with mock.patch('sourcemap.release.MOST_MAPS', 9), mock.patch('sourcemap._tables.opened.OpenedMap', opened):
+            for count, made_now in (12, 12), (15, 3), (18, 3):
+                found = batch.symbolicate(frames, release)
+                self.assertEqual(found.source.tolist(), [f'{number}.ts' for number in range(12)])
+                cached = {path: path.read_bytes() for path in (self.top / 'cache').glob('*/*.compiled')}
+                whole = whole or cached
+                self.assertEqual((opened.call_count, len(cached)), (count, 12))
+                self.assertEqual(sum(data == whole[path] for path, data in cached.items()), made_now)
+                for path, data in whole.items():
+                    path.unlink()
+                    path.write_bytes(data[:-9] + bytes([data[-9] ^ 1]) + data[-8:])
 
 
 class AsOneAtATime(Folder):

@@ -128,22 +128,26 @@ class Documented(unittest.TestCase):
                         self.assertTrue(inspect.getdoc(value), f'{each.__name__}.{name}')
 
 
+@unittest.skipUnless(shutil.which('mypy'), 'mypy is not installed')
 class Types(unittest.TestCase):
-    @unittest.skipUnless(shutil.which('mypy'), 'mypy is not installed')
-    def test_package(self):
-        run = subprocess.run(['mypy', '--strict', '--cache-dir', os.devnull, 'sourcemap'], cwd=FOLDER,
-                             capture_output=True, text=True)
-        self.assertEqual(run.returncode, 0, run.stdout)
+    def setUp(self):
+        folder = tempfile.TemporaryDirectory()
+        self.addCleanup(folder.cleanup)
+        self.folder = Path(folder.name)
 
-    @unittest.skipUnless(shutil.which('mypy'), 'mypy is not installed')
-    def test_sample(self):
-        """A program of a user, which is checked beside the package; each line of `WRONG` is an error."""
-        with tempfile.TemporaryDirectory() as folder:
-            for name, lines, status in ('right', SAMPLE, 0), ('wrong', WRONG, 1):
-                path = Path(folder, f'{name}.py')
+    def check(self, path):
+        """Checks types. Runs of one test share what mypy found in NumPy and in the package."""
+        return subprocess.run(['mypy', '--strict', '--cache-dir', self.folder / 'cache', path], cwd=FOLDER,
+                              capture_output=True, text=True)
+
+    def test_package(self):
+        """The package, and then a program of a user, which is checked beside it; each line of `WRONG` is an error."""
+        for name, lines, status in ('sourcemap', None, 0), ('right.py', SAMPLE, 0), ('wrong.py', WRONG, 1):
+            path = name
+            if lines is not None:
+                path = self.folder / name
                 path.write_text(lines)
-                run = subprocess.run(['mypy', '--strict', '--cache-dir', os.devnull, path], cwd=FOLDER,
-                                     capture_output=True, text=True)
-                self.assertEqual(run.returncode, status, run.stdout)
-            errors = {int(line) for line in re.findall(r'wrong\.py:(\d+): error', run.stdout)}
-            self.assertEqual(errors, set(range(3, WRONG.count('\n') + 1)))
+            run = self.check(path)
+            self.assertEqual(run.returncode, status, run.stdout)
+        errors = {int(line) for line in re.findall(r'wrong\.py:(\d+): error', run.stdout)}
+        self.assertEqual(errors, set(range(3, WRONG.count('\n') + 1)))

@@ -31,6 +31,7 @@ except ImportError:
     raise unittest.SkipTest('pandas and numpy are not installed') from None
 
 from sourcemap import batch
+from sourcemap.__main__ import main
 from sourcemap._tables import pieces
 from sourcemap._tables.pieces import Table
 
@@ -43,6 +44,8 @@ from .test_release import Folder
 HEAD = ['file', 'debug_id', 'line', 'column']
 COUNTS = re.compile(r'(\d+) rows: (\d+) found, (\d+) no map, (\d+) no token, (\d+) bad position, (\d+) bad map; '
                     r'\d+ frames a second')
+# how many seconds a step of a program may take, at most
+PATIENCE = 240
 needs_distributed = unittest.skipUnless(find_spec('distributed'), 'distributed is not installed')
 
 
@@ -73,12 +76,19 @@ class Jobs(Folder):
                 str(self.top / 'cache'), *map(str, more)]
 
     def run_job(self, frames: Path, *more: object, **keys: Any) -> 'subprocess.CompletedProcess[str]':
+        """Runs the program."""
         return subprocess.run(self.words(frames, *more), cwd=FOLDER, env=ENVIRONMENT, capture_output=True, text=True, **keys)
 
-    def output_of(self, frames: Path, *more: object, out: str = 'out.csv', **keys: Any) -> bytes:
-        """What the program writes."""
+    def run_here(self, frames: Path, *more: object) -> 'subprocess.CompletedProcess[str]':
+        """Runs it in this process, which has imported pandas before. It may print no table."""
+        words = self.words(frames, '--workers', 1, *more)
+        with contextlib.redirect_stderr(io.StringIO()) as errors:
+            return subprocess.CompletedProcess(words, main(words[3:]), '', errors.getvalue())
+
+    def output_of(self, frames: Path, *more: object, out: str = 'out.csv') -> bytes:
+        """What the program writes, in this process if nothing says who works."""
         path = self.top / out
-        run = self.run_job(frames, '-o', path, *more, **keys)
+        run = (self.run_job if {'--workers', '--dask'} & {*more} else self.run_here)(frames, '-o', path, *more)
         self.assertEqual((run.returncode, run.stdout), (0, ''), run.stderr)
         self.assertIsNotNone(COUNTS.fullmatch(run.stderr.splitlines()[-1]), run.stderr)
         self.assertEqual(self.leftovers(), [])
@@ -107,7 +117,7 @@ class SameAnswers(Jobs):
         wanted = answered(rows, answers)
         frames = self.table('frames.csv', [HEAD, *rows])
         self.assertEqual(self.output_of(frames, '--workers', 1), wanted)
-        self.assertEqual(self.output_of(frames, '--workers', 1, '--partition', 300_001), wanted)
+        self.assertEqual(self.output_of(frames, '--partition', 300_001), wanted)
         self.assertEqual(self.output_of(frames, '--workers', 4, '--partition', 500_000), wanted)
         with mock.patch.dict(os.environ, ENVIRONMENT), LocalCluster(
                 n_workers=4, threads_per_worker=1, processes=True, dashboard_address=None,
@@ -119,10 +129,10 @@ class SameAnswers(Jobs):
         frames = self.table('frames.csv', [HEAD, *rows])
         wanted = answered(rows, answers)
         zipped = builds.put(self.top, 'frames.csv.gz', gzip.compress(frames.read_bytes()))
-        self.assertEqual(self.output_of(zipped, '--workers', 1, '--partition', 20_000), wanted)
-        first = self.output_of(frames, '--workers', 1, '--partition', 20_000, out='out.csv.gz')
+        self.assertEqual(self.output_of(zipped, '--partition', 20_000), wanted)
+        first = self.output_of(frames, '--partition', 20_000, out='out.csv.gz')
         self.assertEqual(gzip.decompress(first), wanted)
-        self.assertEqual(self.output_of(zipped, '--workers', 1, '--partition', 20_000, out='out.csv.gz'), first)
+        self.assertEqual(self.output_of(zipped, '--partition', 20_000, out='out.csv.gz'), first)
         printed = subprocess.run(self.words(frames, '--workers', 1), cwd=FOLDER, env=ENVIRONMENT, capture_output=True)
         self.assertEqual(printed.stdout, wanted)
 
@@ -139,9 +149,9 @@ class SameAnswers(Jobs):
                                 for name, text in zip(batch.COLUMNS, answer)}} for record, answer in zip(records, answers)]
         for name, data in ('f.jsonl', text.encode()), ('f.ndjson.gz', gzip.compress(text.encode())):
             frames = builds.put(self.top, name, data)
-            found = self.output_of(frames, '--workers', 1, '--partition', 10_000, out='out.jsonl')
+            found = self.output_of(frames, '--partition', 10_000, out='out.jsonl')
             self.assertEqual([json.loads(line) for line in found.splitlines()], wanted)
-            self.assertEqual(gzip.decompress(self.output_of(frames, '--workers', 1, out='out.ndjson.gz')), found)
+            self.assertEqual(gzip.decompress(self.output_of(frames, out='out.ndjson.gz')), found)
 
     def test_zero_based(self) -> None:
         self.put('app.js.map', README)
@@ -161,7 +171,7 @@ class Texts(Jobs):
 
     def symbolicated(self, text: str, *more: object) -> List[List[str]]:
         frames = builds.put(self.top, 'f.csv', text.encode('utf-8', 'surrogateescape'))
-        found = self.output_of(frames, '--workers', 1, *more).decode('utf-8', 'surrogateescape')
+        found = self.output_of(frames, *more).decode('utf-8', 'surrogateescape')
         return list(csv.reader(io.StringIO(found, newline='')))
 
     def test_rows_of_bad_positions_wherever_the_file_is_cut(self) -> None:
@@ -293,7 +303,7 @@ class Errors(Jobs):
 
     def check(self, frames: Path, message: str, *more: object, out: str = 'out.csv', **keys: Any) -> None:
         old = builds.put(self.top, out, b'old')
-        run = self.run_job(frames, '-o', old, *more, **keys)
+        run = self.run_job(frames, '-o', old, *more, **keys) if '--workers' in more else self.run_here(frames, '-o', old, *more)
         self.assertEqual((run.returncode, run.stdout), (1, ''), run.stderr)
         self.assertRegex(run.stderr.splitlines()[-1], f'sourcemap: .*{message}')
         self.assertEqual((old.read_bytes(), self.leftovers()), (b'old', []))
@@ -305,9 +315,9 @@ class Errors(Jobs):
         self.check(frames, 'is to have the format of', out='out.jsonl')
         self.check(frames, 'out.txt: a table ends in', out='out.txt')
         self.check(frames, 'none: Not a directory', '--release', self.top / 'none')
-        run = self.run_job(frames, '-o', self.top)
+        run = self.run_here(frames, '-o', self.top)
         self.assertEqual((run.returncode, run.stderr), (1, f'sourcemap: {self.top}: Is a directory\n'))
-        run = self.run_job(frames, '-o', self.top / 'none' / 'out.csv')
+        run = self.run_here(frames, '-o', self.top / 'none' / 'out.csv')
         self.assertEqual((run.returncode, run.stdout), (1, ''))
 
     def test_texts(self) -> None:
@@ -334,7 +344,7 @@ class Errors(Jobs):
         """No file may have more than 100 kB: the pieces of the table, in each worker, or the table."""
         built = builds.write(self.root)
         frames = self.table('f.csv', [HEAD, *builds.rows(built, 20_000)])
-        self.output_of(frames, '--workers', 1)
+        self.output_of(frames)
 
         def limit() -> None:
             resource.setrlimit(resource.RLIMIT_FSIZE, (100_000, 100_000))
@@ -360,7 +370,7 @@ class Errors(Jobs):
             self.skipTest('nothing can be mounted here')
         self.addCleanup(subprocess.run, ['umount', disk], check=True)
         frames = self.table('f.csv', [HEAD, *builds.rows(built, 20_000)])
-        self.check(frames, 'No space left on device', '--workers', 1, '--partition', 50_000, out='disk/out.csv')
+        self.check(frames, 'No space left on device', '--partition', 50_000, out='disk/out.csv')
         self.assertEqual(os.listdir(disk), ['out.csv'])
         if find_spec('distributed'):
             self.check(frames, 'No space left on device', '--workers', 2, '--partition', 50_000, out='disk/out.csv')
@@ -370,7 +380,7 @@ class Errors(Jobs):
         small.mkdir()
         subprocess.run(['mount', '-t', 'tmpfs', '-o', 'size=8k', 'none', small], check=True)
         self.addCleanup(subprocess.run, ['umount', small], check=True)
-        self.check(frames, 'No space left on device', '--workers', 1, '--cache', small / 'cache')
+        self.check(frames, 'No space left on device', '--cache', small / 'cache')
         self.assertEqual([path for path in small.glob('cache/*/.*')], [])
 
     def test_nobody_reads(self) -> None:
@@ -435,7 +445,7 @@ class DamagedCache(Jobs):
     def test_made_again(self) -> None:
         """Files of the cache that are truncated, turned or gone, which several workers meet at once."""
         frames = self.table('f.csv', [HEAD, *builds.rows(builds.write(self.root), 5000)])
-        wanted = self.output_of(frames, '--workers', 1)
+        wanted = self.output_of(frames)
         made = {path: path.read_bytes() for path in sorted((self.top / 'cache').glob('*/*.compiled'))}
         self.assertEqual(len(made), 7)
         damages: List[Callable[[bytes], bytes]] = [
@@ -528,44 +538,51 @@ class Processes(Jobs):
 
     def wait_for(self, program: 'subprocess.Popen[str]', size: int) -> bool:
         """Waits until so many bytes of the table are written. Returns false if the program ended before."""
+        end = time.monotonic() + PATIENCE
         while program.poll() is None:
             whole = [os.path.getsize(path) for path in glob.glob(str(self.top / '.batch.*' / 'whole')) if os.path.exists(path)]
             if whole and whole[0] >= size:
                 return True
+            self.assertLess(time.monotonic(), end, f'no {size} bytes are written')
             time.sleep(0.005)
         return False
 
-    def test_killed_workers(self) -> None:
-        """Workers are killed three times, one after another: the same bytes as without."""
-        wanted = self.output_of(self.frames, '--workers', 1)
+    def check_killed(self, wanted: bytes, workers: Callable[[int], List[int]], *more: object) -> None:
+        """Workers are killed three times, one after another: the same bytes as without. `workers` returns those of the
+        program of a number."""
         drawn = random.Random()
         self.out.unlink()
-        with self.started('--workers', 4) as program:
+        with self.started(*more) as program:
             killed = []
             for part in 0.05, 0.25, 0.45:
                 self.assertTrue(self.wait_for(program, int(part * len(wanted))), 'the table was written too early')
-                killed.append(drawn.choice(workers_of(program.pid)))
+                killed.append(drawn.choice([each for each in workers(program.pid) if fields_of(each)]))
                 os.kill(killed[-1], signal.SIGKILL)
-            _, errors = program.communicate(timeout=600)
+            _, errors = program.communicate(timeout=PATIENCE)
         self.assertEqual((program.returncode, len(set(killed))), (0, 3), errors)
         self.assertEqual(self.out.read_bytes(), wanted)
         self.assertEqual(self.leftovers(), [])
 
-    def check_interrupted(self, stop: Callable[[int], None], *more: object) -> None:
+    def test_killed_workers(self) -> None:
+        self.check_killed(self.output_of(self.frames), workers_of, '--workers', 4)
+
+    def check_interrupted(self, stop: Callable[[int], None], *more: object) -> str:
+        """Returns what the program says."""
         old = builds.put(self.top, 'out.csv', b'old')
         with self.started(*more) as program:
             self.assertTrue(self.wait_for(program, 100_000))
             workers = workers_of(program.pid)
-            self.assertEqual(len(workers), 0 if more[-1] == 1 else more[-1])
+            self.assertEqual(len(workers), more[-1] if more[0] == '--workers' and more[-1] != 1 else 0)
             stop(program.pid)
-            _, errors = program.communicate(timeout=600)
+            _, errors = program.communicate(timeout=PATIENCE)
         self.assertEqual((program.returncode, errors.splitlines()[-1:]),
                          (130, ['sourcemap: interrupted, and no table was written']), errors)
         self.assertEqual((old.read_bytes(), self.leftovers()), (b'old', []))
         self.check_ended(workers)
+        return errors
 
     def check_ended(self, workers: List[int]) -> None:
-        end = time.monotonic() + 120
+        end = time.monotonic() + PATIENCE
         while any(map(fields_of, workers)):
             self.assertLess(time.monotonic(), end, 'a worker is still there')
             time.sleep(0.05)
@@ -588,23 +605,21 @@ class Processes(Jobs):
         self.assertEqual(old.read_bytes(), b'old')
 
     def test_cluster_at_an_address(self) -> None:
-        """The program is interrupted; its workers go on, and write the table when they are asked again."""
+        """The program is interrupted: its workers go on. They are killed while they are asked again. The cluster waits for
+        them longer than 15 seconds, after which it would give them up."""
+        from dask import config
         from distributed import Client, LocalCluster
 
-        with mock.patch.dict(os.environ, ENVIRONMENT), LocalCluster(
+        wanted = self.output_of(self.frames)
+        patience = {'distributed.deploy.lost-worker-timeout': f'{PATIENCE}s'}
+        with mock.patch.dict(os.environ, ENVIRONMENT), config.set(patience), LocalCluster(
                 n_workers=3, threads_per_worker=2, processes=True, dashboard_address=None, silence_logs=logging.CRITICAL,
                 local_directory=str(self.top)) as cluster, Client(cluster, set_as_default=False) as client:
             address = cluster.scheduler_address
-            old = builds.put(self.top, 'out.csv', b'old')
-            with self.started('--dask', address) as program:
-                self.assertTrue(self.wait_for(program, 100_000))
-                program.send_signal(signal.SIGINT)
-                _, errors = program.communicate(timeout=600)
-            self.assertEqual((program.returncode, errors), (130, 'sourcemap: interrupted, and no table was written\n'))
-            self.assertEqual((old.read_bytes(), self.leftovers()), (b'old', []))
-            self.assertEqual(client.submit(sum, [1, 2]).result(timeout=600), 3)
-            again = self.output_of(self.frames, '--dask', address)
-        self.assertEqual(self.output_of(self.frames, '--workers', 1), again)
+            said = self.check_interrupted(lambda pid: os.kill(pid, signal.SIGINT), '--dask', address)
+            self.assertEqual(said, 'sourcemap: interrupted, and no table was written\n')
+            self.assertEqual(client.submit(sum, [1, 2]).result(timeout=PATIENCE), 3)
+            self.check_killed(wanted, lambda pid: [each.pid for each in cluster.workers.values() if each.pid], '--dask', address)
 
 
 class Memory(Jobs):

@@ -1,21 +1,17 @@
 """What `batch.symbolicate` adds to a table of frames, as arrays."""
 from __future__ import annotations
 
-from typing import TYPE_CHECKING, Any, Callable, Dict, List, NamedTuple, Tuple, Union
+from typing import Any, Dict, List, NamedTuple, Tuple
 
 import numpy as np
 import pandas as pd
 from numpy.typing import NDArray
 
-from ..release import Compiled, Problem, Release
+from .. import release as releases
+from ..release import Compiled, Release
 from .columns import Codes, Texts, distinct, positions
-from .opened import Numbers, OpenedMap
-
-if TYPE_CHECKING:
-    from typing_extensions import TypeAlias
-
-# Some rows of an array: those from one to another, or those of these numbers.
-Where: TypeAlias = Union[slice, Codes]
+from .opened import FLAG, Found, Numbers, OpenedMap
+from .together import Together
 
 STATUSES = ('found', 'no map', 'no token', 'bad position', 'bad map')
 FOUND, NO_MAP, NO_TOKEN, BAD_POSITION, BAD_MAP = range(len(STATUSES))
@@ -36,77 +32,61 @@ class Answers(NamedTuple):
 
 
 class _Column:
-    """A column of texts that is filled map by map."""
+    """A column of texts that is filled group by group of maps."""
 
     def __init__(self, count: int) -> None:
         self._codes = np.full(count, -1, np.int64)
         self._texts: List[bytes] = []
 
-    def add(self, where: Where, ids: Numbers, count: int, read: Callable[[Any], List[bytes]]) -> None:
-        """Sets texts by their ids, where they are below `count`; `read` gets each id once."""
-        ids = np.minimum(ids, count)
-        is_used = np.zeros(count + 1, bool)
-        is_used[ids] = True
-        used = np.flatnonzero(is_used[:-1])
-        numbers = np.full(count + 1, -1, np.int64)
-        numbers[used] = np.arange(len(self._texts), len(self._texts) + len(used))
-        self._codes[where] = numbers[ids]
-        self._texts.extend(read(used))
-
-    def add_texts(self, where: Where, codes: Codes, texts: List[bytes]) -> None:
+    def add(self, rows: Codes, codes: Codes, texts: List[bytes]) -> None:
         """Sets texts by their numbers in a list; -1 is none."""
-        self._codes[where] = np.where(codes < 0, -1, codes + len(self._texts))
+        self._codes[rows] = np.where(codes < 0, -1, codes + len(self._texts)) if self._texts else codes
         self._texts.extend(texts)
 
-    def texts(self, rows: Codes, count: int) -> Texts:
-        """The column of a table with so many rows. What was filled are these ones."""
-        return Texts(_placed(self._codes, rows, count), self._texts)
-
-
-def _placed(values: Codes, rows: Codes, count: int) -> Codes:
-    """A column that has values in these rows, and -1 in others."""
-    placed = np.full(count, -1, np.int64)
-    placed[rows] = values
-    return placed
+    def texts(self) -> Texts:
+        return Texts(self._codes, self._texts)
 
 
 class _Answering:
-    """What is found at positions, each a row of its line and its column. They come in the order of their maps."""
+    """The answers to the rows of a table, of which some have positions in maps. `status` is that of the others."""
 
-    def __init__(self, positions: Numbers) -> None:
-        count = len(positions)
-        self._positions = positions
-        self._status = np.full(count, NO_TOKEN, np.int8)
+    def __init__(self, status: NDArray[np.int8]) -> None:
+        count = len(status)
+        self._status = status
         self._line, self._column = np.full(count, -1, np.int64), np.full(count, -1, np.int64)
         self._source, self._name, self._scope, self._context = (_Column(count) for _ in range(4))
 
-    def ask(self, map: OpenedMap, first: int, end: int) -> None:
-        """Asks a map for these positions."""
-        positions = self._positions[first:end]
-        found, has_original = map.lookup(positions)
-        where: Where = slice(first, end)
+    def ask(self, maps: List[OpenedMap], bounds: List[int], rows: Codes, positions: Numbers) -> None:
+        """Asks maps for the positions of these rows. Each is a line and a column. Those of a map go from one bound to the
+        next."""
+        asked = Together(maps, bounds)
+        found = asked.lookup(positions)
+        on_line = (found.generated_line == positions[:, 0]) | (found.is_range & FLAG != 0)
+        has_source = asked.are_below(found.source, [map.source_count for map in maps])
+        has_original = on_line & has_source & (found.found & FLAG != 0)
+        self._status[rows] = np.where(has_original, FOUND, NO_TOKEN)
         if not has_original.all():
-            where = first + np.flatnonzero(has_original)
-            positions, found = positions[has_original], found[has_original]
-        self._status[where] = FOUND
-        self._line[where] = found['line']
-        self._column[where] = found['column']
-        self._source.add(where, found['source'], map.source_count, map.sources)
-        self._name.add(where, found['name'], map.name_count, map.names)
-        if map.has_scopes:
-            self._scope.add_texts(where, *map.scopes(positions, found))
-        self._context.add_texts(where, *map.context(found))
+            kept = np.flatnonzero(has_original)
+            asked, rows, positions = asked.kept(has_original), rows[kept], positions[kept]
+            found = Found(*(field[kept] for field in found))
+        self._take(asked, maps, rows, positions, found)
 
-    def answers(self, rows: Codes, status: NDArray[np.int8], base: int, problems: Dict[str, str]) -> Answers:
-        """The answers to a table in which the positions have these rows. `status` is that of other rows."""
-        status[rows] = self._status
-        count = len(status)
+    def _take(self, asked: Together, maps: List[OpenedMap], rows: Codes, positions: Numbers, found: Found) -> None:
+        """Takes what was found, which all has an original position."""
+        self._line[rows], self._column[rows] = found.line, found.column
+        self._source.add(rows, *asked.texts(found.source, [map.source_count for map in maps], OpenedMap.sources))
+        self._name.add(rows, *asked.texts(found.name, [map.name_count for map in maps], OpenedMap.names))
+        if any(map.scope_count for map in maps):
+            scope = asked.scope_ids(positions, found)
+            self._scope.add(rows, *asked.texts(scope, [map.scope_count for map in maps], OpenedMap.scopes))
+        self._context.add(rows, *asked.contexts(found.source, found.line, found.column))
+
+    def answers(self, base: int, problems: Dict[str, str]) -> Answers:
+        """The answers. Lines and columns count from `base`."""
         for numbers in self._line, self._column:
             numbers[numbers >= 0] += base
-        source, name, scope, context = (column.texts(rows, count)
-                                        for column in (self._source, self._name, self._scope, self._context))
-        return Answers(source, _placed(self._line, rows, count), _placed(self._column, rows, count), name, scope, context,
-                       status, problems)
+        source, name, scope, context = (column.texts() for column in (self._source, self._name, self._scope, self._context))
+        return Answers(source, self._line, self._column, name, scope, context, self._status, problems)
 
 
 class _Maps(NamedTuple):
@@ -124,33 +104,38 @@ def answer(frames: pd.DataFrame, release: Release, base: int) -> Answers:
     columns, have_columns = positions(frames['column'], base)
     have_positions = have_lines & have_columns
     maps = _maps_of(frames, release)
-    status = np.where(have_positions, maps.status, np.int8(BAD_POSITION))
+    answering = _Answering(np.where(have_positions, maps.status, np.int8(BAD_POSITION)))
     numbers = np.where(have_positions, maps.numbers, -1)
     order = np.argsort(numbers.astype(np.int16) if len(maps.compiled) < 1 << 15 else numbers, kind='stable')
     bounds = np.searchsorted(numbers[order], np.arange(len(maps.compiled) + 1)).tolist()
-    rows = order[bounds[0]:]
-    answering = _Answering(np.stack((lines[rows], columns[rows]), axis=1))
-    for compiled, first, end in zip(maps.compiled, bounds, bounds[1:]):
-        if first < end:
-            answering.ask(release.opened(compiled), first - bounds[0], end - bounds[0])
-    return answering.answers(rows, status, base, maps.problems)
+    most = releases.MOST_MAPS
+    for first in range(0, len(maps.compiled), most):
+        group = maps.compiled[first:first + most]
+        ends = bounds[first:first + len(group) + 1]
+        rows = order[ends[0]:ends[-1]]
+        answering.ask([release.opened(each) for each in group], [end - ends[0] for end in ends], rows,
+                      np.stack((lines[rows], columns[rows]), axis=1))
+    return answering.answers(base, maps.problems)
 
 
 def _maps_of(frames: pd.DataFrame, release: Release) -> _Maps:
     codes, files, ids = _files_of(frames)
+    found = [release.compiled(file, debug_id) for file, debug_id in zip(files, ids)]
+    # those that are open come first, before others take their places
+    compiled = sorted({each.key: each for each in found if isinstance(each, Compiled)}.values(),
+                      key=lambda each: not release.is_open(each))
+    places = {each.key: place for place, each in enumerate(compiled)}
     numbers = np.full(len(files) + 1, -1, np.int64)
     status = np.full(len(files) + 1, NO_MAP, np.int8)
-    compiled: Dict[str, Tuple[int, Compiled]] = {}
     problems: Dict[str, str] = {}
-    for code, (file, debug_id) in enumerate(zip(files, ids)):
-        found = release.compiled(file, debug_id)
-        if isinstance(found, Problem):
-            status[code] = BAD_MAP if found.is_bad else NO_MAP
-            if file or debug_id:
-                problems[file or debug_id] = found.why
+    for code, (each, file, debug_id) in enumerate(zip(found, files, ids)):
+        if isinstance(each, Compiled):
+            numbers[code] = places[each.key]
         else:
-            numbers[code], _ = compiled.setdefault(found.key, (len(compiled), found))
-    return _Maps(numbers[codes], status[codes], [each for _, each in compiled.values()], problems)
+            status[code] = BAD_MAP if each.is_bad else NO_MAP
+            if file or debug_id:
+                problems[file or debug_id] = each.why
+    return _Maps(numbers[codes], status[codes], compiled, problems)
 
 
 def _files_of(frames: pd.DataFrame) -> Tuple[Codes, List[Any], List[Any]]:

@@ -19,7 +19,8 @@ from .answers import FOUND, STATUSES, Answers, answer
 from .columns import Codes, Texts, distinct, encoded
 from .pieces import SPECIAL, quoted
 
-BLOCK = 1024
+# so many rows that what they become stays in the cache of a processor
+BLOCK = 256
 _SMALL = 1 << 16
 _NUMBER = re.compile(r'[ \t\n\v\f\r]*[+-]?[0-9]{1,25}[ \t\n\v\f\r]*')
 _LARGEST = (1 << 63) - 1
@@ -27,10 +28,11 @@ _LARGEST = (1 << 63) - 1
 
 class _Cells(NamedTuple):
     """A column that is ready to be written: for each row the number of its bytes, with the comma or newline that
-    follows. Number -1 is the last one."""
+    follows. The numbers count from `least`."""
 
     codes: Codes
     rendered: NDArray[np.object_]
+    least: int
 
 
 def answer_rows(data: bytes, names: Sequence[str], release: Release, base: int, file: BinaryIO) -> Answers:
@@ -104,12 +106,27 @@ def _plain(text: str) -> str:
 
 def _write(file: BinaryIO, columns: List[Any], count: int) -> None:
     cells = _cells_of(columns)
-    block = np.empty((BLOCK, len(cells)), object)
+    numbers, all_cells = _numbered(cells)
+    block = np.empty((BLOCK, len(cells)), np.intp)
     for first in range(0, count, BLOCK):
         rows = block[:min(BLOCK, count - first)]
-        for place, (codes, rendered) in enumerate(cells):
-            rows[:, place] = rendered.take(codes[first:first + BLOCK])
-        file.write(b''.join(rows.ravel().tolist()))
+        for place, (codes, _, _) in enumerate(cells):
+            np.add(codes[first:first + BLOCK], numbers[place], out=rows[:, place])
+        file.write(b''.join(all_cells[rows.ravel()].tolist()))
+
+
+def _numbered(cells: List[_Cells]) -> Tuple[List[int], NDArray[np.object_]]:
+    """What is added to the codes of each column to find its bytes among those of all columns, and these. Columns may
+    share what is rendered."""
+    firsts: Dict[int, int] = {}
+    rendered: List[NDArray[np.object_]] = []
+    end = 0
+    for each in cells:
+        if id(each.rendered) not in firsts:
+            firsts[id(each.rendered)] = end
+            rendered.append(each.rendered)
+            end += len(each.rendered)
+    return [firsts[id(each.rendered)] - each.least for each in cells], np.concatenate(rendered)
 
 
 def _cells_of(columns: List[Any]) -> List[_Cells]:
@@ -131,14 +148,14 @@ def _cells(column: Any, end: bytes) -> _Cells:
         return _number_cells(column, end)
     if isinstance(column, _Last):
         return _last_cells(column, end)
-    return _Cells(column.codes, _objects([*_fields(column.texts, end, False), end]))
+    return _Cells(column.codes, _objects([end, *_fields(column.texts, end, False)]), -1)
 
 
 def _last_cells(column: _Last, end: bytes) -> _Cells:
     codes, texts = column.context
     endings = [f',{status}'.encode() + end for status in STATUSES]
-    rendered = _objects([*_fields(texts, endings[FOUND], True), *endings])
-    return _Cells(np.where(codes < 0, len(texts) + column.status.astype(np.int64), codes), rendered)
+    rendered = _objects([*endings, *_fields(texts, endings[FOUND], True)])
+    return _Cells(np.where(codes < 0, column.status, codes + len(endings)), rendered, 0)
 
 
 def _objects(items: Sequence[bytes]) -> NDArray[np.object_]:
@@ -166,10 +183,12 @@ def _number_cells(column: _Numbers, end: bytes) -> _Cells:
     least, most = _ends(numbers)
     if least >= (-1 if added else 0) and most < _SMALL:
         if end not in _small_numbers:
-            _small_numbers[end] = _objects([*(b'%d%s' % (number, end) for number in range(_SMALL)), end])
-        return _Cells(numbers, _small_numbers[end])
+            after = end.decode()
+            texts = f'{after}\0'.join(map(str, range(_SMALL))) + after
+            _small_numbers[end] = _objects([end, *texts.encode().split(b'\0')])
+        return _Cells(numbers, _small_numbers[end], -1)
     codes, used = pd.factorize(numbers)
-    return _Cells(codes, _objects([end if added and number < 0 else b'%d%s' % (number, end) for number in used.tolist()]))
+    return _Cells(codes, _objects([end if added and number < 0 else b'%d%s' % (number, end) for number in used.tolist()]), 0)
 
 
 def _ends(numbers: Codes) -> Tuple[int, int]:

@@ -22,6 +22,13 @@ AHEAD = 4
 # How many workers may die with one piece.
 MOST_DEATHS = 10
 
+# How long a worker that died may take to start again. After that the engine gives it up: with the 15 seconds that it has by
+# itself, it gave up those of a machine with too much to do, one after another.
+RETURN = '1 hour'
+# What else the engine would do: look at each worker a hundred times a second, and look up for each piece the text of the
+# code that asks for it.
+UNUSED = {'distributed.worker.profile.enabled': False, 'distributed.diagnostics.computations.ignore-modules': ['']}
+
 Job = TypeVar('Job')
 Item = TypeVar('Item')
 Done = TypeVar('Done')
@@ -60,7 +67,8 @@ def started(arguments: argparse.Namespace, folder: Path, is_small: bool) -> Iter
     # what is no error of ours, as a connection that was slow to close
     logging.getLogger('asyncio').setLevel(logging.CRITICAL)
     if arguments.dask is not None:
-        with need('distributed').Client(arguments.dask, set_as_default=False) as client:
+        distributed = need('distributed')
+        with need('dask').config.set(UNUSED), distributed.Client(arguments.dask, set_as_default=False) as client:
             yield partial(_by_dask, client, AHEAD * max(4, sum(client.nthreads().values())))
     elif workers == 1 or is_small:
         yield _in_turn
@@ -107,7 +115,8 @@ def _local(workers: int, folder: Path) -> Iterator[Any]:
     are answered by another one."""
     distributed, config = need('distributed'), need('dask').config
     _start_to_fork()
-    with config.set({'distributed.scheduler.allowed-failures': MOST_DEATHS,
+    with config.set({**UNUSED, 'distributed.scheduler.allowed-failures': MOST_DEATHS,
+                     'distributed.deploy.lost-worker-timeout': RETURN,
                      'distributed.worker.multiprocessing-method': 'forkserver'}), \
             distributed.LocalCluster(n_workers=workers, threads_per_worker=1, processes=True, memory_limit=0,
                                      dashboard_address=None, local_directory=str(folder),

@@ -6,11 +6,11 @@ from pathlib import Path
 from typing import TYPE_CHECKING, Any, List, NamedTuple, Optional, Tuple
 
 import numpy as np
-import pandas as pd
 from numpy.typing import NDArray
 
 from .. import _library as library
 from .._compiled import CompiledMap
+from .blocks import TOKENS, Scopes, read_scopes
 
 if TYPE_CHECKING:
     from typing_extensions import TypeAlias
@@ -23,7 +23,6 @@ LONGEST_TEXT = 4096
 LONGEST_LINE = 200
 STEP = 100
 
-_BUCKET_BITS = 26
 _CHUNK = 4 << 20
 _LINE_FEED, _RETURN = 10, 13
 
@@ -32,33 +31,39 @@ Numbers: TypeAlias = NDArray[np.uint32]
 Places: TypeAlias = NDArray[np.int64]
 
 
-# An sm_found of the library.
-FOUND = np.dtype({'names': ['generated_line', 'generated_column', 'line', 'column', 'source', 'name', 'is_range', 'found'],
-                  'formats': [np.uint32] * 6 + [np.bool_] * 2, 'offsets': range(0, 32, 4), 'itemsize': 32})
+# what the lowest byte of a flag has
+FLAG = np.uint32(255)
 
-# What was found at many positions, with lines and columns counted from 0.
-Found: TypeAlias = NDArray[np.void]
+
+class Found(NamedTuple):
+    """What was found at many positions, with lines and columns counted from 0: the fields of the sm_found of the library.
+    The last two are flags in their lowest bytes."""
+
+    generated_line: Numbers
+    generated_column: Numbers
+    line: Numbers
+    column: Numbers
+    source: Numbers
+    name: Numbers
+    is_range: Numbers
+    found: Numbers
 
 
 class _Lines(NamedTuple):
-    """Where the lines of contents are in the bytes of the file. `breaks` are the ends of lines, the bytes of line feeds
-    and of returns that stand alone, and then a 0. For each source, `starts` and `ends` are where its contents begin and
-    end, `first` and `last` the numbers of the breaks that come next; `is_there` says whether it has contents."""
+    """Where the lines of contents begin and end in the bytes of the file, by their numbers. For each source, `first` and
+    `last` are the numbers of its first and its last line; `last` is -1 if its contents are not there."""
 
-    breaks: Numbers
-    starts: Places
-    ends: Places
+    starts: Numbers
+    ends: Numbers
     first: Places
     last: Places
-    is_there: Flags
-    has_returns: bool
 
 
 class OpenedMap:
     """A compiled map that was checked. Any number of threads may use it.
 
-    The library looks positions up. The table of texts is read here, as docs/COMPILED.md describes it: a call for each
-    text would take longer than all lookups.
+    The library looks positions up. Texts and the scopes of tokens are read here, as docs/COMPILED.md describes them: a call
+    for each would take longer than all lookups.
     """
 
     def __init__(self, path: Path) -> None:
@@ -70,18 +75,18 @@ class OpenedMap:
         self._tokens, self._sources, self._names, self._contents = (int(header[at // 4]) for at in (12, 16, 20, 24))
         self._scopes = int(header[52 // 4])
         count = self._sources + self._names + self._scopes + 1 + self._contents
-        blocks = (self._tokens + 63) // 64
-        self._offsets: Numbers = np.frombuffer(self._data, '<u4', count + 1, int(header[48 // 4]) + 40 * blocks)
+        self._tables = int(header[48 // 4])
+        blocks = (self._tokens + TOKENS - 1) // TOKENS
+        self._offsets: Numbers = np.frombuffer(self._data, '<u4', count + 1, self._tables + 40 * blocks)
+        self._scopes_of_tokens: Optional[Scopes] = None
         self._lines: Optional[_Lines] = None
         self._knows_lines = False
 
-    def lookup(self, positions: Numbers) -> Tuple[Found, Flags]:
-        """Looks up many positions, each a row of its line and its column, counted from 0. Returns what was found, and for
-        each whether it has an original position: it has none if there is no token, if the token has no source, or if it is
-        on an earlier line and no range token."""
-        found = np.frombuffer(self._map.lookup_many(positions.reshape(-1).data)._found, FOUND)
-        on_line = (found['generated_line'] == positions[:, 0]) | found['is_range']
-        return found, found['found'] & on_line & (found['source'] < self._sources)
+    def lookup(self, positions: Numbers) -> Numbers:
+        """What is found at many positions, each a row of its line and its column, counted from 0: a row of `Found` for
+        each."""
+        found = self._map.lookup_many(positions.reshape(-1).data)._found
+        return np.frombuffer(found, np.uint32).reshape(-1, len(Found._fields))
 
     # Texts
 
@@ -115,73 +120,60 @@ class OpenedMap:
             return [_cut(text) for text in texts]
         return texts
 
-    def _read(self, starts: Places, ends: Places) -> List[bytes]:
+    def _read(self, starts: NDArray[Any], ends: NDArray[Any]) -> List[bytes]:
         """The texts in these bytes."""
         return list(map(self._data.__getitem__, map(slice, starts.tolist(), ends.tolist())))
 
-    @property
-    def has_scopes(self) -> bool:
-        """Whether tokens have names of functions, as those of Hermes maps do."""
-        return self._scopes > 0
+    # Functions, which Hermes maps have
 
-    def scopes(self, positions: Numbers, found: Found) -> Tuple[Places, List[bytes]]:
-        """The functions of tokens that were found at these positions: for each position a number in the list of texts,
-        or -1. Positions with one token are asked once: those that lie on the token itself, and those behind it, since
-        these are two tokens if several stand at one position."""
-        tokens = (found['generated_line'].astype(np.uint64) << np.uint64(32)) | found['generated_column']
-        numbers, _ = pd.factorize(tokens)
-        is_exact = (found['generated_line'] == positions[:, 0]) & (found['generated_column'] == positions[:, 1])
-        _, places, codes = np.unique(numbers * 2 + is_exact, return_index=True, return_inverse=True)
-        asked = [self._map.scope_at(line, column) for line, column in positions[places].tolist()]
-        texts = list(dict.fromkeys(scope for scope in asked if scope is not None))
-        ids = {scope: id for id, scope in enumerate(texts)}
-        of_token = np.array([-1 if scope is None else ids[scope] for scope in asked], np.int64)
-        return of_token[codes], [text[:LONGEST_TEXT].encode() for text in texts]
+    @property
+    def scope_count(self) -> int:
+        """How many names of functions there are. Their ids are the numbers below it."""
+        return self._scopes
+
+    def scopes(self, ids: Places) -> List[bytes]:
+        """The names of functions of these ids."""
+        return self._texts(ids + self._sources + self._names)
+
+    def scope_ids(self, positions: Numbers, found: Found) -> Numbers:
+        """The ids of the functions that the tokens found at these positions are in. What is no id stands for none."""
+        if self._scopes == 0:
+            return np.zeros(len(positions), np.uint32)
+        if self._scopes_of_tokens is None:
+            self._scopes_of_tokens = read_scopes(self._data, self._tables, self._tokens)
+        tokens, numbers = self._scopes_of_tokens
+        lines, columns = found.generated_line, found.generated_column
+        token = lines.astype(np.uint64) << np.uint64(32) | columns
+        # of tokens at one position, a lookup of this position finds the first one, any other the last one
+        is_exact = (lines == positions[:, 0]) & (columns == positions[:, 1])
+        places = np.where(is_exact, np.searchsorted(tokens, token), np.searchsorted(tokens, token, 'right') - 1)
+        return np.asarray(numbers[places] - np.uint32(1))
 
     # Lines of contents
 
-    def context(self, found: Found) -> Tuple[Places, List[bytes]]:
-        """The lines of the sources that were found: for each a number in the list of texts, or -1 if the contents of the
-        source are not there, or have no such line. They are cut to `LONGEST_LINE`."""
+    def line_numbers(self, sources: Numbers, lines: Numbers) -> Places:
+        """The numbers that lines of sources have among all lines of contents: all differ, and are less than 2^32. A line
+        has -1 if the contents of the source are not there, or have no such line."""
         table = self._line_table()
         if table is None:
-            return np.full(len(found), -1, np.int64), []
-        sources, lines = found['source'], found['line']
-        number = table.first[sources] + lines
-        is_there = table.is_there[sources] & (number <= table.last[sources])
-        number[~is_there] = 0
-        starts = np.where(lines == 0, table.starts[sources], table.breaks[number - 1].astype(np.int64) + 1)
-        ends = np.where(number < table.last[sources], table.breaks[number], table.ends[sources])
-        if table.has_returns:
-            ends = self._without_return(starts, ends)
-        keys = starts << _BUCKET_BITS
-        is_long = is_there & (ends - starts > LONGEST_LINE)
-        if is_long.any():
-            keys[is_long] |= found['column'][is_long].astype(np.int64) // STEP
-        keys[~is_there] = -1
-        used, places, codes = np.unique(keys, return_index=True, return_inverse=True)
-        if len(used) and used[0] < 0:
-            return codes - 1, self._read_lines(used[1:], starts[places[1:]], ends[places[1:]])
-        return codes, self._read_lines(used, starts[places], ends[places])
+            return np.full(len(sources), -1, np.int64)
+        numbers = table.first[sources] + lines
+        numbers[numbers > table.last[sources]] = -1
+        return numbers
 
-    def _read_lines(self, keys: Places, starts: Places, ends: Places) -> List[bytes]:
-        """The lines of these keys, which rise, and between these bytes."""
-        is_long = ends - starts > LONGEST_LINE
-        texts = self._read(starts, np.where(is_long, starts, ends))
-        last, units = -1, b''
-        for place in np.flatnonzero(is_long).tolist():
-            start, end = int(starts[place]), int(ends[place])
-            if start != last:
-                last, units = start, str(self._data[start:end], 'utf-8', 'replace').encode('utf-16-le')
-            texts[place] = _piece(units, int(keys[place]) & (1 << _BUCKET_BITS) - 1)
-        return texts
+    def lines(self, numbers: Places) -> Tuple[List[bytes], Flags]:
+        """The lines of these numbers, and for each whether it is longer than `LONGEST_LINE`: then it is not read."""
+        table = self._line_table()
+        assert table is not None
+        starts, ends = table.starts[numbers], table.ends[numbers]
+        are_long = ends - starts > LONGEST_LINE
+        return self._read(starts, np.where(are_long, starts, ends)), are_long
 
-    def _without_return(self, starts: Places, ends: Places) -> Places:
-        """Where lines end without the return that stands before their line feed."""
-        # where the file ends no text goes on
-        following = self._bytes[np.minimum(ends, len(self._bytes) - 1)]
-        is_pair = (ends > starts) & (self._bytes[np.maximum(ends - 1, 0)] == _RETURN) & (following == _LINE_FEED)
-        return np.asarray(ends - is_pair)
+    def line_units(self, number: int) -> bytes:
+        """The line of a number, in UTF-16."""
+        table = self._line_table()
+        assert table is not None
+        return str(self._data[table.starts[number]:table.ends[number]], 'utf-8', 'replace').encode('utf-16-le')
 
     def _line_table(self) -> Optional[_Lines]:
         if not self._knows_lines:
@@ -192,19 +184,23 @@ class OpenedMap:
     def _find_lines(self) -> Optional[_Lines]:
         """None if no source has contents. There may be more places for contents than sources, or fewer."""
         numbers = np.arange(self._contents) + (self._sources + self._names + self._scopes + 1)
-        missing = (0, max(0, self._sources - self._contents))
-        is_there = np.pad(self._offsets[numbers + 1] > self._offsets[numbers], missing)
-        if not is_there.any():
+        starts, ends = self._spans(numbers)
+        are_there = self._offsets[numbers + 1] > self._offsets[numbers]
+        if not are_there.any():
             return None
-        starts, ends = (np.pad(places, missing) for places in self._spans(numbers))
-        low, high = int(starts[is_there].min()), int(ends[is_there].max())
-        chunks = [self._breaks_in(at, min(at + _CHUNK, high)) for at in range(low, high, _CHUNK)]
-        breaks = np.concatenate([*chunks, [0]]).astype(np.uint32)
-        first, last = np.searchsorted(breaks[:-1], starts), np.searchsorted(breaks[:-1], ends)
-        has_returns = any((self._bytes[at:min(at + _CHUNK, high)] == _RETURN).any() for at in range(low, high, _CHUNK))
-        return _Lines(breaks, starts, ends, first, last, is_there, has_returns)
+        low, high = int(starts[are_there].min()), int(ends[are_there].max())
+        breaks = np.concatenate([self._breaks_in(at, min(at + _CHUNK, high)) for at in range(low, high + 1, _CHUNK)])
+        # the number of a line is that of the breaks ahead of it, and of the places for contents ahead of its own
+        first, last = (np.searchsorted(breaks, places) + np.arange(self._contents) for places in (starts, ends))
+        ended = np.searchsorted(ends, breaks, 'right') + np.arange(len(breaks))
+        lines = np.zeros((2, len(breaks) + self._contents), np.uint32)
+        lines[0, first], lines[0, ended + 1] = starts, breaks + 1
+        lines[1, last], lines[1, ended] = ends, self._without_return(breaks)
+        missing = np.full(max(0, self._sources - self._contents), -1)
+        return _Lines(lines[0], lines[1], np.append(first, missing), np.append(np.where(are_there, last, -1), missing))
 
     def _breaks_in(self, start: int, end: int) -> Places:
+        """The line feeds, and the returns that no line feed follows."""
         chunk = self._bytes[start:end]
         feeds = np.flatnonzero(chunk == _LINE_FEED)
         returns = np.flatnonzero(chunk == _RETURN)
@@ -213,11 +209,10 @@ class OpenedMap:
             feeds = np.sort(np.concatenate([feeds, returns[following != _LINE_FEED]]))
         return feeds + start
 
-
-def _piece(units: bytes, bucket: int) -> bytes:
-    """The part of a line that is kept, from the UTF-16 units of the line."""
-    start = 0 if len(units) <= 2 * LONGEST_LINE else max(0, bucket * STEP - STEP // 2)
-    return units[2 * start:2 * (start + LONGEST_LINE)].decode('utf-16-le', 'ignore').encode()
+    def _without_return(self, breaks: Places) -> Places:
+        """Where the lines that have these breaks end: ahead of the return that a line feed may follow."""
+        are_pairs = (self._bytes[breaks] == _LINE_FEED) & (self._bytes[breaks - 1] == _RETURN)
+        return np.asarray(breaks - are_pairs)
 
 
 def _cut(text: bytes) -> bytes:

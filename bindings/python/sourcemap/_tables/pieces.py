@@ -87,7 +87,7 @@ class Table:
             self._read_names()
         else:
             self._held = self._read(self._size)
-        self._adapt(self._held)
+        self._adapt(self._held, len(self._held))
 
     def __enter__(self) -> Table:
         return self
@@ -113,10 +113,10 @@ class Table:
         except (EOFError, gzip.BadGzipFile, zlib.error) as error:
             raise ValueError(f'{self._path}: {error}') from None
 
-    def _adapt(self, rows: bytes) -> None:
-        """Sets the size of the next piece, whose rows are taken to be as long as these."""
-        count = rows.count(b'\n')
-        self._size = min(self._most, MOST_ROWS * len(rows) // count) if count else self._most
+    def _adapt(self, block: bytes, end: int) -> None:
+        """Sets the size of the next piece, whose rows are taken to be as long as those in the block up to `end`."""
+        count = int(np.count_nonzero(np.frombuffer(block, np.uint8, end) == ord('\n')))
+        self._size = min(self._most, MOST_ROWS * end // count) if count else self._most
 
     def _grow(self, block: bytes, end_of: Callable[[bytes], int]) -> Tuple[bytes, int]:
         """The block, filled up to the size of a piece, with more bytes of the file until a row ends in it, and where its
@@ -139,17 +139,17 @@ class Table:
             block, end = self._grow(self._held, end_of)
             if not block:
                 return
-            self._adapt(block[:end])
-            yield self._piece(number, block[:end])
+            self._adapt(block, end)
+            yield self._piece(number, block, end)
             self._at, self._held = self._at + end, block[end:]
             number += 1
 
-    def _piece(self, number: int, data: bytes) -> Piece:
+    def _piece(self, number: int, block: bytes, end: int) -> Piece:
         if not self.format.is_gzipped:
-            return Piece(number, str(self._path.absolute()), self._at, len(data), False, self._at + len(data))
+            return Piece(number, str(self._path.absolute()), self._at, end, False, self._at + end)
         path = self._folder / f'{number}.in'
-        path.write_bytes(data)
-        return Piece(number, str(path), 0, len(data), True, self._raw.tell())
+        path.write_bytes(memoryview(block)[:end])
+        return Piece(number, str(path), 0, end, True, self._raw.tell())
 
 
 def _line_end(data: bytes) -> int:
@@ -159,6 +159,8 @@ def _line_end(data: bytes) -> int:
 
 def _last_row_end(data: bytes) -> int:
     """Where the last row of CSV ends; 0 if none does."""
+    if b'"' not in data:
+        return _line_end(data)
     letters = np.frombuffer(data, np.uint8)
     quotes = np.flatnonzero(letters == ord('"'))
     if not _are_pairs(letters, quotes):
