@@ -26,7 +26,7 @@ class Machine:
     def glibc(self):
         """The oldest release of glibc, but none before 2.17, that has all that the shared library calls, as `2.17`."""
         symbols = output_of(self.objdump, '-T', self.library / 'libsourcemap.so')
-        minor = max(17, *(int(version) for version in re.findall(r'GLIBC_2[.]([0-9]+)', symbols)))
+        minor = max([17, *(int(version) for version in re.findall(r'GLIBC_2[.]([0-9]+)', symbols))])
         return f'2.{minor}'
 
 
