@@ -462,7 +462,7 @@ class Bar(Jobs):
         os.close(terminal)
         shown = b''
         with contextlib.suppress(OSError):  # the end of a terminal that nobody has open any more
-            while select.select([main], [], [], 60)[0]:
+            while select.select([main], [], [], 600)[0]:
                 shown += os.read(main, 1000)
         os.close(main)
         self.assertEqual(program.wait(), 0)
@@ -546,6 +546,7 @@ class Processes(Jobs):
                 self.assertTrue(self.wait_for(program, int(part * len(wanted))), 'the table was written too early')
                 killed.append(drawn.choice(workers_of(program.pid)))
                 os.kill(killed[-1], signal.SIGKILL)
+                self.check_ended(killed)
             _, errors = program.communicate(timeout=600)
         self.assertEqual((program.returncode, len(set(killed))), (0, 3), errors)
         self.assertEqual(self.out.read_bytes(), wanted)
