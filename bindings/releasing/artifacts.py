@@ -85,8 +85,10 @@ def write_tar(folder, file, root):
 def c_library(machine, work, dist):
     run(BINDINGS / 'c/build', *machine.options)
     install_c(machine, work)
-    for page in ('LICENSE', 'bindings/c/README.md'):
-        shutil.copy(TOP / page, work)
+    (work / 'examples').mkdir()
+    for file, folder in (('LICENSE', '.'), ('bindings/c/README.md', '.'),
+                         ('bindings/c/examples/lookup.c', 'examples'), ('examples/readme.map', 'examples')):
+        shutil.copy(TOP / file, work / folder)
     name = f'sourcemap-{VERSION}-{machine.name}-linux'
     write_tar(work, dist / f'{name}.tar.gz', name)
     return f'{name}.tar.gz'
