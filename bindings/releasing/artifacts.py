@@ -94,6 +94,13 @@ def c_library(machine, work, dist):
     return f'{name}.tar.gz'
 
 
+def set_modes(folder):
+    """Makes all below a folder readable by all, whatever the user's mask: packages keep the modes of files."""
+    for path in folder.rglob('*'):
+        if not path.is_symlink():
+            path.chmod(0o755 if path.is_dir() else 0o644)
+
+
 def debian(machine, work, dist):
     library = f'lib/{machine.triplet}'
     install_c(machine, work / 'usr', library)
@@ -108,9 +115,7 @@ def debian(machine, work, dist):
     (work / 'DEBIAN/control').write_text(CONTROL.format(
         name=DEBIAN, version=VERSION, machine=machine.debian, glibc=machine.glibc(), crate=CRATE_VERSION))
     (work / 'DEBIAN/triggers').write_text('activate-noawait ldconfig\n')
-    for path in work.rglob('*'):
-        if not path.is_symlink():
-            path.chmod(0o755 if path.is_dir() else 0o644)
+    set_modes(work)
     name = f'{DEBIAN}_{VERSION}_{machine.debian}.deb'
     run('dpkg-deb', '--root-owner-group', '--build', work, dist / name)
     return name
@@ -143,6 +148,7 @@ def wheel(work, dist):
     edit(work / 'pyproject.toml', ('["py.typed", "*.html"]', '["py.typed", "*.html", "lib/*.so"]'))
     tag = f'manylinux_{X86.glibc().replace(".", "_")}_x86_64'
     (work / 'setup.cfg').write_text(f'[bdist_wheel]\npython_tag = py3\nplat_name = {tag}\n')
+    set_modes(work)
     run(PYTHON, '-m', 'pip', 'wheel', '--no-deps', '--no-build-isolation', '--no-index', '--wheel-dir', work / 'made', work)
     (made,) = (work / 'made').iterdir()
     shutil.copy(made, dist)
