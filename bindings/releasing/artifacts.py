@@ -95,7 +95,7 @@ def c_library(machine, work, dist):
 
 
 def set_modes(folder):
-    """Makes all below a folder readable by all, whatever the user's mask: packages keep the modes of files."""
+    """Makes all below a folder readable by all: packages keep the modes of files, and a checkout has the user's mask."""
     for path in folder.rglob('*'):
         if not path.is_symlink():
             path.chmod(0o755 if path.is_dir() else 0o644)
@@ -160,6 +160,7 @@ def node(work, dist):
     run(BINDINGS / 'node/build', SOURCEMAP_LIBRARY_DIR=str(X86.library))
     (work / 'out').mkdir()
     shutil.copy(BINDINGS / 'node/out/sourcemap.node', work / 'out')
+    set_modes(work)
     made = json.loads(run('npm', 'pack', '--json', '--offline', '--ignore-scripts', '--pack-destination', dist, cwd=work))
     return made[0]['filename']
 
