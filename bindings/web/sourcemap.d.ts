@@ -15,6 +15,10 @@ export type SourceMapErrorCode =
   | 'CLOSED'
   | 'BAD_POSITION'
   | 'UTF8'
+  | 'VLQ_LEFTOVER'
+  | 'VLQ_NO_VALUES'
+  | 'VLQ_OVERFLOW'
+  | 'INVALID_BASE64'
   | 'COMPILED_TRUNCATED'
   | 'COMPILED_MAGIC'
   | 'COMPILED_VERSION'
@@ -129,6 +133,18 @@ export declare class CompiledMap {
   closestTokens(positions: Uint32Array, tokens?: Uint32Array): Uint32Array;
 
   /**
+   * The token with this index, eight numbers as `closestTokens` writes them; null if there are no more.
+   * Indices count from 0, in the order of the file.
+   */
+  token(index: number): Uint32Array | null;
+
+  /**
+   * Writes the tokens from an index on, eight numbers each, as many as `tokens` has room for. Returns how
+   * many it wrote.
+   */
+  tokensAt(index: number, tokens: Uint32Array): number;
+
+  /**
    * Writes the tokens at or after a generated position, of equal positions the first, in order: as many
    * as `tokens` has room for, eight numbers each, as `closestTokens` writes them. The line counts from 0.
    * Returns how many it wrote; fewer than there is room for if no more follow. To go on, pass the
@@ -149,3 +165,10 @@ export declare class CompiledMap {
   /** Gives the memory back. Any later call but this one throws CLOSED. */
   close(): void;
 }
+
+/**
+ * The numbers of a segment of `mappings`. Throws the first error: INVALID_BASE64 for a byte that is no
+ * digit, VLQ_OVERFLOW for a number of 2^62 or more or of more than 13 digits, VLQ_LEFTOVER if the segment
+ * ends within a number, VLQ_NO_VALUES for an empty segment.
+ */
+export declare function parseSegment(segment: string): Promise<BigInt64Array>;

@@ -15,6 +15,10 @@ const OK = 0;
 const ABSENT = 32;
 const ERRORS = {
   2: ['UTF8', 'a text of the compiled map is not UTF-8'],
+  5: ['VLQ_LEFTOVER', 'the segment ends within a number'],
+  6: ['VLQ_NO_VALUES', 'the segment has no number'],
+  7: ['VLQ_OVERFLOW', 'a number of the segment is too large'],
+  19: ['INVALID_BASE64', 'the segment has a byte that is no digit'],
   35: ['COMPILED_TRUNCATED', 'the compiled map is truncated'],
   36: ['COMPILED_MAGIC', 'not a compiled map'],
   37: ['COMPILED_VERSION', 'unknown version of a compiled map'],
@@ -122,6 +126,22 @@ class Heap {
   text() {
     const start = Number(this.slots[0]);
     return utf8.decode(this.bytes.subarray(start, start + Number(this.slots[1])));
+  }
+
+  /** The numbers of a segment. Its bytes are copied behind room for as many numbers. */
+  numbersOf(bytes) {
+    const { length } = bytes;
+    const part = this.take(9 * length);
+    this.bytes.set(bytes, part.at + 8 * length);
+    try {
+      const [at, room] = [BigInt(part.at), BigInt(length)];
+      hasValue(this.calls.sm_parse_segment(at + 8n * room, room, at, room, this.slot));
+      return new BigInt64Array(this.calls.memory.buffer, part.at, Number(this.slots[0])).slice();
+    } catch (cause) {
+      throw cause instanceof SourceMapError ? cause : this.failed('sm_parse_segment', cause);
+    } finally {
+      this.give(part);
+    }
   }
 
   #growTo(end) {
@@ -545,29 +565,64 @@ export class CompiledMap {
       const { words } = this.#heap;
       words.set(positions.subarray(2 * first, 2 * (first + taken)), POSITIONS_AT);
       this.#lookUp(taken);
-      for (let i = 0; i < taken; i += 1) copyToken(words, i, tokens, first + i);
+      for (let i = 0; i < taken; i += 1) copyToken(words, TOKENS_AT + TOKEN_WORDS * i, tokens, first + i);
     }
     return tokens;
   }
 
-  /** The closest tokens of up to 64 positions, as the scratch has them; `place` writes each to an array. */
-  #sample(count, place) {
-    const { words } = this.#heap;
-    for (let i = 0; i < count; i += 1) {
-      const [line, column] = place(i);
-      words[POSITIONS_AT + 2 * i] = line;
-      words[POSITIONS_AT + 2 * i + 1] = column;
+  /** Puts the token with an index into the slot. Returns whether there is one. */
+  #findToken(index) {
+    return this.#check('sm_compiled_token', index, this.#heap.slot);
+  }
+
+  token(index) {
+    checkId(index, 'an index');
+    if (!this.#findToken(index)) return null;
+    const token = new Uint32Array(TOKEN_WORDS);
+    copyToken(this.#heap.words, 0, token, 0);
+    return token;
+  }
+
+  tokensAt(index, tokens) {
+    checkId(index, 'an index');
+    checkArray('the array for tokens', tokens);
+    const last = Math.min(this.tokenCount - index, Math.floor(tokens.length / TOKEN_WORDS));
+    for (let i = 0; i < last; i += 1) {
+      this.#findToken(index + i);
+      copyToken(this.#heap.words, 0, tokens, i);
     }
-    this.#lookUp(count);
-    return words;
+    return Math.max(last, 0);
+  }
+
+  /** The index of the first token at or after a position. */
+  #indexFrom(line, column) {
+    let [low, high] = [0, this.tokenCount];
+    while (low < high) {
+      const middle = Math.floor((low + high) / 2);
+      this.#findToken(middle);
+      const { words } = this.#heap;
+      if (words[LINE] < line || (words[LINE] === line && words[COLUMN] < column)) low = middle + 1;
+      else high = middle;
+    }
+    return low;
   }
 
   tokensFrom(line, column, tokens) {
     checkNumber('`line`', line);
     checkNumber('`column`', column);
     checkArray('the array for tokens', tokens);
-    const walk = new Walk((count, place) => this.#sample(count, place), line, column);
-    return walk.write(tokens, Math.floor(tokens.length / TOKEN_WORDS));
+    const room = Math.floor(tokens.length / TOKEN_WORDS);
+    const { tokenCount } = this;
+    let found = 0;
+    for (let index = this.#indexFrom(line, column); index < tokenCount && found < room; index += 1) {
+      this.#findToken(index);
+      const { words } = this.#heap;
+      const last = TOKEN_WORDS * (found - 1);
+      if (found > 0 && words[LINE] === tokens[last + LINE] && words[COLUMN] === tokens[last + COLUMN]) continue;
+      copyToken(words, 0, tokens, found);
+      found += 1;
+    }
+    return found;
   }
 
   verify() {
@@ -584,6 +639,13 @@ export class CompiledMap {
   }
 }
 
+export async function parseSegment(segment) {
+  if (typeof segment !== 'string') throw new TypeError('a segment must be a string');
+  if (!CompiledMap.isSupported()) throw new SourceMapError(NO_MEMORY64, 'NO_MEMORY64');
+  const opened = await theHeap();
+  return opened.numbersOf(new TextEncoder().encode(segment));
+}
+
 /** Writes the answers of tokens in the scratch: of each that is on the line of its position. */
 function writeAnswers(words, count, answers, first) {
   for (let i = 0, at = TOKENS_AT, to = first; i < count; i += 1, at += TOKEN_WORDS, to += ANSWER_WORDS) {
@@ -596,105 +658,10 @@ function writeAnswers(words, count, answers, first) {
   }
 }
 
-/** Copies token `index` of the scratch. */
-function copyToken(words, index, tokens, to) {
-  const from = TOKENS_AT + TOKEN_WORDS * index;
+/** Copies a token of the scratch, whose words begin at `from`. */
+function copyToken(words, from, tokens, to) {
   const at = TOKEN_WORDS * to;
   for (let word = 0; word < IS_RANGE; word += 1) tokens[at + word] = words[from + word];
   tokens[at + IS_RANGE] = words[from + IS_RANGE] & 0xff;
   tokens[at + FOUND] = words[from + FOUND] & 0xff;
-}
-
-/** How many positions a search for the next token looks up at once. */
-const SAMPLES = 64;
-/** How many columns in a row are looked up at once. */
-const COLUMNS = 512;
-
-/**
- * A walk over tokens by lookups alone: a token is where a lookup finds a token at the very position. `sample` looks
- * up positions.
- */
-class Walk {
-  constructor(sample, line, column) {
-    this.sample = sample;
-    this.line = line;
-    this.column = column;
-    this.found = 0;
-  }
-
-  /** Whether the token of a sample is at or after the place of the walk. */
-  isAhead(words, index) {
-    const at = TOKENS_AT + TOKEN_WORDS * index;
-    if ((words[at + FOUND] & 0xff) === 0) return false;
-    return words[at + LINE] > this.line || (words[at + LINE] === this.line && words[at + COLUMN] >= this.column);
-  }
-
-  write(tokens, room) {
-    while (this.found < room) {
-      const last = this.lastColumn();
-      const isDone = last === -1 ? !this.toNextLine() : !this.writeLine(tokens, room, last);
-      if (isDone) break;
-    }
-    return this.found;
-  }
-
-  /** The column of the last token of the line, if it is at or after the place of the walk; else -1. */
-  lastColumn() {
-    if (this.column > NONE) return -1;
-    const words = this.sample(1, () => [this.line, NONE]);
-    return this.isAhead(words, 0) ? words[TOKENS_AT + COLUMN] : -1;
-  }
-
-  /** Writes tokens up to the last one of the line. Returns false if the map is out of order. */
-  writeLine(tokens, room, last) {
-    while (this.column <= last && this.found < room) {
-      const { line, column, found } = this;
-      const count = Math.min(COLUMNS, last - column + 1);
-      const words = this.sample(count, (i) => [line, column + i]);
-      for (let i = 0; i < count && this.found < room; i += 1) {
-        this.column = column + i + 1;
-        const at = TOKENS_AT + TOKEN_WORDS * i;
-        if ((words[at + FOUND] & 0xff) !== 0 && words[at + LINE] === line && words[at + COLUMN] === column + i) {
-          copyToken(words, i, tokens, this.found);
-          this.found += 1;
-        }
-      }
-      if (this.found === found && this.column <= last && !this.skip(last)) return false;
-    }
-    return true;
-  }
-
-  /** Goes to the next token of the line, whose last token is known. */
-  skip(last) {
-    const column = this.first(this.column, last, (sampled) => [this.line, sampled]);
-    if (column === -1) return false;
-    this.column = column;
-    return true;
-  }
-
-  /** Goes to the start of the next line that has a token, if there is one. */
-  toNextLine() {
-    const words = this.sample(1, () => [NONE, NONE]);
-    if (!this.isAhead(words, 0)) return false;
-    const line = this.first(this.line + 1, words[TOKENS_AT + LINE], (sampled) => [sampled, NONE]);
-    if (line === -1) return false;
-    [this.line, this.column] = [line, 0];
-    return true;
-  }
-
-  /** The least number from `low` to `high` at whose place a lookup finds a token ahead; -1 if there is none. */
-  first(low, high, place) {
-    if (low <= high && this.isAhead(this.sample(1, () => place(low)), 0)) return low;
-    while (low <= high) {
-      const step = Math.max(Math.ceil((high - low + 1) / SAMPLES), 1);
-      const at = (i) => Math.min(low + step * (i + 1) - 1, high);
-      const words = this.sample(SAMPLES, (i) => place(at(i)));
-      let index = 0;
-      while (index < SAMPLES && !this.isAhead(words, index)) index += 1;
-      if (index === SAMPLES) return -1;
-      if (step === 1) return at(index);
-      [low, high] = [index === 0 ? low : at(index - 1) + 1, at(index)];
-    }
-    return -1;
-  }
 }

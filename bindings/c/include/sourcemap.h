@@ -928,6 +928,10 @@ sm_code sm_compiled_lookup(const uint8_t *bytes, size_t length, uint32_t line, u
 size_t sm_compiled_lookup_many(const uint8_t *bytes, size_t length, const sm_position *positions, size_t count,
                                sm_found *found, size_t found_length);
 
+/* Writes the token of this index, from 0, in the order of the bytes, with true as its
+** `found`. SM_ABSENT if there are no more tokens; then `found` is as it was. */
+sm_code sm_compiled_token(const uint8_t *bytes, size_t length, uint32_t index, sm_found *found);
+
 /* The name of the function that contains the original position of the closest token, of a
 ** Hermes map that was compiled. SM_ABSENT if there is no token, or the token has no
 ** function. Else, and on an error, as sm_compiled_source(). */

@@ -62,6 +62,23 @@ static void test_lookups_in_bytes(void)
     free(file.at);
 }
 
+static void test_tokens_in_bytes(void)
+{
+    struct file file = compiled(FULL_MAP, true);
+    sm_found found = { { 0 }, false };
+    CHECK_NUMBER(sm_compiled_token(file.at, file.length, 3, &found), SM_ABSENT);
+    CHECK_NUMBER(sm_compiled_token(file.at, file.length, SM_NONE, &found), SM_ABSENT);
+    CHECK(!found.found);
+    CHECK_NUMBER(sm_compiled_token(file.at, file.length, 0, &found), SM_OK);
+    CHECK(found.found);
+    CHECK_TOKEN(found.token, 0, 0, 0, 0, 0, SM_NONE, false);
+    CHECK_NUMBER(sm_compiled_token(file.at, file.length, 1, &found), SM_OK);
+    CHECK_TOKEN(found.token, 0, 4, 1, 2, 1, 0, true);
+    CHECK_NUMBER(sm_compiled_token(file.at, file.length, 2, &found), SM_OK);
+    CHECK_TOKEN(found.token, 1, 2, SM_NONE, SM_NONE, SM_NONE, SM_NONE, false);
+    free(file.at);
+}
+
 static void test_texts_in_bytes(void)
 {
     struct file file = compiled(FULL_MAP, true);
@@ -156,6 +173,7 @@ static void check_refused(const uint8_t *at, size_t length, sm_code code)
     CHECK_NUMBER(sm_compiled_check(at, length), code);
     CHECK_NUMBER(sm_compiled_verify(at, length), code);
     CHECK_NUMBER(sm_compiled_lookup(at, length, 0, 0, &found), code);
+    CHECK_NUMBER(sm_compiled_token(at, length, 0, &found), code);
     CHECK_TOKEN(found.token, 1, 2, 3, 4, 5, 6, true);
     CHECK_NUMBER(sm_compiled_count(at, length, &counts), code);
     CHECK(counts.tokens == 1 && counts.sources == 2 && counts.sections == 5);
@@ -280,6 +298,7 @@ void test_compiled_by_threads(void)
 void test_compiled(void)
 {
     test_lookups_in_bytes();
+    test_tokens_in_bytes();
     test_texts_in_bytes();
     test_counts_in_bytes();
     test_other_kinds();

@@ -745,6 +745,7 @@ static void test_bytes_without_memory(void)
     code |= sm_compiled_count(file.at, file.length, &counts);
     code |= sm_compiled_debug_id(file.at, file.length, &id);
     code |= sm_compiled_lookup(file.at, file.length, 0, 0, &found);
+    code |= sm_compiled_token(file.at, file.length, 0, &found);
     code |= sm_compiled_source(file.at, file.length, 0, &text);
     code |= sm_compiled_name(file.at, file.length, 0, &text);
     code |= sm_compiled_contents(file.at, file.length, 0, &text);

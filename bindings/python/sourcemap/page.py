@@ -10,10 +10,9 @@ import base64
 import html
 import json
 from pathlib import Path
-from typing import Dict, Iterator, Optional
+from typing import Dict, Optional
 
 from ._generated import find_map, open_map, source_path
-from ._library import NONE
 from ._map import Map
 
 VIEWER = 'viewer.html'
@@ -33,7 +32,6 @@ def page_text(name: str, generated: str, map: Map, map_path: Optional[Path] = No
         'name': name,
         'generated': generated,
         'map': base64.b64encode(map.compile()).decode('ascii'),
-        'others': list(_others(map)),
         'contents': {} if map_path is None else _contents(map, map_path),
     }
     # In a script element `<` may begin its end tag. In JSON it occurs only in strings.
@@ -49,18 +47,6 @@ def _viewer() -> str:
         places = ' nor in '.join(map(str, FOLDERS))
         raise FileNotFoundError(f'{VIEWER} is not in {places}: bindings/web/build makes it')
     return path.read_text('utf-8')
-
-
-def _others(map: Map) -> Iterator[int]:
-    """The tokens that have the position of the token ahead of them, so that no lookup answers them: eight numbers each,
-    as the viewer has tokens."""
-    last = None
-    for token in map.tokens():
-        at = (token.generated_line, token.generated_column)
-        if at == last:
-            fields = (token.line, token.column, token.source_id, token.name_id)
-            yield from (*at, *(NONE if field is None else field for field in fields), int(token.is_range), 1)
-        last = at
 
 
 def _contents(map: Map, map_path: Path) -> Dict[int, str]:

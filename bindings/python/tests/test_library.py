@@ -40,7 +40,8 @@ class Declared(unittest.TestCase):
     def test_functions(self):
         header = header_functions()
         # the package does not use these: one position is looked up by sm_lookup_many or sm_compiled_lookup_many
-        self.assertEqual(set(header) - {'sm_lookup', 'sm_compiled_lookup'}, {name for name, _ in functions()})
+        unused = {'sm_lookup', 'sm_compiled_lookup', 'sm_compiled_token'}
+        self.assertEqual(set(header) - unused, {name for name, _ in functions()})
         for name, types in functions():
             with self.subTest(name):
                 self.assertEqual(types, header[name])

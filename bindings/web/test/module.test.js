@@ -6,7 +6,7 @@ import { tmpdir } from 'node:os';
 import path from 'node:path';
 import { test } from 'node:test';
 import { fileURLToPath, pathToFileURL } from 'node:url';
-import { CompiledMap, NONE, SourceMapError } from '../out/sourcemap.js';
+import { CompiledMap, NONE, SourceMapError, parseSegment } from '../out/sourcemap.js';
 import { ALL, make } from './made.js';
 
 const here = path.dirname(fileURLToPath(import.meta.url));
@@ -107,6 +107,34 @@ test('looks up many positions', async () => {
   map.close();
 });
 
+test('has all tokens by index', async () => {
+  const map = await CompiledMap.load(ALL);
+  const all = [[0, 2, 4, 1, 0, 0, 0, 1], [0, 5, NONE, NONE, NONE, NONE, 0, 1], [0, 9, 7, 3, 1, NONE, 1, 1],
+    [2, 0, 8, 0, 1, 1, 0, 1], [2, 0, 9, 9, 0, 0, 0, 1], [2, 4, 10, 2, 0, 1, 0, 1]];
+  assert.deepEqual(all.map((_, index) => [...map.token(index)]), all);
+  assert.deepEqual([map.token(6), map.token(NONE)], [null, null]);
+  const tokens = new Uint32Array(8 * 4 + 7).fill(7);
+  assert.equal(map.tokensAt(1, tokens), 4);
+  assert.deepEqual([...tokens], [...all.slice(1, 5).flat(), ...Array(7).fill(7)]);
+  assert.equal(map.tokensAt(4, tokens), 2);
+  assert.deepEqual([...tokens.subarray(0, 16)], all.slice(4).flat());
+  assert.deepEqual([map.tokensAt(6, tokens), map.tokensAt(NONE, tokens), map.tokensAt(0, new Uint32Array(7))], [0, 0, 0]);
+  map.close();
+});
+
+test('has the numbers of segments', async () => {
+  assert.deepEqual(await parseSegment('AAgBC'), BigInt64Array.of(0n, 0n, 16n, 1n));
+  assert.deepEqual(await parseSegment('DgAB'), BigInt64Array.of(-1n, 0n, 0n));
+  assert.deepEqual(await parseSegment('+///////////H'), BigInt64Array.of(2n ** 62n - 1n));
+  const many = await parseSegment('C'.repeat(200000));
+  assert.ok(many.length === 200000 && many.every((number) => number === 1n));
+  await refuses('VLQ_NO_VALUES', () => parseSegment(''));
+  await refuses('VLQ_LEFTOVER', () => parseSegment('AAg'));
+  await refuses('VLQ_OVERFLOW', () => parseSegment('AggggggggggggI'));
+  await refuses('INVALID_BASE64', () => parseSegment('AAé'));
+  await assert.rejects(parseSegment(1), TypeError);
+});
+
 test('walks over tokens, of equal positions the first', async () => {
   const map = await CompiledMap.load(ALL);
   const tokens = new Uint32Array(8 * 10);
@@ -204,6 +232,8 @@ test('arguments of wrong types are refused', async () => {
   assert.throws(() => map.closestTokens(Uint32Array.of(1, 0), new Uint32Array(7)), RangeError);
   assert.throws(() => map.sourceContentFor(0), TypeError);
   assert.throws(() => map.tokensFrom(0, 0, []), TypeError);
+  assert.throws(() => map.tokensAt(0, []), TypeError);
+  assert.throws(() => map.token(-1), TypeError);
   assert.throws(() => new CompiledMap({}, ALL), TypeError);
   map.close();
 });
@@ -214,7 +244,7 @@ test('a closed map is refused, and closing twice is not', async () => {
   map.close();
   const calls = [() => map.file, () => map.sourceLine(0, 1), () => map.tokenCount, () => map.sources, () => map.source(0), () => map.verify(),
     () => map.originalPositionFor({ line: 1, column: 2 }), () => map.lookupMany(Uint32Array.of(1, 0)),
-    () => map.tokensFrom(0, 0, new Uint32Array(8))];
+    () => map.token(0), () => map.tokensAt(0, new Uint32Array(8)), () => map.tokensFrom(0, 0, new Uint32Array(8))];
   for (const call of calls) await refuses('CLOSED', call);
 });
 

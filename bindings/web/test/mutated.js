@@ -115,6 +115,7 @@ class Case {
     this.expect((map.debugId?.replaceAll('-', '') ?? null) === format.debugId(), 'debug id');
     this.expect(same(said(() => map.file), format.text(format.file)), 'file');
     for (let i = 0; i < IDS; i += 1) this.checkTexts();
+    for (let i = 0; i < IDS; i += 1) this.checkToken(this.id(format.tokenCount));
     const positions = Array.from({ length: LOOKUPS }, () => this.position());
     const tokens = map.closestTokens(Uint32Array.from(positions.flat()));
     const answers = map.lookupMany(Uint32Array.from(positions.flatMap(([line, column]) => [line + 1, column])));
@@ -134,6 +135,13 @@ class Case {
     this.expect(same(said(() => map.source(source)), format.source(source)), `source ${source}`);
     this.expect(same(said(() => map.name(name)), format.name(name)), `name ${name}`);
     this.expect(same(said(() => map.sourceContent(content)), format.content(content)), `content ${content}`);
+  }
+
+  checkToken(index) {
+    const { format, map } = this;
+    const words = map.token(index);
+    const wanted = index < format.tokenCount ? format.token(index).words : null;
+    this.expect(words === null ? wanted === null : wanted !== null && wanted.every((word, i) => word === words[i]), `token ${index}`);
   }
 
   position() {

@@ -93,19 +93,34 @@ static sm_position *positions_of(sm_map *map, uint32_t tokens, size_t random, si
     return positions;
 }
 
+static void write_token(FILE *file, const sm_token *token, bool found)
+{
+    uint32_t words[8] = { token->line, token->column, token->original_line, token->original_column,
+                          token->source, token->name, token->is_range, found };
+    put(file, words, sizeof words);
+}
+
 static void write_tokens(FILE *file, sm_text compiled, const sm_position *positions, size_t count)
 {
     sm_found *found = room(count, sizeof *found);
     size_t i;
     if (sm_compiled_lookup_many(compiled.at, compiled.length, positions, count, found, count) != count)
         fail("not all positions were answered");
-    for (i = 0; i < count; i++) {
-        const sm_token *token = &found[i].token;
-        uint32_t words[8] = { token->line, token->column, token->original_line, token->original_column,
-                              token->source, token->name, token->is_range, found[i].found };
-        put(file, words, sizeof words);
-    }
+    for (i = 0; i < count; i++)
+        write_token(file, &found[i].token, found[i].found);
     free(found);
+}
+
+/* The tokens by index, of the map that was not compiled. */
+static void write_all(FILE *file, sm_map *map, uint32_t tokens)
+{
+    sm_token *all = room(tokens, sizeof *all);
+    uint32_t i;
+    if (sm_tokens(map, 0, all, tokens) != tokens)
+        fail("not all tokens were read");
+    for (i = 0; i < tokens; i++)
+        write_token(file, &all[i], true);
+    free(all);
 }
 
 static void write_text(FILE *file, sm_code code, sm_text text)
@@ -170,6 +185,9 @@ int main(int count, char **words)
     fclose(file);
     file = create(words[4], "tokens");
     write_tokens(file, compiled, positions, asked);
+    fclose(file);
+    file = create(words[4], "all");
+    write_all(file, &map, counts.tokens);
     fclose(file);
     file = create(words[4], "texts");
     write_texts(file, compiled, &counts);

@@ -96,6 +96,11 @@ export async function compare(CompiledMap, read, mostWalked = 300000) {
   checkTexts(map, texts);
   const different = firstDifference(map.closestTokens(positions), tokens);
   check(different === -1, `closestTokens: number ${different}`);
+  const all = wordsOf(await read('all'));
+  const indexed = new Uint32Array(8 * map.tokenCount);
+  check(map.tokensAt(0, indexed) === map.tokenCount, 'tokensAt: how many');
+  const other = firstDifference(indexed, all);
+  check(other === -1, `tokensAt: number ${other}`);
   const needles = positions.filter((_, i) => positions[i - i % 2] !== NONE);
   for (let i = 0; i < needles.length; i += 2) needles[i] += 1;
   const answers = map.lookupMany(needles);

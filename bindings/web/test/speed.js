@@ -3,23 +3,21 @@ import { CompiledMap } from '../out/sourcemap.js';
 import { Random } from './random.js';
 
 const ROUNDS = 9;
+/** How many openings are timed at once: a clock of a page may have steps of 0.1 ms. */
+const OPENINGS = 20;
 const LOOKUPS = 1000000;
 const SINGLE = 200000;
 
-/**
- * The least time of each call in ms. A round makes each call once, so that a busy machine slows all alike. `after` takes
- * a value and is not timed.
- */
-async function least(calls, after = () => {}) {
+/** The least time of each call in ms. A round makes each call once, so that a busy machine slows all alike. */
+async function least(calls) {
   const times = Object.fromEntries(Object.keys(calls).map((name) => [name, Infinity]));
   for (let round = 0; round < ROUNDS; round += 1) {
     for (const [name, call] of Object.entries(calls)) {
       // the page answers in between
       await new Promise((done) => { setTimeout(done); });
       const begun = performance.now();
-      const value = await call();
-      times[name] = Math.min(times[name], Math.round(100 * (performance.now() - begun)) / 100);
-      after(value);
+      await call();
+      times[name] = Math.min(times[name], performance.now() - begun);
     }
   }
   return times;
@@ -39,6 +37,10 @@ function drawPositions(map, count) {
   return positions;
 }
 
+async function repeated(call) {
+  for (let i = 0; i < OPENINGS; i += 1) await call();
+}
+
 function oneByOne(positions, count, originalPositionFor) {
   let sum = 0;
   for (let i = 0; i < count; i += 1) {
@@ -56,13 +58,13 @@ export async function speed(path) {
   const map = await CompiledMap.load(bytes);
   const tracer = new peer.TraceMap(text);
   const opening = await least({
-    'load and one answer': async () => {
+    [`${OPENINGS} times load, one answer, close`]: () => repeated(async () => {
       const opened = await CompiledMap.load(bytes);
       opened.originalPositionFor({ line: 1, column: 1000 });
-      return opened;
-    },
-    'new TraceMap': async () => new peer.TraceMap(text),
-  }, (value) => value.close?.());
+      opened.close();
+    }),
+    [`${OPENINGS} times new TraceMap`]: () => repeated(async () => new peer.TraceMap(text)),
+  });
   const positions = drawPositions(map, LOOKUPS);
   const [ours, theirs] = [(needle) => map.originalPositionFor(needle), (needle) => peer.originalPositionFor(tracer, needle)];
   if (oneByOne(positions, SINGLE, ours) !== oneByOne(positions, SINGLE, theirs)) throw new Error('other answers');

@@ -360,6 +360,17 @@ class Views(InViewer):
         self.browser.click(self.middle('#generated .token', 'd;'))
         self.assertEqual(self.status(), 'Generated 1:7: no original position')
 
+    def test_tokens_at_one_position(self) -> None:
+        """All of them are beside their source, though a lookup finds the first."""
+        # 0:0 -> 0:0; 0:0 -> 1:0; 0:1 -> 1:2
+        twice = compiled('AAAA,AACA,CAAE', ['a.ts'], [], ['alpha\nbeta\n'], 'out.js')
+        self.drop(('out.compiled', twice), ('out.js', b'xy\n'))
+        self.assertEqual(self.tokens('source'), [('1', 'alpha'), ('2', 'be'), ('2', 'ta')])
+        self.browser.click(self.middle('#source .token', 'be'))
+        self.assertEqual(self.status(), 'Generated 1:1 \u2192 a.ts 2:1')
+        self.browser.click(self.middle('#generated .token', 'x'))
+        self.assertEqual(self.status(), 'Generated 1:1 \u2192 a.ts 1:1')
+
     def test_legend(self) -> None:
         self.open_three()
         rows = self.ask('''Array.from(document.querySelectorAll("#sources [role=option]"), (row) =>

@@ -164,11 +164,8 @@ class Page {
     this.hovered = null;
   }
 
-  /**
-   * Opens a compiled map: its bytes, or a file. `others` are the tokens that lookups do not tell, eight numbers each, if
-   * they are known.
-   */
-  async openMap(from, others = new Uint32Array(0)) {
+  /** Opens a compiled map: its bytes, or a file. */
+  async openMap(from) {
     const map = await CompiledMap.load(from);
     const isOther = this.map !== null;
     this.forgetMap();
@@ -179,7 +176,7 @@ class Page {
     if (isOther && this.fileName() !== this.generatedName) this.forgetGenerated();
     this.legend.show(this.sourceNames, (source) => this.hasContents(source));
     this.lookups = new Lookups(map);
-    this.tokens = new Tokens(map, others);
+    this.tokens = new Tokens(map);
     this.readTokens();
     this.showTitle();
     this.showGenerated();
@@ -539,7 +536,7 @@ async function begin() {
     CompiledMap.useModule(bytesOf(byId('module').textContent));
     if (data !== null) {
       page.openGenerated(data.generated, data.name);
-      await page.openMap(bytesOf(data.map), Uint32Array.from(data.others));
+      await page.openMap(bytesOf(data.map));
       for (const [source, text] of Object.entries(data.contents)) page.setContents(Number(source), text);
     } else if (!CompiledMap.isSupported()) {
       await CompiledMap.load(new Uint8Array(0));

@@ -140,18 +140,13 @@ export class Lookups {
 
 // ---------------------------------------------------------------- All tokens
 
-/**
- * The tokens of a compiled map by index, in order of their generated positions. `read` reads them. Lookups tell only the
- * first token of each position; `others` may have the rest, eight numbers each, in order.
- */
+/** The tokens of a compiled map by index, in order of their generated positions. `read` reads them. */
 export class Tokens {
   #map;
-  #others;
   #blocks = [];
 
-  constructor(map, others) {
+  constructor(map) {
     this.#map = map;
-    this.#others = others;
     this.sourceCount = map.sourceCount;
     this.count = 0;
     this.isInOrder = true;
@@ -159,18 +154,14 @@ export class Tokens {
 
   /** Reads all tokens, in steps. Yields which part is read. */
   * read() {
-    const from = { line: 0, column: 0 };
+    const last = { line: 0, column: 0 };
     const { tokenCount } = this.#map;
     const words = new Uint32Array(READ_AT_ONCE * WORDS);
-    let other = 0;
-    for (let read = READ_AT_ONCE; read === READ_AT_ONCE && from.line <= NONE;) {
-      read = this.#map.tokensFrom(from.line, from.column, words);
-      this.isInOrder = isRising(words, read, from);
+    while (this.count < tokenCount) {
+      const read = this.#map.tokensAt(this.count, words);
+      this.isInOrder = isRising(words, read, last);
       if (!this.isInOrder) return;
-      for (let at = 0; at < read * WORDS; at += WORDS) {
-        this.#add(words, at);
-        for (; isBeside(words, at, this.#others, other); other += WORDS) this.#add(this.#others, other);
-      }
+      for (let at = 0; at < read * WORDS; at += WORDS) this.#add(words, at);
       yield this.count / tokenCount;
     }
   }
@@ -211,17 +202,12 @@ export class Tokens {
   }
 }
 
-/** Whether a token has the position of another one. */
-function isBeside(words, at, others, other) {
-  return words[at + LINE] === others[other + LINE] && words[at + COLUMN] === others[other + COLUMN];
-}
-
-/** Whether tokens are in order, and none is before `from`; that becomes the position after the last of them. */
-function isRising(words, count, from) {
+/** Whether tokens are in order, and none is before `last`; that becomes the position of the last of them. */
+function isRising(words, count, last) {
   for (let at = 0; at < count * WORDS; at += WORDS) {
     const [line, column] = [words[at + LINE], words[at + COLUMN]];
-    if (line < from.line || (line === from.line && column < from.column)) return false;
-    [from.line, from.column] = column === NONE ? [line + 1, 0] : [line, column + 1];
+    if (line < last.line || (line === last.line && column < last.column)) return false;
+    [last.line, last.column] = [line, column];
   }
   return true;
 }

@@ -3,14 +3,15 @@
 //! with the same bytes.
 ghost use Rattle.std.specs.Prelude.{◌≡◌, ◌≤◌, ℕ, MatchOption, Some, cond, is_some, length, min, slice_get};
 ghost use Rattle.sourcemap_compiled.specs.Layout.{compiled_debug_id, refusal};
+ghost use Rattle.sourcemap_compiled.specs.Lookup.{token_at};
 ghost use Rattle.sourcemap_compiled.specs.Texts.{compiled_contents, compiled_file, compiled_name, compiled_source};
 ghost use Rattle.sourcemap_c_compiled.specs.Codes.{OnCompiled, ReturnsOption, ReturnsText, ReturnsVerdict, check_code, compiled_code};
 ghost use Rattle.sourcemap_c_compiled.specs.Counts.{counts_of};
-ghost use Rattle.sourcemap_c_compiled.specs.Lookups.{AreAnswered, ReturnsClosest, ReturnsScope};
+ghost use Rattle.sourcemap_c_compiled.specs.Lookups.{AreAnswered, ReturnsClosest, ReturnsScope, ReturnsToken};
 
 use sourcemap_c_compiled::checks::{check, verify};
 use sourcemap_c_compiled::counts::{put_counts, put_debug_id};
-use sourcemap_c_compiled::lookups::{look_up, look_up_many, put_scope};
+use sourcemap_c_compiled::lookups::{look_up, look_up_many, put_scope, put_token};
 use sourcemap_c_compiled::texts::{put_contents, put_file, put_name, put_source};
 use sourcemap_c_handles::layout::{Counts, Found, IdBytes, Position};
 
@@ -75,6 +76,16 @@ pub extern "C" fn sm_compiled_lookup_many(
     ensures rest { (i : ℕ) → result ≤ i → slice_get found.new i ≡ slice_get found.old i }
 {
     look_up_many(bytes, positions, found)
+}
+
+/// Writes the token with this index to `found`.
+#[unsafe(no_mangle)]
+pub extern "C" fn sm_compiled_token(bytes: &[u8], index: u32, found: &mut Found) -> u32
+    ensures { OnCompiled bytes.now
+        (ReturnsToken (token_at bytes.now index) result found.old found.new)
+        result found.old found.new }
+{
+    put_token(bytes, index, found)
 }
 
 /// Borrows the scope of the token closest to a generated position.

@@ -1,9 +1,9 @@
 -- What a lookup finds, and what many lookups write, one after another.
-use Rattle.std.proofs.Common.{◌≡◌, ◌≢◌, ◌≤◌, ◌<◌, ◌+◌, ◌∙◌, ℕ, zero, suc, List, [], ◌∷◌, Some, ap, arith, get_or, length, refl, slice_get, slice_set, subst, sym, inl, inr}
+use Rattle.std.proofs.Common.{◌≡◌, ◌≢◌, ◌≤◌, ◌<◌, ◌+◌, ◌∙◌, ℕ, zero, suc, List, [], ◌∷◌, Option, Some, None, IfSome, MatchOption, option_map, ap, arith, get_or, length, refl, slice_get, slice_set, subst, sym, inl, inr}
 use Rattle.std.proofs.lemmas.Bool.{cases_eq}
 use Rattle.std.proofs.lemmas.Option.{slice_get-get_or}
 use Rattle.sourcemap_compiled.specs.Blocks.{compiled_token}
-use Rattle.sourcemap_compiled.specs.Lookup.{IsInOrder, IsNextTo, lookup}
+use Rattle.sourcemap_compiled.specs.Lookup.{IsInOrder, IsNextTo, StartsAfter, lookup}
 use Rattle.sourcemap_compiled.specs.Numbers.{position_number}
 use Rattle.sourcemap_compiled.specs.Stored.{token_value}
 use Rattle.sourcemap_compiled.specs.declared.token.CompiledToken.{CompiledToken}
@@ -17,13 +17,21 @@ pub one_found : (bytes : List ℕ) (p : ℕ × ℕ) (token : CompiledToken)
     → IsFound bytes p (Some (token_value token))
 one_found bytes p token closest own next = record { closest = closest; near = (own, next) }
 
+pub is_found : (bytes : List ℕ) (p : ℕ × ℕ) (token : Option CompiledToken)
+    → (IsInOrder bytes → option_map token_value token ≡ lookup bytes p)
+    → IfSome token (λ t. t.raw ≡ compiled_token bytes t.index)
+    → MatchOption token (StartsAfter bytes (position_number p)) (λ t. IsNextTo bytes (position_number p) t.index)
+    → IsFound bytes p (option_map token_value token)
+is_found bytes p None closest own next = record { closest = closest; near = next }
+is_found bytes p (Some token) closest own next = one_found bytes p token closest own next
+
 -- the item that was set, and the others
-set_here : {X : Type 0} (xs : List X) (i : ℕ) (x : X) → i < length xs → slice_get (slice_set xs i x) i ≡ Some x
+pub set_here : {X : Type 0} (xs : List X) (i : ℕ) (x : X) → i < length xs → slice_get (slice_set xs i x) i ≡ Some x
 set_here [] i x less = absurd (omega arith)
 set_here (y ∷ xs) zero x less = refl
 set_here (y ∷ xs) (suc i) x less = set_here xs i x (omega arith)
 
-set_other : {X : Type 0} (xs : List X) (i k : ℕ) (x : X) → k ≢ i → slice_get (slice_set xs i x) k ≡ slice_get xs k
+pub set_other : {X : Type 0} (xs : List X) (i k : ℕ) (x : X) → k ≢ i → slice_get (slice_set xs i x) k ≡ slice_get xs k
 set_other [] i k x other = refl
 set_other (y ∷ xs) zero zero x other = absurd (other refl)
 set_other (y ∷ xs) zero (suc k) x other = refl

@@ -28,10 +28,14 @@ found_of (Some token) = record {
   found = true;
 }
 
+-- the code of a call that finds a token or none, and the token as it is written
+abbrev pub ReturnsToken : Option CompiledTokenValue → (code : ℕ) → (old new : Found) → Type 0
+ReturnsToken token code old new = ReturnsOption (option_map (λ t. found_of (Some t)) token) code old new
+
 -- the code and the token of a lookup
 abbrev pub ReturnsClosest : List ℕ → ℕ × ℕ → (code : ℕ) → (old new : Found) → Type 0
-ReturnsClosest bytes p code old new = (token : Option CompiledTokenValue) × IsFound bytes p token
-    × ReturnsOption (option_map (λ t. found_of (Some t)) token) code old new
+ReturnsClosest bytes p code old new =
+    (token : Option CompiledTokenValue) × IsFound bytes p token × ReturnsToken token code old new
 
 -- the answer to a position
 abbrev pub IsAnswer : List ℕ → Position → Found → Type 0

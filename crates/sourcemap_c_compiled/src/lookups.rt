@@ -1,9 +1,11 @@
 //! Lookups in compiled maps.
-ghost use Rattle.std.specs.Prelude.{◌≡◌, ◌≤◌, ℕ, Some, cond, is_some, length, min, slice_get};
+ghost use Rattle.std.specs.Prelude.{◌≡◌, ◌≤◌, ℕ, Some, cond, is_some, length, min, option_map, slice_get};
 ghost use Rattle.sourcemap_compiled.specs.Layout.{refusal};
+ghost use Rattle.sourcemap_compiled.specs.Lookup.{token_at};
 ghost use Rattle.sourcemap_compiled.specs.Stored.{bytes_of, token_value};
 ghost use Rattle.sourcemap_c_compiled.specs.Codes.{OnCompiled};
-ghost use Rattle.sourcemap_c_compiled.specs.Lookups.{AreAnswered, IsAnswer, ReturnsClosest, ReturnsScope, found_of};
+ghost use Rattle.sourcemap_c_compiled.specs.Lookups.{AreAnswered, IsAnswer, ReturnsClosest, ReturnsScope};
+ghost use Rattle.sourcemap_c_compiled.specs.Lookups.{ReturnsToken, found_of};
 
 use crate::codes::{ABSENT, OK, code_of};
 use crate::texts::put_text;
@@ -26,7 +28,25 @@ pub fn look_up(bytes: &[u8], line: u32, column: u32, found: &mut Found) -> u32
 fn put_closest(map: &CompiledMap<'_>, line: u32, column: u32, found: &mut Found) -> u32
     ensures { ReturnsClosest (bytes_of map.now) (line, column) result found.old found.new }
 {
-    match map.lookup_token(line, column) {
+    put_found(map.lookup_token(line, column), found)
+}
+
+/// Writes the token with this index to `found`.
+pub fn put_token(bytes: &[u8], index: u32, found: &mut Found) -> u32
+    ensures { OnCompiled bytes.now
+        (ReturnsToken (token_at bytes.now index) result found.old found.new)
+        result found.old found.new }
+{
+    match CompiledMap::parse(bytes) {
+        Ok(map) => put_found(map.get_token(index as usize), found),
+        Err(error) => code_of(error),
+    }
+}
+
+fn put_found(token: Option<CompiledToken<'_>>, found: &mut Found) -> u32
+    ensures { ReturnsToken (option_map token_value token.entry) result found.old found.new }
+{
+    match token {
         Some(token) => {
             *found = found_of(&token);
             OK

@@ -1,1 +1,2 @@
+pub mod SegmentsLemmas
 pub mod TextsLemmas

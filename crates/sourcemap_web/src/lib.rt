@@ -4,4 +4,5 @@
 #![tactic(auto)]
 
 pub mod compiled;
+pub mod segments;
 pub mod texts;

@@ -265,6 +265,7 @@ extern "C" {
     pub fn sm_compiled_debug_id(bytes: *const u8, length: usize, id: *mut DebugId) -> Code;
     pub fn sm_compiled_lookup(bytes: *const u8, length: usize, line: u32, column: u32, found: *mut Found) -> Code;
     pub fn sm_compiled_lookup_many(bytes: *const u8, length: usize, positions: *const Position, count: usize, found: *mut Found, found_length: usize) -> usize;
+    pub fn sm_compiled_token(bytes: *const u8, length: usize, index: u32, found: *mut Found) -> Code;
     pub fn sm_compiled_scope(bytes: *const u8, length: usize, line: u32, column: u32, text: *mut Text) -> Code;
     pub fn sm_compiled_source(bytes: *const u8, length: usize, id: u32, text: *mut Text) -> Code;
     pub fn sm_compiled_name(bytes: *const u8, length: usize, id: u32, text: *mut Text) -> Code;
