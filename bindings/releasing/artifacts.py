@@ -26,7 +26,7 @@ class Machine:
     def glibc(self):
         """The oldest release of glibc, but none before 2.17, that has all that the shared library calls, as `2.17`."""
         symbols = output_of(self.objdump, '-T', self.library / 'libsourcemap.so')
-        minor = max(17, *(int(version) for version in re.findall(r'GLIBC_2[.]([0-9]+)', symbols)))
+        minor = max([17, *(int(version) for version in re.findall(r'GLIBC_2[.]([0-9]+)', symbols))])
         return f'2.{minor}'
 
 
@@ -85,11 +85,20 @@ def write_tar(folder, file, root):
 def c_library(machine, work, dist):
     run(BINDINGS / 'c/build', *machine.options)
     install_c(machine, work)
-    for page in ('LICENSE', 'bindings/c/README.md'):
-        shutil.copy(TOP / page, work)
+    (work / 'examples').mkdir()
+    for file, folder in (('LICENSE', '.'), ('bindings/c/README.md', '.'),
+                         ('bindings/c/examples/lookup.c', 'examples'), ('examples/readme.map', 'examples')):
+        shutil.copy(TOP / file, work / folder)
     name = f'sourcemap-{VERSION}-{machine.name}-linux'
     write_tar(work, dist / f'{name}.tar.gz', name)
     return f'{name}.tar.gz'
+
+
+def set_modes(folder):
+    """Makes all below a folder readable by all: packages keep the modes of files, and a checkout has the user's mask."""
+    for path in folder.rglob('*'):
+        if not path.is_symlink():
+            path.chmod(0o755 if path.is_dir() else 0o644)
 
 
 def debian(machine, work, dist):
@@ -106,9 +115,7 @@ def debian(machine, work, dist):
     (work / 'DEBIAN/control').write_text(CONTROL.format(
         name=DEBIAN, version=VERSION, machine=machine.debian, glibc=machine.glibc(), crate=CRATE_VERSION))
     (work / 'DEBIAN/triggers').write_text('activate-noawait ldconfig\n')
-    for path in work.rglob('*'):
-        if not path.is_symlink():
-            path.chmod(0o755 if path.is_dir() else 0o644)
+    set_modes(work)
     name = f'{DEBIAN}_{VERSION}_{machine.debian}.deb'
     run('dpkg-deb', '--root-owner-group', '--build', work, dist / name)
     return name
@@ -141,6 +148,7 @@ def wheel(work, dist):
     edit(work / 'pyproject.toml', ('["py.typed", "*.html"]', '["py.typed", "*.html", "lib/*.so"]'))
     tag = f'manylinux_{X86.glibc().replace(".", "_")}_x86_64'
     (work / 'setup.cfg').write_text(f'[bdist_wheel]\npython_tag = py3\nplat_name = {tag}\n')
+    set_modes(work)
     run(PYTHON, '-m', 'pip', 'wheel', '--no-deps', '--no-build-isolation', '--no-index', '--wheel-dir', work / 'made', work)
     (made,) = (work / 'made').iterdir()
     shutil.copy(made, dist)
@@ -152,6 +160,7 @@ def node(work, dist):
     run(BINDINGS / 'node/build', SOURCEMAP_LIBRARY_DIR=str(X86.library))
     (work / 'out').mkdir()
     shutil.copy(BINDINGS / 'node/out/sourcemap.node', work / 'out')
+    set_modes(work)
     made = json.loads(run('npm', 'pack', '--json', '--offline', '--ignore-scripts', '--pack-destination', dist, cwd=work))
     return made[0]['filename']
 

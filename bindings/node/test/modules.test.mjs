@@ -141,7 +141,8 @@ test('says how to build it where it is not built', () => {
   });
 });
 
-test('the build says where it looked for the library', () => {
+test('the build says where it looked for the library', (t) => {
+  if (!existsSync(path.join(folder, 'build'))) return t.skip('a package that is installed has no build');
   const empty = mkdtempSync(path.join(tmpdir(), 'sourcemap-empty-'));
   try {
     const env = { ...process.env, SOURCEMAP_LIBRARY_DIR: empty };

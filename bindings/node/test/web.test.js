@@ -1,7 +1,7 @@
 'use strict';
 
 const assert = require('node:assert/strict');
-const { execFileSync } = require('node:child_process');
+const { execFileSync, spawnSync } = require('node:child_process');
 const { cpSync, existsSync, mkdirSync, mkdtempSync, rmSync, writeFileSync } = require('node:fs');
 const { tmpdir } = require('node:os');
 const path = require('node:path');
@@ -11,15 +11,26 @@ const package_ = path.dirname(__dirname);
 const wasm = path.join(package_, '../web/out/sourcemap.wasm');
 const FLAG = '--experimental-wasm-memory64';
 const MEMORY64 = Uint8Array.of(0, 0x61, 0x73, 0x6d, 1, 0, 0, 0, 5, 3, 1, 4, 0);
-const options = { skip: !existsSync(wasm) && 'bindings/web/build has not made the module' };
 let folder;
 
-/** Node's words for 64-bit memories, which Node 24 has without one. */
-const words = WebAssembly.validate(MEMORY64) ? [] : [FLAG];
+/** Whether Node, started with these words, has 64-bit memories. */
+function hasMemories(words) {
+  const test = `process.exit(WebAssembly.validate(Uint8Array.of(${MEMORY64})) ? 0 : 1)`;
+  return spawnSync(process.execPath, [...words, '-e', test]).status === 0;
+}
+
+/** Node's words for 64-bit memories, which Node 24 has without one; undefined if it has none. */
+const words = [[], [FLAG]].find(hasMemories);
+const why = () => {
+  if (!existsSync(wasm)) return 'bindings/web/build has not made the module';
+  return words === undefined && 'this node has no 64-bit memories';
+};
+const options = { skip: why() };
 
 /** Runs a script over a copy of the package that has the module and no addon. */
-function run(script, flags = words) {
+function run(script, flags = words, before = '') {
   const output = execFileSync(process.execPath, [...flags, '-e', `
+    ${before}
     const sourcemap = require(${JSON.stringify(path.join(folder, 'lib/index.js'))});
     const code = (call) => { try { return call(); } catch (error) { return error.code ?? error.message; } };
     ${script}`], { encoding: 'utf8', stdio: ['ignore', 'pipe', 'pipe'] });
@@ -100,6 +111,7 @@ test('all else says that the addon is not built', options, () => {
 });
 
 test('without 64-bit memories the package says that it is not built', options, () => {
-  const flags = words.length > 0 ? [] : ['--no-experimental-wasm-memory64'];
-  assert.throws(() => run('console.log(1);', flags), (error) => /is not built/.test(error.stderr));
+  // where Node has them without a word, it is made to say that it has not
+  const before = words.length > 0 ? '' : 'WebAssembly.validate = () => false;';
+  assert.throws(() => run('console.log(1);', [], before), (error) => /is not built/.test(error.stderr));
 });

@@ -16,7 +16,7 @@ from typing import Any, Dict, List, Optional, Tuple
 
 PROGRAMS = ('chromium', 'chromium-browser', 'google-chrome')
 # A loaded machine may take long to start the browser.
-TIMEOUT = 60.0
+TIMEOUT = 300.0
 
 
 def find_browser() -> Optional[str]:

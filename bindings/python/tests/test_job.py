@@ -472,7 +472,7 @@ class Bar(Jobs):
         os.close(terminal)
         shown = b''
         with contextlib.suppress(OSError):  # the end of a terminal that nobody has open any more
-            while select.select([main], [], [], 60)[0]:
+            while select.select([main], [], [], 600)[0]:
                 shown += os.read(main, 1000)
         os.close(main)
         self.assertEqual(program.wait(), 0)
