@@ -4,6 +4,7 @@ from __future__ import annotations
 
 import doctest
 import os
+import random
 import re
 import resource
 import subprocess
@@ -123,6 +124,21 @@ class Rows(Tables):
         found = self.symbolicate(1, [1, 2, 1, 3], 'main.jsbundle')
         self.assertEqual(found.source_line.tolist(), [1, 2, 1, 2])
         self.assertEqual(found.scope.tolist(), ['<global>', 'foo', '<global>', 'foo'])
+
+    def test_scopes_of_many_tokens(self) -> None:
+        """Tokens of several blocks, some of them at one position: the scopes that the library finds one at a time."""
+        drawn = random.Random(5)
+        lines = [','.join(drawn.choices(['CACA', 'AACA', 'CAAA', 'C'], k=40)) for _ in range(20)]
+        functions = {'names': ['<global>', 'odd', 'even'], 'mappings': ','.join(['AAA', *['ACG', 'ACG', 'AFG'] * 60])}
+        self.put('many.jsbundle.map', regular(';'.join(lines), ['a.js'], x_facebook_sources=[[functions]]))
+        positions = [(line, column) for line in range(20) for column in range(45)]
+        found = self.symbolicate([line + 1 for line, _ in positions], [column + 1 for _, column in positions], 'many.jsbundle')
+        are_found = found.status == 'found'
+        with self.release().open('many.jsbundle') as map:
+            self.assertGreater(len(map), 600)
+            wanted = [map.scope_at(*position) for position, is_found in zip(positions, are_found) if is_found]
+        self.assertEqual(found.scope[are_found].tolist(), wanted)
+        self.assertEqual({*wanted}, {'<global>', 'odd', 'even'})
 
     def test_tokens_without_a_source_or_on_another_line(self) -> None:
         self.put('app.js.map', regular('AAAA,IAAI,E;;A', ['a.js']))

@@ -46,8 +46,8 @@ class Together:
 
     def texts(self, ids: Numbers, counts: List[int],
               read: Callable[[OpenedMap, Codes], List[bytes]]) -> Tuple[Codes, List[bytes]]:
-        """For each row the number of its text in the list of texts. Its map has the text by its id; it is -1 if the id is not
-        below the count of the map. `read` gets each id of a map once."""
+        """For each row the number of its text in the list of texts. Its map has the text by its id; the number is -1 if the
+        id is not below the count of the map. `read` gets each id of a map once."""
         codes, keys = self._numbered(ids, self.are_below(ids, counts))
         return codes, [text for map, used in self._by_map(keys) for text in read(map, used)]
 
@@ -76,7 +76,8 @@ class Together:
     def contexts(self, sources: Numbers, lines: Numbers, columns: Numbers) -> Tuple[Codes, List[bytes]]:
         """For each row the number of the line of its source in the list of texts, or -1 if the contents of the source are
         not there, or have no such line. Lines are cut to `LONGEST_LINE`."""
-        numbers = np.concatenate([map.line_numbers(sources[first:end], lines[first:end]) for map, first, end in self.parts()])
+        numbers = np.concatenate([map.line_numbers(sources[first:end], lines[first:end])
+                                  for map, first, end in self.parts()])
         codes, keys = self._numbered(numbers, numbers >= 0)
         texts: List[bytes] = []
         are_long = [np.zeros(0, bool)]
@@ -88,7 +89,7 @@ class Together:
         return codes, texts
 
     def _add_pieces(self, codes: Codes, keys: Codes, are_long: Flags, columns: Numbers, texts: List[bytes]) -> None:
-        """Of each line that is longer, takes the pieces around the columns that rows have in it."""
+        """Of each line that is longer than `LONGEST_LINE`, takes the pieces around the columns that rows have in it."""
         if not are_long.any():
             return
         rows = np.flatnonzero(np.append(are_long, False)[codes])
