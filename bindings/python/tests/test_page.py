@@ -21,7 +21,7 @@ from .browser import Browser, find_browser
 
 FOLDER = Path(__file__).resolve().parents[1]
 BROWSER = find_browser()
-HAS_VIEWER = any((folder / page.VIEWER).is_file() for folder in page.FOLDERS)
+VIEWER = next((folder / page.VIEWER for folder in page.FOLDERS if (folder / page.VIEWER).is_file()), None)
 
 # Two sources, one without contents, and texts that HTML, JSON or a reader might take for something else. Tokens, as
 # GENERATED -> SOURCE LINE:COLUMN: 0:0 -> 0 0:0, named; 0:12 -> 0 1:1, the emoji; 0:15 has no source; 1:0 -> 1 4:2;
@@ -72,7 +72,7 @@ def fields_of(token: Token) -> Tuple[Optional[int], ...]:
     return (token.generated_line, token.generated_column, token.line, token.column, token.source_id, token.name_id)
 
 
-@unittest.skipUnless(HAS_VIEWER, 'no viewer: bindings/web/build makes it')
+@unittest.skipIf(VIEWER is None, 'no viewer: bindings/web/build makes it')
 class Written(InFolder):
     """The file, without a browser."""
 
@@ -207,7 +207,8 @@ class Written(InFolder):
         self.assert_page_of(out, Map.load(self.folder / 'big.js.map'), contents=contents)
         # `<` takes six bytes in the generated text, a quote and a line end two: 12 bytes more for a statement
         texts = len(generated.encode('utf-8')) + 12 * count
-        added = out.stat().st_size - (page.FOLDERS[-1] / page.VIEWER).stat().st_size
+        assert VIEWER is not None
+        added = out.stat().st_size - VIEWER.stat().st_size
         self.assertGreater(added, texts + len(data['map']))
         self.assertLess(added, texts + len(data['map']) + 1000)
         # the compiled map has the contents, and less than 7 bytes for each token
@@ -234,7 +235,7 @@ class WithoutViewer(unittest.TestCase):
             page.page_text('a.js', '', Map.loads(example.MAP))
 
 
-@unittest.skipUnless(HAS_VIEWER, 'no viewer: bindings/web/build makes it')
+@unittest.skipIf(VIEWER is None, 'no viewer: bindings/web/build makes it')
 @unittest.skipIf(BROWSER is None, 'no browser: install the package chromium')
 class InBrowser(InFolder):
     """The page in headless Chromium, opened from a file."""
