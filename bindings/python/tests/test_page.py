@@ -470,6 +470,7 @@ class InBrowser(InFolder):
         mappings = 'AAu7FA' + ';AADA' * (lines - 1)
         fields = {'sources': ['a.js'], 'sourcesContent': [source], 'names': [], 'mappings': mappings}
         self.open(generated, json.dumps({'version': 3, **fields}))
+        self.browser.wait_until('document.querySelector("#source .token")')
         self.assertEqual(self.tokens('source')[0], ('1', 'original(2999);'))
         self.browser.move(self.middle('generated', 'line(4);'))
         self.browser.wait_until('document.querySelector("#source .hovered")')
