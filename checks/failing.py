@@ -72,6 +72,7 @@ CASES = [
     Case('trace FILE', MAP, POSITIONS), Case('trace FILE', INDEX, POSITIONS),
     Case('lookup --from-1 1 6', MAP), Case('trace --from-1 FILE', INDEX, POSITIONS_FROM_1),
     Case('compile', FULL), Case('compile', HERMES), Case('compile --without-contents', INDEX), Case('compile', LINKED),
+    Case('check', INDEX), Case('check --json', FULL), Case('check --strict', MAP),
     Case('lookup 0 4', COMPILED), Case('trace --from-1 FILE', COMPILED, POSITIONS_FROM_1),
     Case('lookup 0 4', COMPILED[:-1]), Case('trace FILE', COMPILED[:140] + b'\x01' + COMPILED[141:], POSITIONS),
     Case('lookup 0 0', ")]}'\r\n" + MAP), Case('lookup 0 0', ")]}'\r" + MAP), Case('lookup 0 0', '[]'),

@@ -14,7 +14,7 @@ the status is 0 or 1. One reason is an output with too many lines for `rules.py`
 `out of memory` and end with status 1, because a run has 256 MB of memory.
 
 With --reference, each case of a command also runs on PROGRAM, a built program over the crate (`reference/`). The script
-compares no case of `trace`, `compile`, `--from-1` and compiled maps, which the reference does not have, and no run whose status is not 0 or 1.
+compares no case of `trace`, `compile`, `check`, `--from-1` and compiled maps, which the reference does not have, and no run whose status is not 0 or 1.
 Each difference must have a reason among those of `docs/DIFFERENCES.md`. Without a reason it is printed as UNEXPLAINED,
 and the case fails.
 
@@ -275,9 +275,11 @@ def words_of(chance, path):
         return ['compose', path]
     if kind < 0.95:
         return ['trace', *from_1, path]
+    if kind < 0.97:
+        return chance.choice(rules.CHECKS)
     if kind < 0.98:
         return ['compile', *[rules.WITHOUT_CONTENTS] * (chance.random() < 0.5)]
-    words = [chance.choice(['lookup', 'tokens', 'trace', 'compile', 'Shift', '', 'é', rules.FROM_1])
+    words = [chance.choice(['lookup', 'tokens', 'trace', 'compile', 'check', 'Shift', '', 'é', rules.FROM_1])
              for _ in range(chance.choice([1, 2, 3]))]
     # `trace` with one or two more words may be a valid command that would open a missing file. With twice the words it
     # is invalid.
@@ -353,6 +355,8 @@ def contradiction(case, ended, want):
         return 'something on standard error'
     if want is None:
         return None if status in (0, 1) else f'status {status}'
+    if want[1] is None:
+        return None if status == want[0] else f'the rules say status {want[0]}'
     return None if (status, output) == want else f'the rules say {want}'
 
 
@@ -394,7 +398,7 @@ class Job:
 
     def compare_with_reference(self, case, ended):
         is_compiled = case.data.startswith(compiled_map.MAGIC_BYTES)
-        if case.words[0] in ('trace', 'compile') or rules.FROM_1 in case.words or is_compiled:
+        if case.words[0] in ('trace', 'compile', 'check') or rules.FROM_1 in case.words or is_compiled:
             return 'no such word'
         self.asked = self.run(self.reference, case)
         return agreement(case, ended, self.asked)

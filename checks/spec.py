@@ -1,7 +1,7 @@
 #!/usr/bin/env python3
 """Runs the check over the tests of the standard in checks/spec-tests, and compares the codes.
 
-    checks/spec.py [PROGRAM]      the built program, crates/sourcemap_check_tool/out/sourcemap_check_tool by default
+    checks/spec.py [PROGRAM]      the built program, crates/sourcemap_tool/out/sourcemap_tool by default
 
 A valid map has no finding and status 0. An invalid one has the codes of codes.tsv and status 1.
 """
@@ -14,7 +14,7 @@ import sys
 
 TOP = pathlib.Path(__file__).resolve().parent
 TESTS = TOP / "spec-tests"
-PROGRAM = TOP.parent / "crates/sourcemap_check_tool/out/sourcemap_check_tool"
+PROGRAM = TOP.parent / "crates/sourcemap_tool/out/sourcemap_tool"
 
 
 def wanted_codes():
@@ -23,7 +23,7 @@ def wanted_codes():
 
 
 def run(program, file):
-    ended = subprocess.run([program], stdin=file.open("rb"), capture_output=True, timeout=60)
+    ended = subprocess.run([program, "check"], stdin=file.open("rb"), capture_output=True, timeout=60)
     return ended.returncode, set(re.findall(r": (SM\d+) ", ended.stdout.decode()))
 
 

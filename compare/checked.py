@@ -1,7 +1,7 @@
 #!/usr/bin/env python3
 """Compares the check with a model of the rules of ECMA-426, on maps that are made and mutated.
 
-    compare/checked.py PROGRAM [RUNS [SEED]]      PROGRAM is the built sourcemap_check_tool
+    compare/checked.py PROGRAM [RUNS [SEED]]      PROGRAM is the built sourcemap_tool
 
 The model is written from docs/CHECK.md and knows nothing of the program. It answers each finding with its place, in the
 order of the report. Maps with more than 20 findings of one code are cut by the program, and are compared up to there.
@@ -252,6 +252,16 @@ def cut(found):
             yield f'MAP:{place}: {code}'
 
 
+def reported(program, text):
+    """The findings of the JSON report, as the lines give them."""
+    ended = subprocess.run([program, 'check', '--json'], input=text.encode(), capture_output=True, timeout=60)
+    for finding in json.loads(ended.stdout)['findings']:
+        path = ''.join(f'sections[{index}].map.' for index in finding['sections'])
+        place = finding['position']
+        at = f' {place["line"]}:{place["index"]}' if place else ''
+        yield f'MAP:{path}{finding["key"]}{at}: {finding["code"]}'
+
+
 def main():
     program = sys.argv[1]
     runs = int(sys.argv[2]) if len(sys.argv) > 2 else 2000
@@ -262,14 +272,15 @@ def main():
         text = json.dumps(fields)
         found, _last = checked(fields)
         due = list(cut(found))
-        ended = subprocess.run([program], input=text.encode(), capture_output=True, timeout=60)
+        ended = subprocess.run([program, 'check'], input=text.encode(), capture_output=True, timeout=60)
         lines = ended.stdout.decode().splitlines()
         got = [' '.join(line.split(' ')[:2 + line.startswith('MAP:') * ('mappings ' in line.split(': SM')[0])])
                for line in lines[:-1]]
         status = 1 if found else 0
         valid += not found
         codes |= {code for code, _ in found}
-        if got != due or ended.returncode != status or not lines[-1].startswith(f'{len(found)} invalid'):
+        last = f'{len(found)} invalid, {len(due)} shown'
+        if got != due or ended.returncode != status or lines[-1] != last or list(reported(program, text)) != due:
             differences += 1
             if differences < 5:
                 print(text, got, due, ended.returncode, sep='\n', end='\n\n')

@@ -1,15 +1,17 @@
 """The rules of each command of `sourcemap_tool`: the exit status and the output, for the bytes of a map and of the file
 that the command names. The code follows the rules of the formats, and takes nothing from the compared programs."""
 import json, re
-import compiled_map
+import checked, compiled_map
 from composing import DIGITS, Token, compose_tokens, digits_of, without_repeats
 from hermes_maps import closest
 from index_maps import LAST, in_order, offset_of, absolute_position
 
 USAGE = ('usage: lookup [--from-1] LINE COL | tokens | rewrite | flatten | compose FILE | shift ROWS'
-         ' | trace [--from-1] FILE | compile [--without-contents]\n')
+         ' | trace [--from-1] FILE | compile [--without-contents]'
+         ' | check [--json] [--strict]\n')
 FROM_1 = '--from-1'
 WITHOUT_CONTENTS = '--without-contents'
+CHECKS = [['check'], ['check', '--json'], ['check', '--strict'], ['check', '--json', '--strict']]
 NUMBER = re.compile(rb'[0-9]+\Z')
 HYPHENATED = re.compile(r'[0-9a-fA-F]{8}(-[0-9a-fA-F]{4}){3}-[0-9a-fA-F]{12}\Z')
 PLAIN = re.compile(r'[0-9a-fA-F]{32}\Z')
@@ -514,8 +516,19 @@ def output_of(words, data, file):
     return line_of(found.rewrite() if verb == 'rewrite' else found.flat())
 
 
+def is_valid(data):
+    """Whether bytes are a valid map. A junk header is none of JSON."""
+    try:
+        value = json_of(data) if after_header(data) == data else None
+    except Refusal:
+        return False
+    return isinstance(value, dict) and not checked.checked(json.loads(data))[0]
+
+
 def outcome_of(words, data, file=b''):
-    """The exit status and the output of a run."""
+    """The exit status and the output of a run. The output is None for a report, which checked.py compares."""
+    if words in CHECKS:
+        return 0 if is_valid(data) else 1, None
     try:
         output = output_of(words, data, file)
     except Refusal as refused:

@@ -1,14 +1,18 @@
 -- Words ask for at most one command.
-use Rattle.std.proofs.Common.{◌≡◌, ◌≢◌, Global, String, ℕ, ◌+◌, List, [], ◌∷◌, if◌then◌else◌, bytes_eq, codes, get_or, length, string_bytes, refl, subst, sym, ◌∙◌, ap, arith}
+use Rattle.std.proofs.Common.{◌≡◌, ◌≢◌, ◌⊎◌, inl, inr, Global, String, ℕ, ◌+◌, List, [], ◌∷◌, if◌then◌else◌, bytes_eq, codes, get_or, length, string_bytes, refl, subst, sym, ◌∙◌, ap, arith}
 use Rattle.std.specs.Str.Parse.{digits_value}
 use Rattle.sourcemap_trace.specs.Positions.{first_of}
 use Rattle.sourcemap_trace.specs.declared.positions.Counting.{Counting}
 use Rattle.sourcemap_trace.specs.declared.positions.Counting.TheVariants.{From0, From1}
 use Rattle.sourcemap_cache.specs.declared.parts.WithContents.{WithContents}
 use Rattle.sourcemap_cache.specs.declared.parts.WithContents.TheVariants.{Yes, No}
+use Rattle.sourcemap_check_print.specs.declared.print.Form.{Form}
+use Rattle.sourcemap_check_print.specs.declared.print.Form.TheVariants.{Lines, Json}
 use Rattle.sourcemap_cli.specs.Command.{AskFor, IsNumber, IsSameCommand, counted_words, from_1, without_contents}
 use Rattle.sourcemap_cli.specs.declared.command.Command.{Command}
-use Rattle.sourcemap_cli.specs.declared.command.Command.TheVariants.{Lookup, Tokens, Rewrite, Flatten, Compose, Shift, Trace, Compile}
+use Rattle.sourcemap_cli.specs.declared.command.Command.TheVariants.{Lookup, Tokens, Rewrite, Flatten, Compose, Shift, Trace, Compile, Check}
+use Rattle.sourcemap_cli.specs.declared.command.Strictness.{Strictness}
+use Rattle.sourcemap_cli.specs.declared.command.Strictness.TheVariants.{Usual, Strict}
 
 -- equal words give the same number
 number_once : (first : ℕ) (a b : List ℕ) (m n : ℕ) → a ≡ b → IsNumber first a m → IsNumber first b n → m ≡ n
@@ -22,7 +26,7 @@ verb_number verb =
     if bytes_eq verb (codes "lookup") then 1 else if bytes_eq verb (codes "tokens") then 2
     else if bytes_eq verb (codes "rewrite") then 3 else if bytes_eq verb (codes "flatten") then 4
     else if bytes_eq verb (codes "compose") then 5 else if bytes_eq verb (codes "shift") then 6
-    else if bytes_eq verb (codes "trace") then 7 else 8
+    else if bytes_eq verb (codes "trace") then 7 else if bytes_eq verb (codes "compile") then 8 else 9
 
 -- the number of the first word, and the number of words
 abbrev kind_of_words : List (List ℕ) → ℕ × ℕ
@@ -38,6 +42,13 @@ abbrev compile_count : WithContents → ℕ
 compile_count Yes = 1
 compile_count No = 2
 
+-- the number of words of `check`
+abbrev check_count : Form → Strictness → ℕ
+check_count Lines Usual = 1
+check_count Json Usual = 2
+check_count Lines Strict = 2
+check_count Json Strict = 3
+
 abbrev kind_of : Command → ℕ × ℕ
 kind_of (Lookup counting _ _) = (1, with_flag counting 3)
 kind_of Tokens = (2, 1)
@@ -47,6 +58,7 @@ kind_of (Compose _) = (5, 2)
 kind_of (Shift _) = (6, 2)
 kind_of (Trace counting _) = (7, with_flag counting 2)
 kind_of (Compile contents) = (8, compile_count contents)
+kind_of (Check form strictness) = (9, check_count form strictness)
 
 words_of_kind : (words : List (List ℕ)) (c : Command) → AskFor words c → kind_of_words words ≡ kind_of c
 words_of_kind words (Lookup From0 line col) (l, c, is, at_line, at_col) = ap kind_of_words is
@@ -60,6 +72,10 @@ words_of_kind words (Trace From0 path) (is, other) = ap kind_of_words is
 words_of_kind words (Trace From1 path) (is, other) = ap kind_of_words is
 words_of_kind words (Compile Yes) is = ap kind_of_words is
 words_of_kind words (Compile No) is = ap kind_of_words is
+words_of_kind words (Check Lines Usual) is = ap kind_of_words is
+words_of_kind words (Check Json Usual) is = ap kind_of_words is
+words_of_kind words (Check Lines Strict) is = ap kind_of_words is
+words_of_kind words (Check Json Strict) is = ap kind_of_words is
 
 -- as `words_of_kind`, for each of the two numbers
 kind_is : (words : List (List ℕ)) (c : Command) → AskFor words c
@@ -111,6 +127,26 @@ no_compile word other command asked =
     absurd (let no : (8 ≡ (kind_of command).0) × (2 ≡ (kind_of command).1) =
     kind_is (codes "compile" ∷ word ∷ []) command asked in cc)
 
+pub no_check : (word : List ℕ) → word ≢ codes "--json" → word ≢ codes "--strict" → (command : Command)
+    → ¬ AskFor (codes "check" ∷ word ∷ []) command
+no_check word no_json no_strict (Check Json Usual) is =
+    no_json (same_word 1 (codes "check" ∷ word ∷ []) (codes "check" ∷ codes "--json" ∷ []) is)
+no_check word no_json no_strict (Check Lines Strict) is =
+    no_strict (same_word 1 (codes "check" ∷ word ∷ []) (codes "check" ∷ codes "--strict" ∷ []) is)
+no_check word no_json no_strict command asked =
+    absurd (let no : (9 ≡ (kind_of command).0) × (2 ≡ (kind_of command).1) =
+    kind_is (codes "check" ∷ word ∷ []) command asked in cc)
+
+pub no_strict_json : (first second : List ℕ) → (first ≢ codes "--json") ⊎ (second ≢ codes "--strict")
+    → (command : Command) → ¬ AskFor (codes "check" ∷ first ∷ second ∷ []) command
+no_strict_json first second (inl other) (Check Json Strict) is =
+    other (same_word 1 (codes "check" ∷ first ∷ second ∷ []) (codes "check" ∷ codes "--json" ∷ codes "--strict" ∷ []) is)
+no_strict_json first second (inr other) (Check Json Strict) is =
+    other (same_word 2 (codes "check" ∷ first ∷ second ∷ []) (codes "check" ∷ codes "--json" ∷ codes "--strict" ∷ []) is)
+no_strict_json first second other command asked =
+    absurd (let no : (9 ≡ (kind_of command).0) × (3 ≡ (kind_of command).1) =
+    kind_is (codes "check" ∷ first ∷ second ∷ []) command asked in cc)
+
 -- `--from-1` is no file of `trace`
 pub no_trace : (file : List ℕ) (counting : Counting) → file ≡ from_1 → (command : Command)
     → ¬ AskFor (counted_words (codes "trace") counting (file ∷ [])) command
@@ -131,6 +167,9 @@ pub trace_asked : (file : List ℕ) (counting : Counting) (path : String Global)
     → AskFor (counted_words (codes "trace") counting (file ∷ [])) (Trace counting path)
 trace_asked file counting path is other =
     (ap (λ word. counted_words (codes "trace") counting (word ∷ [])) (sym is), λ flag. other (sym is ∙ flag))
+
+other_flags : codes "--json" ≢ codes "--strict"
+other_flags same = let numbers : 106 ≡ 115 = ap (λ word. get_or word 2 0) same in cc
 
 pub command_once : (words : List (List ℕ)) (a b : Command) → AskFor words a → AskFor words b → IsSameCommand a b
 command_once words (Lookup From0 row col) (Lookup From0 row' col') (l, c, is, of_l, of_c) (l', c', is', of_l', of_c') =
@@ -161,6 +200,16 @@ command_once words Rewrite Rewrite p q = refl
 command_once words Flatten Flatten p q = refl
 command_once words (Compile Yes) (Compile Yes) p q = refl
 command_once words (Compile No) (Compile No) p q = refl
+command_once words (Check Lines Usual) (Check Lines Usual) p q = refl
+command_once words (Check Json Usual) (Check Json Usual) p q = refl
+command_once words (Check Lines Strict) (Check Lines Strict) p q = refl
+command_once words (Check Json Strict) (Check Json Strict) p q = refl
+command_once words (Check Json Usual) (Check Lines Strict) p q =
+    absurd (other_flags (same_word 1 (codes "check" ∷ codes "--json" ∷ []) (codes "check" ∷ codes "--strict" ∷ [])
+    (sym p ∙ q)))
+command_once words (Check Lines Strict) (Check Json Usual) p q =
+    absurd (other_flags (same_word 1 (codes "check" ∷ codes "--json" ∷ []) (codes "check" ∷ codes "--strict" ∷ [])
+    (sym q ∙ p)))
 command_once words a b p q =
     let of_a = kind_is words a p in
     let of_b = kind_is words b q in

@@ -23,6 +23,9 @@ use Rattle.sourcemap_compiled.specs.Soundness.{IsSound}
 use Rattle.sourcemap_cache.specs.Errors.{error_text as compile_error_text}
 use Rattle.sourcemap_cache.specs.declared.errors.CompileError.{CompileError}
 use Rattle.sourcemap_cache.specs.declared.errors.CompileError.TheVariants.{Map, TooLarge}
+use Rattle.sourcemap_check.specs.Validity.{IsValid}
+use Rattle.sourcemap_check_print.specs.Print.{IsReportOf}
+use Rattle.sourcemap_check_print.specs.declared.print.Form.{Form}
 use Rattle.sourcemap_trace.specs.Asked.{compiled_says}
 use Rattle.sourcemap_trace.specs.Positions.{first_of}
 use Rattle.sourcemap_trace.specs.Trace.{meaning_text, trace_from}
@@ -30,13 +33,14 @@ use Rattle.sourcemap_cli.specs.Command.{AskFor}
 use Rattle.sourcemap_cli.specs.Compiled.{CompilesTo, IsRefusedCompiled, IsTooLarge, compiled_line, is_compiled}
 use Rattle.sourcemap_cli.specs.Lines.{IsLineOf, newline}
 use Rattle.sourcemap_cli.specs.declared.command.Command.{Command}
-use Rattle.sourcemap_cli.specs.declared.command.Command.TheVariants.{Lookup, Tokens, Rewrite, Flatten, Compose, Shift, Trace, Compile}
+use Rattle.sourcemap_cli.specs.declared.command.Command.TheVariants.{Lookup, Tokens, Rewrite, Flatten, Compose, Shift, Trace, Compile, Check}
 use Rattle.sourcemap_cli.specs.declared.program.Reply.{Reply}
 
 abbrev pub usage_text : List ℕ
 usage_text =
     codes "usage: lookup [--from-1] LINE COL | tokens | rewrite | flatten | compose FILE | shift ROWS"
-    ++ codes " | trace [--from-1] FILE | compile [--without-contents]" ++ newline
+    ++ codes " | trace [--from-1] FILE | compile [--without-contents]"
+    ++ codes " | check [--json] [--strict]" ++ newline
 
 -- the text of a token, with its original line and column counted from `first`; `none` if there is no token
 abbrev pub found_text : (first : ℕ) → Option TokenValue → List ℕ
@@ -102,7 +106,8 @@ traced first says (Err e) = Err e
 
 -- the output of a command for a map, or the error of the command; `compose` also takes an adjustment. A map of the
 -- wrong kind is reported before other errors. `Returns` is false for `trace`, which also needs positions (see
--- `ReturnsWithFile`). `compile` prints no text (see `ReturnsElse`), and is refused
+-- `ReturnsWithFile`). `compile` and `check` (see `ReturnsElse`) print nothing of a decoded
+-- map, and are refused
 abbrev pub Returns : Command → MapTree → Option MapTree → Result (List ℕ) Error → Type 0
 Returns (Lookup counting line col) t _ answer = IsOkAnd answer (IsLookupLine (first_of counting) t (line, col))
 Returns Tokens (leaf l) _ answer = answer ≡ Ok (flat_map token_line (tokens_from (held l) 0))
@@ -118,6 +123,7 @@ Returns (Shift _) (leaf _) _ answer = answer ≡ Err IncompatibleSourceMap
 Returns (Shift rows) (index parts ss) _ answer = ShiftAnswer rows parts (section_list ss) answer
 Returns (Trace _ _) _ _ _ = ⊥
 Returns (Compile _) _ _ answer = answer ≡ Err IncompatibleSourceMap
+Returns (Check _ _) _ _ answer = answer ≡ Err IncompatibleSourceMap
 
 -- a file decodes to this map or to this error; the file is given as its bytes, or as the error of reading it
 abbrev pub FileDecodes : Result (List ℕ) Error → Result MapTree Error → Type 0
@@ -137,12 +143,13 @@ ReturnsWithFile file command t answer = Returns command t None answer
 abbrev pub ReturnsOnBytes : Command → (bytes : List ℕ) → (file : Result (List ℕ) Error) → Result (List ℕ) Error → Type 0
 ReturnsOnBytes command bytes file answer = Then (BytesDecode bytes) (λ t a. ReturnsWithFile file command t a) answer
 
--- whether a command is applied to the map that the bytes decode to. `compile` is not, and neither is a lookup or a trace
--- of bytes that begin as a compiled map
+-- whether a command is applied to the map that the bytes decode to. `compile` and `check` are not, and neither is a
+-- lookup or a trace of bytes that begin as a compiled map
 abbrev pub is_applied : Command → (bytes : List ℕ) → Bool
 is_applied (Lookup _ _ _) bytes = not (is_compiled bytes)
 is_applied (Trace _ _) bytes = not (is_compiled bytes)
 is_applied (Compile _) bytes = false
+is_applied (Check _ _) bytes = false
 is_applied _ bytes = true
 
 -- the output of a command that is not applied to a decoded map. A compiled map is looked up only if it is sound
@@ -152,6 +159,7 @@ ReturnsElse (Lookup counting line col) bytes file answer =
 ReturnsElse (Trace counting _) bytes file answer =
     IsSound bytes × (answer ≡ traced (first_of counting) (compiled_says bytes) file)
 ReturnsElse (Compile contents) bytes file answer = Then (BytesDecode bytes) (λ t a. CompilesTo contents t a) answer
+ReturnsElse (Check form _) bytes file answer = IsValid bytes × IsOkAnd answer (IsReportOf form bytes)
 ReturnsElse _ bytes file answer = ⊥
 
 -- the output of a command, or the first error
@@ -160,12 +168,13 @@ abbrev pub ReturnsBy : (applied : Bool) → Command → (bytes : List ℕ) → (
 ReturnsBy true command bytes file answer = ReturnsOnBytes command bytes file answer
 ReturnsBy false command bytes file answer = ReturnsElse command bytes file answer
 
--- a command that is not applied to a decoded map is refused with this text: the compiled map is damaged, or the map is
--- too large to be compiled
+-- a command that is not applied to a decoded map is refused with this text: the compiled map is damaged, the map is too
+-- large to be compiled, or it is not valid
 abbrev pub Refuses : Command → (bytes : List ℕ) → (text : List ℕ) → Type 0
 Refuses (Lookup _ _ _) bytes text = IsRefusedCompiled bytes text
 Refuses (Trace _ _) bytes text = IsRefusedCompiled bytes text
 Refuses (Compile contents) bytes text = IsTooLarge contents bytes text
+Refuses (Check form _) bytes text = (¬ IsValid bytes) × IsReportOf form bytes text
 Refuses _ bytes text = ⊥
 
 -- Definitions for runs that are given words and the bytes of a map. For `compose` and `trace`, a run is also given the
@@ -228,6 +237,11 @@ IsReplyTo words bytes file reply = (ending : Ending) × Ends words bytes file en
 -- a reply with the displayed text of an error, and status 1
 abbrev pub IsRefusedReply : (known : Option (List ℕ)) → Reply → Type 0
 IsRefusedReply known reply = IsLineOf known reply.output.items × (reply.status ≡ 1)
+
+-- the reply for a report: its status is 0 if the map is valid, otherwise 1
+pub record IsCheckReply (form : Form) (bytes : List ℕ) (reply : Reply) : Type 0 where
+  pub report : IsReportOf form bytes reply.output.items
+  pub valid : (IsValid bytes × (reply.status ≡ 0)) ⊎ ((¬ IsValid bytes) × (reply.status ≡ 1))
 
 -- the reply for what `compile` returned; there is no reply for `OutOfMemory`
 abbrev pub IsCompileReply : Result (List ℕ) CompileError → Reply → Type 0

@@ -6,6 +6,7 @@ ghost use Rattle.sourcemap_cli.specs.Command.{AskFor, IsNumber, IsSameCommand, c
 
 use sourcemap::Result;
 use sourcemap_cache::parts::WithContents;
+use sourcemap_check_print::print::Form;
 use sourcemap_trace::Counting;
 use std::alloc::Global;
 
@@ -14,6 +15,21 @@ const FROM_1: &str = "--from-1";
 
 // The word that leaves the contents of sources out of a compiled map.
 const WITHOUT_CONTENTS: &str = "--without-contents";
+
+// The word that prints a report as JSON.
+const JSON: &str = "--json";
+
+// The word that makes every finding fail a check.
+const STRICT: &str = "--strict";
+
+/// Which findings make a check fail.
+#[derive(Clone, Copy, Debug, PartialEq, Eq)]
+pub enum Strictness {
+    /// Those that make a map invalid.
+    Usual,
+    /// All findings.
+    Strict,
+}
 
 /// A command of the program, with its arguments. Positions are kept counted from 0.
 #[derive(Debug, PartialEq, Eq, Drop)]
@@ -36,6 +52,8 @@ pub enum Command {
     /// `compile`, `compile --without-contents`: the compiled map, with or without the contents of
     /// its sources.
     Compile(WithContents),
+    /// `check`, `check --json`, `check --strict`, `check --json --strict`: the findings in the map.
+    Check(Form, Strictness),
 }
 
 // Accepts only decimal digits. `parse` alone would also accept a `+` before them.
@@ -97,6 +115,34 @@ fn compile_command(word: &str) -> Option<Command>
     Some(Command::Compile(WithContents::No))
 }
 
+fn check_command(word: &str) -> Option<Command>
+    ensures { MatchOption result
+        ((command : _) → ¬ AskFor (codes "check" ∷ word.now ∷ []) command)
+        (AskFor (codes "check" ∷ word.now ∷ [])) }
+{
+    if word == JSON {
+        return Some(Command::Check(Form::Json, Strictness::Usual));
+    }
+    if word == STRICT {
+        return Some(Command::Check(Form::Lines, Strictness::Strict));
+    }
+    None
+}
+
+fn strict_json_command(first: &str, second: &str) -> Option<Command>
+    ensures { MatchOption result
+        ((command : _) → ¬ AskFor (codes "check" ∷ first.now ∷ second.now ∷ []) command)
+        (AskFor (codes "check" ∷ first.now ∷ second.now ∷ [])) }
+{
+    if first != JSON {
+        return None;
+    }
+    if second != STRICT {
+        return None;
+    }
+    Some(Command::Check(Form::Json, Strictness::Strict))
+}
+
 fn parse_verb(verb: &str) -> Option<Command>
     ensures { MatchOption result
         ((command : _) → ¬ AskFor (verb.now ∷ []) command)
@@ -107,6 +153,7 @@ fn parse_verb(verb: &str) -> Option<Command>
         "rewrite" => Some(Command::Rewrite),
         "flatten" => Some(Command::Flatten),
         "compile" => Some(Command::Compile(WithContents::Yes)),
+        "check" => Some(Command::Check(Form::Lines, Strictness::Usual)),
         _ => None,
     }
 }
@@ -123,6 +170,7 @@ fn parse_verb_and_argument(alloc: Global, verb: &str, argument: &str) -> Result<
         "shift" => Ok(shift_command(argument)),
         "trace" => trace_command(alloc, Counting::From0, argument),
         "compile" => Ok(compile_command(argument)),
+        "check" => Ok(check_command(argument)),
         _ => Ok(None),
     }
 }
@@ -147,6 +195,7 @@ fn parse_verb_and_two(
             }
             trace_command(alloc, Counting::From1, second)
         }
+        "check" => Ok(strict_json_command(first, second)),
         _ => Ok(None),
     }
 }

@@ -1,5 +1,5 @@
 //! A run of the program: from words and input to a reply, which is a text and an exit status.
-ghost use Rattle.std.specs.Prelude.{◌≡◌, false, ℕ, List, Result, IfErr, IfOk, MatchResult, map, string_bytes};
+ghost use Rattle.std.specs.Prelude.{◌≡◌, false, if◌then◌else◌, ℕ, List, Result, IfErr, IfOk, MatchResult, map, string_bytes};
 ghost use Rattle.std.specs.Io.KnownBytes.{Appends};
 ghost use Rattle.sourcemap.specs.Answer.{IsAnswer};
 ghost use Rattle.sourcemap.specs.AnyMap.{map_tree};
@@ -16,7 +16,7 @@ ghost use Rattle.sourcemap_cli.specs.Command.{IsQuestion};
 ghost use Rattle.sourcemap_cli.specs.Lines.{IsLineOf};
 ghost use Rattle.sourcemap_cli.specs.declared.command.Command.TheVariants.{Compile, Compose};
 ghost use Rattle.sourcemap_cli.specs.declared.program.Reply.{Reply};
-ghost use Rattle.sourcemap_cli.specs.Program.{AreApplied, AskForNone, Ending, Ends, IsCompileReply, IsCutShort, IsPrinted, IsRefusedReply, IsReply, IsReplyOf, IsReplyTo, IsWriteError, PrintsRefusal, RepliesOn, ReturnsElse, ReturnsOnBytes, ReturnsWithFile, Runs, WithFile, file_read, is_applied, misused, traced};
+ghost use Rattle.sourcemap_cli.specs.Program.{AreApplied, AskForNone, Ending, Ends, IsCheckReply, IsCompileReply, IsCutShort, IsPrinted, IsRefusedReply, IsReply, IsReplyOf, IsReplyTo, IsWriteError, PrintsRefusal, RepliesOn, ReturnsElse, ReturnsOnBytes, ReturnsWithFile, Runs, WithFile, file_read, is_applied, misused, traced};
 
 use crate::command::{Command, parse_words};
 use crate::compiled::{compiled_line, is_applied, sound_map};
@@ -27,6 +27,7 @@ use sourcemap::{DecodedMap, Error, Result};
 use sourcemap_cache::compiling::compile;
 use sourcemap_cache::errors::CompileError;
 use sourcemap_cache::parts::WithContents;
+use sourcemap_check_print::print::{CheckText, Form, check_text};
 use sourcemap_compiled::map::CompiledMap;
 use sourcemap_records::bytes::read_all;
 use sourcemap_trace::{AskedMap, Counting, trace_text_from};
@@ -37,7 +38,7 @@ use std::result;
 use std::rt::Files;
 
 const USAGE: &str =
-    "usage: lookup [--from-1] LINE COL | tokens | rewrite | flatten | compose FILE | shift ROWS | trace [--from-1] FILE | compile [--without-contents]\n";
+    "usage: lookup [--from-1] LINE COL | tokens | rewrite | flatten | compose FILE | shift ROWS | trace [--from-1] FILE | compile [--without-contents] | check [--json] [--strict]\n";
 
 const NO_MEMORY: &str = "out of memory\n";
 
@@ -193,6 +194,20 @@ fn compile_reply(alloc: Global, bytes: Vec<u8>, contents: WithContents) -> Resul
     }
 }
 
+fn check_reply(alloc: Global, bytes: &[u8], form: Form) -> Result<Reply>
+    ensures { MatchResult result (IsCheckReply form bytes.now) (λ e. e ≡ OutOfMemory) }
+{
+    let report = check_text(alloc, bytes, form)?;
+    let CheckText { text, is_valid } = report;
+    Ok(text_reply(text, validity_status(is_valid)))
+}
+
+fn validity_status(is_valid: bool) -> u8
+    ensures { result ≡ (if is_valid then 0 else 1) }
+{
+    if is_valid { 0 } else { 1 }
+}
+
 // The answer of a compiled map.
 fn ask(
     alloc: Global,
@@ -246,6 +261,7 @@ fn reply_without_map(
 {
     match command {
         Command::Compile(contents) => compile_reply(alloc, bytes, *contents),
+        Command::Check(form, _) => check_reply(alloc, bytes.as_slice(), *form),
         command => compiled_reply(alloc, command, bytes.as_slice(), file),
     }
 }
@@ -256,12 +272,15 @@ fn reply_without_map(
 /// Other commands ignore `file`.
 ///
 /// - Status 0: the output of the command, as returned by `apply`, for `Trace` by `trace_text_from`,
-///   and for `Compile` by `sourcemap_cache::compile`.
+///   for `Compile` by `sourcemap_cache::compile`, and for `Check` by `check_text` of
+///   `sourcemap_check_print`, if the map is valid. All findings are of invalid maps so far, so
+///   `Strictness` changes nothing.
 /// - Status 1: the text of the first error and a newline. Errors are checked in this order:
 ///   `decode_slice` returns an error for `bytes`; the file could not be read; the file of `Compose`
 ///   does not decode; the command returns an error. An `Io` error says that a junk header is
 ///   invalid, or that the file could not be read. std does not specify the text of an `Io` error.
 ///   A compiled map is refused with the error of `CompiledMap::parse` or of `verify`.
+///   For `Check`, 1 also says that the map is not valid; the output is the report all the same.
 /// - Status 2: the usage, for words that are no command.
 ///
 /// The only error is `OutOfMemory`. No reply reports this error, even if `file` is

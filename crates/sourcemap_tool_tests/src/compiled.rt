@@ -24,8 +24,8 @@ fn run_on(rt: &HostRuntime, line: &str, input: &[u8]) -> Result<(u8, Vec<u8>), F
     Ok((status, output))
 }
 
-// Checks that a run on these bytes prints this text and a newline, and ends with this status.
-fn check_run(rt: &HostRuntime, line: &str, input: &[u8], status: u8, text: &str) -> Checked {
+/// Checks that a run on these bytes prints this text and a newline, and ends with this status.
+pub fn check_run(rt: &HostRuntime, line: &str, input: &[u8], status: u8, text: &str) -> Checked {
     let (ended, output) = run_on(rt, line, input)?;
     let is_text = output.as_slice().strip_suffix(b"\n") == Some(text.as_bytes());
     check_that(line, ended == status && is_text)

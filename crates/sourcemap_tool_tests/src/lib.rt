@@ -6,6 +6,8 @@ mod applied;
 #[cfg(test)]
 mod arguments;
 #[cfg(test)]
+mod checks;
+#[cfg(test)]
 mod compiled;
 #[cfg(test)]
 mod composes;

@@ -2,7 +2,8 @@
 use crate::memory::unless_out;
 use sourcemap::decode_slice;
 use sourcemap_cache::WithContents;
-use sourcemap_cli::command::{Command, parse_words};
+use sourcemap_check_print::Form;
+use sourcemap_cli::command::{Command, Strictness, parse_words};
 use sourcemap_cli::output::apply;
 use sourcemap_cli::program::{reply_to, run};
 use sourcemap_trace::Counting;
@@ -13,7 +14,7 @@ pub const MAP: &str =
     r#"{"version":3,"sources":["coolstuff.js"],"names":["x","alert"],"mappings":"AAAA,GAAIA,GAAI,EACR,IAAIA,GAAK,EAAG,CACVC,MAAM"}"#;
 
 pub const USAGE: &str =
-    "usage: lookup [--from-1] LINE COL | tokens | rewrite | flatten | compose FILE | shift ROWS | trace [--from-1] FILE | compile [--without-contents]\n";
+    "usage: lookup [--from-1] LINE COL | tokens | rewrite | flatten | compose FILE | shift ROWS | trace [--from-1] FILE | compile [--without-contents] | check [--json] [--strict]\n";
 
 // Words, a map, and the status and output of the run.
 pub const RUNS: &str = r#"lookup 0 5|MAP|0 coolstuff.js:0:4 name=x
@@ -165,7 +166,13 @@ Trace a.txt
 compile --with-contents
 compile --without-contents --without-contents
 --without-contents compile
-Compile";
+Compile
+check --lines
+check --strict --json
+check --json --json
+check --json --strict --strict
+--json check
+Check";
 
 pub fn words_of(alloc: Global, line: &str) -> Result<Vec<String>, AllocError> {
     let mut words = Vec::new(alloc);
@@ -309,6 +316,14 @@ fn words_ask_for_commands(rt: HostRuntime) -> Result<(), Fail> {
     assert!(rt; ask_for(alloc, "compile", Some(command))?);
     let command = Command::Compile(WithContents::No);
     assert!(rt; ask_for(alloc, "compile --without-contents", Some(command))?);
+    let command = Command::Check(Form::Lines, Strictness::Usual);
+    assert!(rt; ask_for(alloc, "check", Some(command))?);
+    let command = Command::Check(Form::Json, Strictness::Usual);
+    assert!(rt; ask_for(alloc, "check --json", Some(command))?);
+    let command = Command::Check(Form::Lines, Strictness::Strict);
+    assert!(rt; ask_for(alloc, "check --strict", Some(command))?);
+    let command = Command::Check(Form::Json, Strictness::Strict);
+    assert!(rt; ask_for(alloc, "check --json --strict", Some(command))?);
     assert!(rt; ask_for(alloc, "tokens tokens", None)?);
     Ok(())
 }

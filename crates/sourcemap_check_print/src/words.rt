@@ -1,8 +1,13 @@
 //! The key and the sentence of each rule.
+ghost use Rattle.std.specs.Prelude.{◌≡◌};
+ghost use Rattle.sourcemap_check_print.specs.Words.{map_key, map_sentence, section_key, section_sentence, segment_sentence, sentence};
+
 use sourcemap_check_report::rules::{MapRule, Rule, SectionRule, SegmentRule};
 
 /// The key of a map that the rule is on.
-pub fn map_key(rule: MapRule) -> &'static str {
+pub(crate) fn map_key(rule: MapRule) -> &'static str
+    ensures { result.now ≡ map_key rule }
+{
     match rule {
         MapRule::VersionMissing => "version",
         MapRule::VersionType => "version",
@@ -24,7 +29,9 @@ pub fn map_key(rule: MapRule) -> &'static str {
 }
 
 /// The key of a section that the rule is on, behind the section itself.
-pub fn section_key(rule: SectionRule) -> &'static str {
+pub(crate) fn section_key(rule: SectionRule) -> &'static str
+    ensures { result.now ≡ section_key rule }
+{
     match rule {
         SectionRule::SectionType => "",
         SectionRule::OffsetMissing => ".offset",
@@ -38,7 +45,9 @@ pub fn section_key(rule: SectionRule) -> &'static str {
     }
 }
 
-fn map_sentence(rule: MapRule) -> &'static str {
+fn map_sentence(rule: MapRule) -> &'static str
+    ensures { result.now ≡ map_sentence rule }
+{
     match rule {
         MapRule::VersionMissing => "there is no version",
         MapRule::VersionType => "version is no number",
@@ -60,7 +69,9 @@ fn map_sentence(rule: MapRule) -> &'static str {
     }
 }
 
-fn section_sentence(rule: SectionRule) -> &'static str {
+fn section_sentence(rule: SectionRule) -> &'static str
+    ensures { result.now ≡ section_sentence rule }
+{
     match rule {
         SectionRule::SectionType => "the section is no object",
         SectionRule::OffsetMissing => "there is no offset",
@@ -74,7 +85,9 @@ fn section_sentence(rule: SectionRule) -> &'static str {
     }
 }
 
-fn segment_sentence(rule: SegmentRule) -> &'static str {
+fn segment_sentence(rule: SegmentRule) -> &'static str
+    ensures { result.now ≡ segment_sentence rule }
+{
     match rule {
         SegmentRule::ForeignByte => "a byte is no digit of base64",
         SegmentRule::CutNumber => "the segment ends within a number",
@@ -91,7 +104,9 @@ fn segment_sentence(rule: SegmentRule) -> &'static str {
 }
 
 /// A sentence that says how the rule is broken.
-pub fn sentence(rule: Rule) -> &'static str {
+pub(crate) fn sentence(rule: Rule) -> &'static str
+    ensures { result.now ≡ sentence rule }
+{
     match rule {
         Rule::NotJson => "the bytes are no JSON text",
         Rule::NotObject => "the JSON value is no object",

@@ -1,0 +1,3 @@
+pub mod PlacesLemmas
+pub mod PrintLemmas
+pub mod TextLemmas

@@ -1,0 +1,5 @@
+pub mod Json
+pub mod Lines
+pub mod Places
+pub mod Print
+pub mod Words

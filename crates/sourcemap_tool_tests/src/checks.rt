@@ -1,0 +1,94 @@
+// Runs of `check`.
+use crate::compiled::check_run;
+use crate::runs::MAP;
+use sourcemap_test_support::checks::Checked;
+
+// An index map with two sections. The first has a map without a version, whose second line has the
+// segments `g` and `F`. The second has no map, and starts where the first starts.
+const INVALID: &str =
+    r#"{"version":3,"sections":[{"offset":{"line":0,"column":0},"map":{"sources":[],"mappings":"A;g,F"}},{"offset":{"line":0,"column":0}}]}"#;
+
+const LINES: &str = "MAP:sections[0].map.version: SM103 there is no version
+MAP:sections[0].map.mappings 1:0: SM132 the segment ends within a number
+MAP:sections[0].map.mappings 1:1: SM135 the generated column is below 0
+MAP:sections[1].map: SM128 there is no map
+MAP:sections[1].offset: SM120 the section overlaps the one before it
+5 invalid, 5 shown";
+
+const JSON: &str = concat!(
+    r#"{"counts":{"invalid":5,"shown":5},"findings":["#,
+    r#"{"code":"SM103","key":"version","position":null,"sections":[0],"#,
+    r#""sentence":"there is no version","severity":"invalid"},"#,
+    r#"{"code":"SM132","key":"mappings","position":{"index":0,"line":1},"sections":[0],"#,
+    r#""sentence":"the segment ends within a number","severity":"invalid"},"#,
+    r#"{"code":"SM135","key":"mappings","position":{"index":1,"line":1},"sections":[0],"#,
+    r#""sentence":"the generated column is below 0","severity":"invalid"},"#,
+    r#"{"code":"SM128","key":"sections[1].map","position":null,"sections":[],"#,
+    r#""sentence":"there is no map","severity":"invalid"},"#,
+    r#"{"code":"SM120","key":"sections[1].offset","position":null,"sections":[],"#,
+    r#""sentence":"the section overlaps the one before it","severity":"invalid"}]}"#,
+);
+
+// The map in the second section of the map in the only section has names that are no list.
+const NESTED: &str =
+    r#"{"version":3,"sections":[{"offset":{"line":0,"column":0},"map":{"version":3,"sections":[{"offset":{"line":0,"column":0},"map":{"version":3,"sources":[],"mappings":""}},{"offset":{"line":1,"column":0},"map":{"version":3,"sources":[],"mappings":"","names":0}}]}}]}"#;
+
+// Words, a map, and the status and output of the run.
+static RUNS: [(&str, &str, u8, &str); 13] = [
+    ("check", INVALID, 1, LINES),
+    ("check --strict", INVALID, 1, LINES),
+    ("check --json", INVALID, 1, JSON),
+    ("check --json --strict", INVALID, 1, JSON),
+    ("check", MAP, 0, "0 invalid, 0 shown"),
+    ("check --strict", MAP, 0, "0 invalid, 0 shown"),
+    (
+        "check --json",
+        MAP,
+        0,
+        r#"{"counts":{"invalid":0,"shown":0},"findings":[]}"#,
+    ),
+    (
+        "check",
+        NESTED,
+        1,
+        "MAP:sections[0].map.sections[1].map.names: SM111 names is no list of texts\n1 invalid, 1 shown",
+    ),
+    (
+        "check --json",
+        NESTED,
+        1,
+        r#"{"counts":{"invalid":1,"shown":1},"findings":[{"code":"SM111","key":"names","position":null,"sections":[0,1],"sentence":"names is no list of texts","severity":"invalid"}]}"#,
+    ),
+    (
+        "check",
+        "",
+        1,
+        "MAP:: SM101 the bytes are no JSON text\n1 invalid, 1 shown",
+    ),
+    (
+        "check --json",
+        "[]",
+        1,
+        r#"{"counts":{"invalid":1,"shown":1},"findings":[{"code":"SM102","key":"","position":null,"sections":[],"sentence":"the JSON value is no object","severity":"invalid"}]}"#,
+    ),
+    (
+        "check",
+        r#"{"version":3,"sources":[],"mappings":"AA"}"#,
+        1,
+        "MAP:mappings 0:0: SM133 the segment does not have 1, 4 or 5 numbers\n1 invalid, 1 shown",
+    ),
+    (
+        "check --json",
+        r#"{"version":"3","sources":[],"mappings":""}"#,
+        1,
+        r#"{"counts":{"invalid":1,"shown":1},"findings":[{"code":"SM104","key":"version","position":null,"sections":[],"sentence":"version is no number","severity":"invalid"}]}"#,
+    ),
+];
+
+#[test]
+fn reports_are_printed(rt: HostRuntime) -> Checked {
+    for (line, map, status, text) in RUNS.iter() {
+        check_run(&rt, line, map.as_bytes(), *status, text)?;
+    }
+    Ok(())
+}
