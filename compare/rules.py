@@ -526,9 +526,13 @@ def is_valid(data):
 
 
 def outcome_of(words, data, file=b''):
-    """The exit status and the output of a run. The output is None for a report, which checked.py compares."""
+    """The exit status and the output of a run. The output is None for a report, which checked.py compares. None if the
+    rules do not say the status."""
     if words in CHECKS:
-        return 0 if is_valid(data) else 1, None
+        if not is_valid(data):
+            return 1, None
+        # what looks wrong fails a strict check
+        return None if '--strict' in words else (0, None)
     try:
         output = output_of(words, data, file)
     except Refusal as refused:

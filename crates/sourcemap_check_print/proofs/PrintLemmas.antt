@@ -1,20 +1,36 @@
--- A report without findings is that of a valid map.
-use Rattle.std.proofs.Common.{◌≡◌, ◌↔◌, ◌==◌, Bool, IsTrue, List, [], ◌∷◌, length, refl, sym, ap, ◌∙◌}
-use Rattle.std.proofs.lemmas.Bool.{eqb-true}
-use Rattle.std.proofs.lemmas.List.{nil_from_length}
+-- What a report says of a map.
+use Rattle.std.proofs.Common.{◌≡◌, ◌↔◌, ◌==◌, ℕ, zero, suc, Bool, true, false, List, [], ◌∷◌, length, refl, sym, ap, ◌∙◌}
+use Rattle.std.specs.Prelude.{Option}
+use Rattle.sourcemap_check.specs.Validity.{IsValid}
 use Rattle.sourcemap_check_report.specs.Report.{first_of_each}
 use Rattle.sourcemap_check_report.specs.declared.report.Finding.{Finding}
+use Rattle.sourcemap_check_suspicious.specs.declared.suspects.Suspects.{Suspects}
+use Rattle.sourcemap_check_print.specs.Print.{AreShown, HasVerdict, has_none, verdict_of}
 use Rattle.sourcemap_check_print.specs.declared.print.TheConstants.{MOST}
 
 -- the first finding is kept
-none_found : (all : List Finding) → first_of_each MOST [] all ≡ [] → all ≡ []
-none_found [] none = refl
-none_found (finding ∷ findings) none = absurd cc
+none_kept : (all : List Finding) → (length (first_of_each MOST [] all) == 0) ≡ has_none all
+none_kept [] = refl
+none_kept (finding ∷ findings) = refl
 
 -- let `kept` be the findings of a report on `all`, and `is_valid` whether there are none
-pub valid_if_none : (all kept : List Finding) (is_valid : Bool) (Valid : Type 0) → kept ≡ first_of_each MOST [] all
-    → is_valid ≡ (length kept == 0) → ((all ≡ []) ↔ Valid) → (IsTrue is_valid) ↔ Valid
-valid_if_none all kept is_valid Valid are is decided = (
-  λ valid. decided.0 (none_found all (sym are ∙ nil_from_length kept (eqb-true _ _ (sym is ∙ valid)))),
-  λ valid. is ∙ ap (λ found. length found == 0) (are ∙ ap (first_of_each MOST []) (decided.1 valid)),
-)
+pub none_found : (all kept : List Finding) (is_valid : Bool) → kept ≡ first_of_each MOST [] all
+    → is_valid ≡ (length kept == 0) → is_valid ≡ has_none all
+none_found all kept is_valid are is = is ∙ ap (λ found. length found == 0) are ∙ none_kept all
+
+nil_if_none : (all : List Finding) → has_none all ≡ true → all ≡ []
+nil_if_none [] is = refl
+nil_if_none (finding ∷ findings) is = absurd cc
+
+pub verdict_holds : (all : List Finding) (is_valid : Bool) (bytes : List ℕ) (generated : Option (List ℕ))
+    (found : Suspects) → is_valid ≡ has_none all → ((all ≡ []) ↔ (IsValid bytes))
+    → AreShown is_valid bytes generated found → HasVerdict (verdict_of is_valid found.count) bytes generated
+verdict_holds all false bytes generated found is decided shown =
+    λ valid. let no : false ≡ true = is ∙ ap has_none (decided.1 valid) in cc
+verdict_holds all true bytes generated found is decided shown = by_count found.count refl
+  where
+    valid : IsValid bytes
+    valid = decided.0 (nil_if_none all (sym is))
+    by_count : (count : ℕ) → found.count ≡ count → HasVerdict (verdict_of true count) bytes generated
+    by_count zero e = (valid, record { found = found; are = shown; count_is = e })
+    by_count (suc count) e = (valid, (count, record { found = found; are = shown; count_is = e }))

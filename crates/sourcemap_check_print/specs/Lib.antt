@@ -1,5 +1,7 @@
+pub mod Entries
 pub mod Json
 pub mod Lines
 pub mod Places
 pub mod Print
+pub mod Suspicions
 pub mod Words

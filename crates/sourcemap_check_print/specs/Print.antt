@@ -1,24 +1,68 @@
 -- The report of a check, as it is printed.
-use Rattle.std.specs.Prelude.{◌≡◌, ℕ, List}
-use Rattle.sourcemap_check.specs.Validity.{AreFindings, ArePlaces}
+use Rattle.std.specs.Prelude.{◌≡◌, ¬◌, ℕ, zero, suc, ◌+◌, ◌<◌, Bool, true, false, List, [], ◌∷◌, fold, min, Option}
+use Rattle.sourcemap_check.specs.Validity.{AreFindings, ArePlaces, IsValid}
 use Rattle.sourcemap_check.specs.declared.tree.Checked.{Checked}
 use Rattle.sourcemap_check_report.specs.Report.{Reports}
 use Rattle.sourcemap_check_report.specs.declared.report.Finding.{Finding}
+use Rattle.sourcemap_check_report.specs.declared.report.Report.{Report}
+use Rattle.sourcemap_check_suspicious.specs.Suspects.{AreSuspectsOf}
+use Rattle.sourcemap_check_suspicious.specs.declared.suspects.Suspects.{Suspects}
+use Rattle.sourcemap_check_print.specs.Entries.{entries}
 use Rattle.sourcemap_check_print.specs.Json.{json_text}
 use Rattle.sourcemap_check_print.specs.Lines.{lines_text}
+use Rattle.sourcemap_check_print.specs.declared.print.Counts.{Counts}
 use Rattle.sourcemap_check_print.specs.declared.print.Form.{Form}
 use Rattle.sourcemap_check_print.specs.declared.print.Form.TheVariants.{Lines, Json}
 use Rattle.sourcemap_check_print.specs.declared.print.TheConstants.{MOST}
+use Rattle.sourcemap_check_print.specs.declared.print.Verdict.{Verdict}
+use Rattle.sourcemap_check_print.specs.declared.print.Verdict.TheVariants.{Invalid, Suspicious, Right}
 
-abbrev pub report_text : Form → Checked → List ℕ
-report_text Lines checked = lines_text checked
-report_text Json checked = json_text checked
+-- how many findings there are. The number stops at 18446744073709551615
+abbrev pub total : Report → ℕ
+total report = fold (λ sum count. min (sum + count) 18446744073709551615) 0 report.counts
 
--- the text is the report on these bytes: of their findings `MOST` are shown of each rule, and all are counted
-pub record IsReportOf (form : Form) (bytes text : List ℕ) : Type 0 where
+abbrev pub counts_of : Checked → Suspects → Counts
+counts_of checked found = record { invalid = total checked.report; suspicious = found.count }
+
+abbrev pub report_text : Form → Checked → Suspects → List ℕ
+report_text Lines checked found =
+    lines_text checked.maps.items (entries checked.report.findings.items found.first.items) (counts_of checked found)
+report_text Json checked found =
+    json_text checked.maps.items (entries checked.report.findings.items found.first.items) (counts_of checked found)
+
+-- what looks wrong is shown of a valid map alone
+abbrev pub AreShown : (is_valid : Bool) → (bytes : List ℕ) → (generated : Option (List ℕ)) → Suspects → Type 0
+AreShown true bytes generated found = AreSuspectsOf MOST bytes generated found
+AreShown false bytes generated found = (found.first.items ≡ []) × (found.count ≡ 0)
+
+abbrev pub has_none : List Finding → Bool
+has_none [] = true
+has_none (finding ∷ findings) = false
+
+-- the text is the report on these bytes: of their findings, and of what looks wrong, `MOST` are shown of each code, and
+-- all are counted
+pub record IsReportOf (form : Form) (bytes : List ℕ) (generated : Option (List ℕ)) (text : List ℕ) : Type 0 where
   pub all : List Finding
   pub checked : Checked
+  pub found : Suspects
   pub findings : AreFindings bytes all
   pub reports : Reports MOST all checked.report
   pub places : ArePlaces bytes checked.maps.items
-  pub printed : text ≡ report_text form checked
+  pub shown : AreShown (has_none all) bytes generated found
+  pub printed : text ≡ report_text form checked found
+
+abbrev pub verdict_of : (is_valid : Bool) → (count : ℕ) → Verdict
+verdict_of false count = Invalid
+verdict_of true zero = Right
+verdict_of true (suc count) = Suspicious
+
+-- so much looks wrong
+pub record LookWrong (bytes : List ℕ) (generated : Option (List ℕ)) (count : ℕ) : Type 0 where
+  pub found : Suspects
+  pub are : AreSuspectsOf MOST bytes generated found
+  pub count_is : found.count ≡ count
+
+abbrev pub HasVerdict : Verdict → (bytes : List ℕ) → (generated : Option (List ℕ)) → Type 0
+HasVerdict Invalid bytes generated = ¬ IsValid bytes
+HasVerdict Suspicious bytes generated = IsValid bytes × ((count : ℕ) × LookWrong bytes generated (suc count))
+HasVerdict Right bytes generated = IsValid bytes × LookWrong bytes generated 0

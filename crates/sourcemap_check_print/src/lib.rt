@@ -2,10 +2,12 @@
 //! nothing of command lines, readers and writers.
 #![tactic(auto)]
 
+mod entries;
 mod json;
 mod lines;
 mod places;
 pub mod print;
+mod suspicions;
 mod words;
 
-pub use print::{CheckText, Form, check_text};
+pub use print::{CheckText, Form, Verdict, check_text};

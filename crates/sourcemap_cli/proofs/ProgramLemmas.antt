@@ -1,5 +1,5 @@
 -- If the results of calls are as specified, so is the reply. If the reply is as specified, so is the output of a run.
-use Rattle.std.proofs.Common.{◌≡◌, ◌≢◌, ◌↔◌, ◌⊎◌, inl, inr, refl, sym, ap, subst, ◌∙◌, ℕ, List, [], ◌++◌, codes, Bool, true, false, IsTrue, if◌then◌else◌, Option, Some, None, option_map, Result, Ok, Err, IfSome, IsOkAnd, MatchOption, MatchResult, IfOk, string_bytes, String, Global, Vec}
+use Rattle.std.proofs.Common.{◌≡◌, ◌≢◌, ◌⊎◌, inl, inr, refl, sym, ap, subst, ◌∙◌, ℕ, List, [], ◌++◌, codes, Bool, true, false, if◌then◌else◌, Option, Some, None, option_map, Result, Ok, Err, IfSome, IsOkAnd, MatchOption, MatchResult, IfOk, string_bytes, String, Global, Vec}
 use Rattle.std.specs.IoError.{error_kind}
 use Rattle.std.specs.declared.io.Error.{Error as IoError}
 use Rattle.std.specs.declared.io.ErrorKind.TheVariants.{OutOfMemory as NoMemory}
@@ -26,14 +26,12 @@ use Rattle.sourcemap_cache.specs.Compile.{CompileAnswer}
 use Rattle.sourcemap_cache.specs.declared.errors.CompileError.{CompileError}
 use Rattle.sourcemap_cache.specs.declared.errors.CompileError.TheVariants.{Map, TooLarge}
 use Rattle.sourcemap_cache.specs.declared.parts.WithContents.{WithContents}
-use Rattle.sourcemap_check.specs.Validity.{IsValid}
-use Rattle.sourcemap_check_print.specs.Print.{IsReportOf}
 use Rattle.sourcemap_check_print.specs.declared.print.Form.{Form}
 use Rattle.sourcemap_trace.specs.Asked.{compiled_says}
 use Rattle.sourcemap_cli.specs.Command.{AskFor, IsOfMaps, IsQuestion, IsSameCommand, TakesAdjustment}
 use Rattle.sourcemap_cli.specs.Compiled.{IsFaultOf, compiled_line}
 use Rattle.sourcemap_cli.specs.Lines.{newline}
-use Rattle.sourcemap_cli.specs.Program.{AreApplied, AskForNone, IsCheckReply, ReturnsBy, ReturnsElse, ReturnsOnBytes, Ending, answered, rejected, misused, Ends, EndsOn, is_applied, IsCompileReply, IsRefusedReply, RepliesOn, FileDecodes, MayBeRead, MayEnd, IsCutShort, IsReply, IsReplyOf, IsReplyTo, IsPrinted, IsRefusal, IsWriteError, IsLookupLine, IsJsonLine, IsNotIndex, PrintsMap, Runs, Returns, ReturnsWithFile, ShiftAnswer, WithFile, adjusted_by, file_read, found_text, rewritten_leaf, traced}
+use Rattle.sourcemap_cli.specs.Program.{AreApplied, AskForNone, IsCheckReply, ReturnsBy, ReturnsElse, ReturnsOnBytes, Ending, answered, rejected, misused, Ends, EndsOn, is_applied, IsCompileReply, IsRefusedReply, RepliesOn, FileDecodes, MayBeRead, MayEnd, IsCutShort, IsReply, IsReplyOf, IsReplyTo, IsPrinted, IsRefusal, IsWriteError, IsLookupLine, IsJsonLine, IsNotIndex, PrintsMap, Runs, Returns, ReturnsWithFile, ShiftAnswer, WithFile, adjusted_by, file_read, found_text, passes, rewritten_leaf, traced}
 use Rattle.sourcemap_cli.specs.declared.command.Command.{Command}
 use Rattle.sourcemap_cli.specs.declared.command.Command.TheVariants.{Check, Compile, Compose, Flatten, Lookup, Rewrite, Shift, Tokens, Trace}
 use Rattle.sourcemap_cli.specs.declared.command.Strictness.{Strictness}
@@ -327,27 +325,21 @@ questions_left (Compile contents) bytes is no_compile no_check = absurd (no_comp
 questions_left (Check form strictness) bytes is no_compile no_check = absurd (no_check form strictness refl)
 questions_left command bytes is no_compile no_check = absurd cc
 
--- the status of a report is that of the map
-pub check_replies : (form : Form) (bytes : List ℕ) (is_valid : Bool) (reply : Reply)
-    → IsReportOf form bytes reply.output.items → ((IsTrue is_valid) ↔ (IsValid bytes))
-    → reply.status ≡ (if is_valid then 0 else 1) → IsCheckReply form bytes reply
-check_replies form bytes true reply report decided status =
-    record { report = report; valid = inl (decided.0 refl, status) }
-check_replies form bytes false reply report decided status =
-    record { report = report; valid = inr (λ valid. let no = decided.1 valid in cc, status) }
-
--- a report is printed, with the status of the map
+-- a report is printed, with the status of the check
 pub reply_of_check : (form : Form) (strictness : Strictness) (bytes : List ℕ) (file : Result (List ℕ) Error)
-    (r : Result Reply Error) → MatchResult r (IsCheckReply form bytes) (λ e. e ≡ OutOfMemory)
+    (r : Result Reply Error) → MatchResult r (IsCheckReply form strictness bytes) (λ e. e ≡ OutOfMemory)
     → MatchResult r (RepliesOn (Check form strictness) bytes file) (λ e. e ≡ OutOfMemory)
 reply_of_check form strictness bytes file (Err e) is = is
-reply_of_check form strictness bytes file (Ok reply) is = by_status is.valid
+reply_of_check form strictness bytes file (Ok reply) is = by_status (passes strictness is.verdict) refl
   where
-    by_status : (IsValid bytes × (reply.status ≡ 0)) ⊎ ((¬ IsValid bytes) × (reply.status ≡ 1))
+    by_status : (passing : Bool) → passes strictness is.verdict ≡ passing
         → RepliesOn (Check form strictness) bytes file reply
-    by_status (inl (valid, status)) = (answered (Ok reply.output.items), (valid, is.report), (refl, status))
-    by_status (inr (invalid, status)) =
-        (rejected reply.output.items, (refl, (invalid, is.report)), (refl, status))
+    by_status true passing =
+        let status : reply.status ≡ 0 = is.status_is ∙ ap (λ b. if b then 0 else 1) passing in
+        (answered (Ok reply.output.items), ((is.verdict, (is.has_verdict, passing)), is.report), (refl, status))
+    by_status false failing =
+        let status : reply.status ≡ 1 = is.status_is ∙ ap (λ b. if b then 0 else 1) failing in
+        (rejected reply.output.items, (refl, ((is.verdict, (is.has_verdict, failing)), is.report)), (refl, status))
 
 -- a damaged compiled map is refused
 pub reply_of_fault : (command : Command) (bytes : List ℕ) (file : Result (List ℕ) Error) (e : CompiledMapError)

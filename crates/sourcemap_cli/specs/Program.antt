@@ -23,9 +23,10 @@ use Rattle.sourcemap_compiled.specs.Soundness.{IsSound}
 use Rattle.sourcemap_cache.specs.Errors.{error_text as compile_error_text}
 use Rattle.sourcemap_cache.specs.declared.errors.CompileError.{CompileError}
 use Rattle.sourcemap_cache.specs.declared.errors.CompileError.TheVariants.{Map, TooLarge}
-use Rattle.sourcemap_check.specs.Validity.{IsValid}
-use Rattle.sourcemap_check_print.specs.Print.{IsReportOf}
+use Rattle.sourcemap_check_print.specs.Print.{HasVerdict, IsReportOf}
 use Rattle.sourcemap_check_print.specs.declared.print.Form.{Form}
+use Rattle.sourcemap_check_print.specs.declared.print.Verdict.{Verdict}
+use Rattle.sourcemap_check_print.specs.declared.print.Verdict.TheVariants.{Invalid, Suspicious, Right}
 use Rattle.sourcemap_trace.specs.Asked.{compiled_says}
 use Rattle.sourcemap_trace.specs.Positions.{first_of}
 use Rattle.sourcemap_trace.specs.Trace.{meaning_text, trace_from}
@@ -34,6 +35,8 @@ use Rattle.sourcemap_cli.specs.Compiled.{CompilesTo, IsRefusedCompiled, IsTooLar
 use Rattle.sourcemap_cli.specs.Lines.{IsLineOf, newline}
 use Rattle.sourcemap_cli.specs.declared.command.Command.{Command}
 use Rattle.sourcemap_cli.specs.declared.command.Command.TheVariants.{Lookup, Tokens, Rewrite, Flatten, Compose, Shift, Trace, Compile, Check}
+use Rattle.sourcemap_cli.specs.declared.command.Strictness.{Strictness}
+use Rattle.sourcemap_cli.specs.declared.command.Strictness.TheVariants.{Usual, Strict}
 use Rattle.sourcemap_cli.specs.declared.program.Reply.{Reply}
 
 abbrev pub usage_text : List ℕ
@@ -152,6 +155,18 @@ is_applied (Compile _) bytes = false
 is_applied (Check _ _) bytes = false
 is_applied _ bytes = true
 
+-- whether a verdict lets a check pass. What looks wrong fails a strict check
+abbrev pub passes : Strictness → Verdict → Bool
+passes strictness Invalid = false
+passes Usual Suspicious = true
+passes Strict Suspicious = false
+passes strictness Right = true
+
+-- the bytes have a verdict that lets the check pass, or not
+abbrev pub Judges : (passing : Bool) → Strictness → (bytes : List ℕ) → Type 0
+Judges passing strictness bytes =
+    (verdict : Verdict) × HasVerdict verdict bytes None × (passes strictness verdict ≡ passing)
+
 -- the output of a command that is not applied to a decoded map. A compiled map is looked up only if it is sound
 abbrev pub ReturnsElse : Command → (bytes : List ℕ) → (file : Result (List ℕ) Error) → Result (List ℕ) Error → Type 0
 ReturnsElse (Lookup counting line col) bytes file answer =
@@ -159,7 +174,8 @@ ReturnsElse (Lookup counting line col) bytes file answer =
 ReturnsElse (Trace counting _) bytes file answer =
     IsSound bytes × (answer ≡ traced (first_of counting) (compiled_says bytes) file)
 ReturnsElse (Compile contents) bytes file answer = Then (BytesDecode bytes) (λ t a. CompilesTo contents t a) answer
-ReturnsElse (Check form _) bytes file answer = IsValid bytes × IsOkAnd answer (IsReportOf form bytes)
+ReturnsElse (Check form strictness) bytes file answer =
+    Judges true strictness bytes × IsOkAnd answer (IsReportOf form bytes None)
 ReturnsElse _ bytes file answer = ⊥
 
 -- the output of a command, or the first error
@@ -169,12 +185,12 @@ ReturnsBy true command bytes file answer = ReturnsOnBytes command bytes file ans
 ReturnsBy false command bytes file answer = ReturnsElse command bytes file answer
 
 -- a command that is not applied to a decoded map is refused with this text: the compiled map is damaged, the map is too
--- large to be compiled, or it is not valid
+-- large to be compiled, or the check fails
 abbrev pub Refuses : Command → (bytes : List ℕ) → (text : List ℕ) → Type 0
 Refuses (Lookup _ _ _) bytes text = IsRefusedCompiled bytes text
 Refuses (Trace _ _) bytes text = IsRefusedCompiled bytes text
 Refuses (Compile contents) bytes text = IsTooLarge contents bytes text
-Refuses (Check form _) bytes text = (¬ IsValid bytes) × IsReportOf form bytes text
+Refuses (Check form strictness) bytes text = Judges false strictness bytes × IsReportOf form bytes None text
 Refuses _ bytes text = ⊥
 
 -- Definitions for runs that are given words and the bytes of a map. For `compose` and `trace`, a run is also given the
@@ -238,10 +254,12 @@ IsReplyTo words bytes file reply = (ending : Ending) × Ends words bytes file en
 abbrev pub IsRefusedReply : (known : Option (List ℕ)) → Reply → Type 0
 IsRefusedReply known reply = IsLineOf known reply.output.items × (reply.status ≡ 1)
 
--- the reply for a report: its status is 0 if the map is valid, otherwise 1
-pub record IsCheckReply (form : Form) (bytes : List ℕ) (reply : Reply) : Type 0 where
-  pub report : IsReportOf form bytes reply.output.items
-  pub valid : (IsValid bytes × (reply.status ≡ 0)) ⊎ ((¬ IsValid bytes) × (reply.status ≡ 1))
+-- the reply for a report: its status is 0 if the check passes, otherwise 1
+pub record IsCheckReply (form : Form) (strictness : Strictness) (bytes : List ℕ) (reply : Reply) : Type 0 where
+  pub report : IsReportOf form bytes None reply.output.items
+  pub verdict : Verdict
+  pub has_verdict : HasVerdict verdict bytes None
+  pub status_is : reply.status ≡ (if passes strictness verdict then 0 else 1)
 
 -- the reply for what `compile` returned; there is no reply for `OutOfMemory`
 abbrev pub IsCompileReply : Result (List ℕ) CompileError → Reply → Type 0

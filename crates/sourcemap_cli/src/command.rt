@@ -19,7 +19,7 @@ const WITHOUT_CONTENTS: &str = "--without-contents";
 // The word that prints a report as JSON.
 const JSON: &str = "--json";
 
-// The word that makes every finding fail a check.
+// The word that makes what looks wrong fail a check, too.
 const STRICT: &str = "--strict";
 
 /// Which findings make a check fail.
@@ -27,7 +27,7 @@ const STRICT: &str = "--strict";
 pub enum Strictness {
     /// Those that make a map invalid.
     Usual,
-    /// All findings.
+    /// Also those of what looks wrong.
     Strict,
 }
 

@@ -16,9 +16,9 @@ ghost use Rattle.sourcemap_cli.specs.Command.{IsQuestion};
 ghost use Rattle.sourcemap_cli.specs.Lines.{IsLineOf};
 ghost use Rattle.sourcemap_cli.specs.declared.command.Command.TheVariants.{Compile, Compose};
 ghost use Rattle.sourcemap_cli.specs.declared.program.Reply.{Reply};
-ghost use Rattle.sourcemap_cli.specs.Program.{AreApplied, AskForNone, Ending, Ends, IsCheckReply, IsCompileReply, IsCutShort, IsPrinted, IsRefusedReply, IsReply, IsReplyOf, IsReplyTo, IsWriteError, PrintsRefusal, RepliesOn, ReturnsElse, ReturnsOnBytes, ReturnsWithFile, Runs, WithFile, file_read, is_applied, misused, traced};
+ghost use Rattle.sourcemap_cli.specs.Program.{AreApplied, AskForNone, Ending, Ends, IsCheckReply, IsCompileReply, IsCutShort, IsPrinted, IsRefusedReply, IsReply, IsReplyOf, IsReplyTo, IsWriteError, PrintsRefusal, RepliesOn, ReturnsElse, ReturnsOnBytes, ReturnsWithFile, Runs, WithFile, file_read, is_applied, misused, passes, traced};
 
-use crate::command::{Command, parse_words};
+use crate::command::{Command, Strictness, parse_words};
 use crate::compiled::{compiled_line, is_applied, sound_map};
 use crate::files::{decode_file, read_command_file};
 use crate::output::{adjusted_json, apply};
@@ -27,7 +27,7 @@ use sourcemap::{DecodedMap, Error, Result};
 use sourcemap_cache::compiling::compile;
 use sourcemap_cache::errors::CompileError;
 use sourcemap_cache::parts::WithContents;
-use sourcemap_check_print::print::{CheckText, Form, check_text};
+use sourcemap_check_print::print::{CheckText, Form, Verdict, check_text};
 use sourcemap_compiled::map::CompiledMap;
 use sourcemap_records::bytes::read_all;
 use sourcemap_trace::{AskedMap, Counting, trace_text_from};
@@ -194,18 +194,30 @@ fn compile_reply(alloc: Global, bytes: Vec<u8>, contents: WithContents) -> Resul
     }
 }
 
-fn check_reply(alloc: Global, bytes: &[u8], form: Form) -> Result<Reply>
-    ensures { MatchResult result (IsCheckReply form bytes.now) (λ e. e ≡ OutOfMemory) }
+fn check_reply(
+    alloc: Global,
+    bytes: &[u8],
+    form: Form,
+    strictness: Strictness,
+) -> Result<Reply>
+    ensures { MatchResult result
+        (IsCheckReply form strictness bytes.now)
+        (λ e. e ≡ OutOfMemory) }
 {
-    let report = check_text(alloc, bytes, form)?;
-    let CheckText { text, is_valid } = report;
-    Ok(text_reply(text, validity_status(is_valid)))
+    let report = check_text(alloc, bytes, None, form)?;
+    let CheckText { text, verdict } = report;
+    Ok(text_reply(text, check_status(strictness, verdict)))
 }
 
-fn validity_status(is_valid: bool) -> u8
-    ensures { result ≡ (if is_valid then 0 else 1) }
+fn check_status(strictness: Strictness, verdict: Verdict) -> u8
+    ensures { result ≡ (if passes strictness verdict then 0 else 1) }
 {
-    if is_valid { 0 } else { 1 }
+    match (verdict, strictness) {
+        (Verdict::Invalid, _) => 1,
+        (Verdict::Suspicious, Strictness::Strict) => 1,
+        (Verdict::Suspicious, Strictness::Usual) => 0,
+        (Verdict::Right, _) => 0,
+    }
 }
 
 // The answer of a compiled map.
@@ -261,7 +273,9 @@ fn reply_without_map(
 {
     match command {
         Command::Compile(contents) => compile_reply(alloc, bytes, *contents),
-        Command::Check(form, _) => check_reply(alloc, bytes.as_slice(), *form),
+        Command::Check(form, strictness) => {
+            check_reply(alloc, bytes.as_slice(), *form, *strictness)
+        }
         command => compiled_reply(alloc, command, bytes.as_slice(), file),
     }
 }
@@ -273,14 +287,14 @@ fn reply_without_map(
 ///
 /// - Status 0: the output of the command, as returned by `apply`, for `Trace` by `trace_text_from`,
 ///   for `Compile` by `sourcemap_cache::compile`, and for `Check` by `check_text` of
-///   `sourcemap_check_print`, if the map is valid. All findings are of invalid maps so far, so
-///   `Strictness` changes nothing.
+///   `sourcemap_check_print`, if the check passes: if the map is valid, and for `Strict` nothing
+///   looks wrong.
 /// - Status 1: the text of the first error and a newline. Errors are checked in this order:
 ///   `decode_slice` returns an error for `bytes`; the file could not be read; the file of `Compose`
 ///   does not decode; the command returns an error. An `Io` error says that a junk header is
 ///   invalid, or that the file could not be read. std does not specify the text of an `Io` error.
 ///   A compiled map is refused with the error of `CompiledMap::parse` or of `verify`.
-///   For `Check`, 1 also says that the map is not valid; the output is the report all the same.
+///   For `Check`, 1 also says that the check fails; the output is the report all the same.
 /// - Status 2: the usage, for words that are no command.
 ///
 /// The only error is `OutOfMemory`. No reply reports this error, even if `file` is

@@ -13,10 +13,10 @@ MAP:sections[0].map.mappings 1:0: SM132 the segment ends within a number
 MAP:sections[0].map.mappings 1:1: SM135 the generated column is below 0
 MAP:sections[1].map: SM128 there is no map
 MAP:sections[1].offset: SM120 the section overlaps the one before it
-5 invalid, 5 shown";
+5 invalid, 0 suspicious, 5 shown";
 
 const JSON: &str = concat!(
-    r#"{"counts":{"invalid":5,"shown":5},"findings":["#,
+    r#"{"counts":{"invalid":5,"shown":5,"suspicious":0},"findings":["#,
     r#"{"code":"SM103","key":"version","position":null,"sections":[0],"#,
     r#""sentence":"there is no version","severity":"invalid"},"#,
     r#"{"code":"SM132","key":"mappings","position":{"index":0,"line":1},"sections":[0],"#,
@@ -33,55 +33,104 @@ const JSON: &str = concat!(
 const NESTED: &str =
     r#"{"version":3,"sections":[{"offset":{"line":0,"column":0},"map":{"version":3,"sections":[{"offset":{"line":0,"column":0},"map":{"version":3,"sources":[],"mappings":""}},{"offset":{"line":1,"column":0},"map":{"version":3,"sources":[],"mappings":"","names":0}}]}}]}"#;
 
+// A map of which nothing looks wrong.
+const RIGHT: &str = r#"{"version":3,"sources":["a"],"sourcesContent":["x"],"mappings":"AAAA"}"#;
+
+const NO_CONTENTS: &str = "MAP:sources[0]: SM214 the map has no contents for the source
+0 invalid, 1 suspicious, 1 shown";
+
+// The name of the first segment does not stand in the contents, the column of the second is past
+// their line, and the third has a lower column than the second. The second source and the second name
+// are not used, the second source has no contents. `g` is a cut number, and names a sixth segment.
+const DOUBTFUL: &str =
+    r#"{"version":3,"sourceRoot":"","sources":["a","b"],"sourcesContent":["xy"],"names":["n","m"],"mappings":"AAAAA,EAAG,D","rangeMappings":"g"}"#;
+
+const DOUBTFUL_LINES: &str =
+    "MAP:mappings at 0:2: SM203 the original line has fewer columns
+MAP:mappings at 0:0: SM205 the name does not stand at the original position
+MAP:sources[1]: SM211 no token has the source
+MAP:names[1]: SM212 no token has the name
+MAP:sources[1]: SM214 the map has no contents for the source
+MAP:sourceRoot: SM215 sourceRoot changes no source
+MAP:mappings 0:2: SM221 the segment has a lower column than the one before it
+MAP:rangeMappings: SM223 rangeMappings does not fit mappings
+0 invalid, 8 suspicious, 8 shown";
+
+const DOUBTFUL_JSON: &str = concat!(
+    r#"{"counts":{"invalid":0,"shown":8,"suspicious":8},"findings":["#,
+    r#"{"code":"SM203","key":"mappings","position":{"column":2,"line":0},"sections":[],"#,
+    r#""sentence":"the original line has fewer columns","severity":"suspicious"},"#,
+    r#"{"code":"SM205","key":"mappings","position":{"column":0,"line":0},"sections":[],"#,
+    r#""sentence":"the name does not stand at the original position","severity":"suspicious"},"#,
+    r#"{"code":"SM211","key":"sources[1]","position":null,"sections":[],"#,
+    r#""sentence":"no token has the source","severity":"suspicious"},"#,
+    r#"{"code":"SM212","key":"names[1]","position":null,"sections":[],"#,
+    r#""sentence":"no token has the name","severity":"suspicious"},"#,
+    r#"{"code":"SM214","key":"sources[1]","position":null,"sections":[],"#,
+    r#""sentence":"the map has no contents for the source","severity":"suspicious"},"#,
+    r#"{"code":"SM215","key":"sourceRoot","position":null,"sections":[],"#,
+    r#""sentence":"sourceRoot changes no source","severity":"suspicious"},"#,
+    r#"{"code":"SM221","key":"mappings","position":{"index":2,"line":0},"sections":[],"#,
+    r#""sentence":"the segment has a lower column than the one before it","severity":"suspicious"},"#,
+    r#"{"code":"SM223","key":"rangeMappings","position":null,"sections":[],"#,
+    r#""sentence":"rangeMappings does not fit mappings","severity":"suspicious"}]}"#,
+);
+
 // Words, a map, and the status and output of the run.
-static RUNS: [(&str, &str, u8, &str); 13] = [
+static RUNS: [(&str, &str, u8, &str); 19] = [
     ("check", INVALID, 1, LINES),
     ("check --strict", INVALID, 1, LINES),
     ("check --json", INVALID, 1, JSON),
     ("check --json --strict", INVALID, 1, JSON),
-    ("check", MAP, 0, "0 invalid, 0 shown"),
-    ("check --strict", MAP, 0, "0 invalid, 0 shown"),
+    ("check", RIGHT, 0, "0 invalid, 0 suspicious, 0 shown"),
+    ("check --strict", RIGHT, 0, "0 invalid, 0 suspicious, 0 shown"),
     (
-        "check --json",
-        MAP,
+        "check --json --strict",
+        RIGHT,
         0,
-        r#"{"counts":{"invalid":0,"shown":0},"findings":[]}"#,
+        r#"{"counts":{"invalid":0,"shown":0,"suspicious":0},"findings":[]}"#,
     ),
+    ("check", MAP, 0, NO_CONTENTS),
+    ("check --strict", MAP, 1, NO_CONTENTS),
+    ("check", DOUBTFUL, 0, DOUBTFUL_LINES),
+    ("check --strict", DOUBTFUL, 1, DOUBTFUL_LINES),
+    ("check --json", DOUBTFUL, 0, DOUBTFUL_JSON),
+    ("check --json --strict", DOUBTFUL, 1, DOUBTFUL_JSON),
     (
         "check",
         NESTED,
         1,
-        "MAP:sections[0].map.sections[1].map.names: SM111 names is no list of texts\n1 invalid, 1 shown",
+        "MAP:sections[0].map.sections[1].map.names: SM111 names is no list of texts\n1 invalid, 0 suspicious, 1 shown",
     ),
     (
         "check --json",
         NESTED,
         1,
-        r#"{"counts":{"invalid":1,"shown":1},"findings":[{"code":"SM111","key":"names","position":null,"sections":[0,1],"sentence":"names is no list of texts","severity":"invalid"}]}"#,
+        r#"{"counts":{"invalid":1,"shown":1,"suspicious":0},"findings":[{"code":"SM111","key":"names","position":null,"sections":[0,1],"sentence":"names is no list of texts","severity":"invalid"}]}"#,
     ),
     (
         "check",
         "",
         1,
-        "MAP:: SM101 the bytes are no JSON text\n1 invalid, 1 shown",
+        "MAP:: SM101 the bytes are no JSON text\n1 invalid, 0 suspicious, 1 shown",
     ),
     (
         "check --json",
         "[]",
         1,
-        r#"{"counts":{"invalid":1,"shown":1},"findings":[{"code":"SM102","key":"","position":null,"sections":[],"sentence":"the JSON value is no object","severity":"invalid"}]}"#,
+        r#"{"counts":{"invalid":1,"shown":1,"suspicious":0},"findings":[{"code":"SM102","key":"","position":null,"sections":[],"sentence":"the JSON value is no object","severity":"invalid"}]}"#,
     ),
     (
         "check",
         r#"{"version":3,"sources":[],"mappings":"AA"}"#,
         1,
-        "MAP:mappings 0:0: SM133 the segment does not have 1, 4 or 5 numbers\n1 invalid, 1 shown",
+        "MAP:mappings 0:0: SM133 the segment does not have 1, 4 or 5 numbers\n1 invalid, 0 suspicious, 1 shown",
     ),
     (
         "check --json",
         r#"{"version":"3","sources":[],"mappings":""}"#,
         1,
-        r#"{"counts":{"invalid":1,"shown":1},"findings":[{"code":"SM104","key":"version","position":null,"sections":[],"sentence":"version is no number","severity":"invalid"}]}"#,
+        r#"{"counts":{"invalid":1,"shown":1,"suspicious":0},"findings":[{"code":"SM104","key":"version","position":null,"sections":[],"sentence":"version is no number","severity":"invalid"}]}"#,
     ),
 ];
 

@@ -1,0 +1,131 @@
+//! What a report shows: findings of the rules, then what looks wrong.
+ghost use Rattle.std.specs.Prelude.{◌≡◌, ◌++◌, IfErr, MatchResult, OnOk, map};
+ghost use Rattle.sourcemap_errors.specs.declared.errors.Error.TheVariants.{OutOfMemory};
+ghost use Rattle.sourcemap_check_print.specs.Entries.{code_of, entries, position_of, sentence_of, severity_of};
+ghost use Rattle.sourcemap_check_print.specs.declared.entries.Entry.TheVariants.{Invalid, Suspicious};
+
+use crate::suspicions::suspicion_sentence;
+use crate::words::sentence;
+use sourcemap_check_report::report::Finding;
+use sourcemap_check_report::rules::{Rule, number_of};
+use sourcemap_check_suspicious::suspects::{Suspect, Suspicion, code_of as code_of_suspicion};
+use sourcemap_errors::errors::Result;
+use std::alloc::Global;
+
+/// What one line of a report shows.
+#[derive(Clone, Copy, Debug, PartialEq, Eq)]
+pub(crate) enum Entry {
+    /// A rule is broken.
+    Invalid(Finding),
+    /// Something looks wrong.
+    Suspicious(Suspect),
+}
+
+/// A position as it is printed.
+#[derive(Clone, Copy, Debug, PartialEq, Eq)]
+pub(crate) enum Position {
+    /// There is none.
+    Nowhere,
+    /// Line and index of a segment.
+    Segment(usize, usize),
+    /// Generated line and column of a token.
+    Token(usize, usize),
+}
+
+fn push_findings(entries: &mut Vec<Entry>, findings: &[Finding]) -> Result<()>
+    ensures pushed { OnOk result (entries.new.items
+        ≡ entries.old.items ++ map Invalid findings.now) }
+    ensures memory { IfErr result (λ e. e ≡ OutOfMemory) }
+{
+    for finding in findings {
+        entries.push(Entry::Invalid(*finding))?;
+    }
+    Ok(())
+}
+
+fn push_suspects(entries: &mut Vec<Entry>, suspects: &[Suspect]) -> Result<()>
+    ensures pushed { OnOk result (entries.new.items
+        ≡ entries.old.items ++ map Suspicious suspects.now) }
+    ensures memory { IfErr result (λ e. e ≡ OutOfMemory) }
+{
+    for suspect in suspects {
+        entries.push(Entry::Suspicious(*suspect))?;
+    }
+    Ok(())
+}
+
+/// Returns what a report shows. The only error is `OutOfMemory`.
+pub(crate) fn entries(
+    alloc: Global,
+    findings: &[Finding],
+    suspects: &[Suspect],
+) -> Result<Vec<Entry>>
+    ensures { MatchResult result (λ all. all.items ≡ entries findings.now suspects.now)
+        (λ e. e ≡ OutOfMemory) }
+{
+    let mut all = Vec::new(alloc);
+    push_findings(&mut all, findings)?;
+    push_suspects(&mut all, suspects)?;
+    Ok(all)
+}
+
+/// The number of the code. The code is `SM` and this number.
+pub(crate) fn code_of(entry: &Entry) -> u32
+    ensures { result ≡ code_of entry.now }
+{
+    match entry {
+        Entry::Invalid(finding) => number_of(finding.rule) as u32 + 101,
+        Entry::Suspicious(suspect) => code_of_suspicion(suspect.suspicion),
+    }
+}
+
+/// How the rule is broken, or what looks wrong.
+pub(crate) fn sentence_of(entry: &Entry) -> &'static str
+    ensures { result.now ≡ sentence_of entry.now }
+{
+    match entry {
+        Entry::Invalid(finding) => sentence(finding.rule),
+        Entry::Suspicious(suspect) => suspicion_sentence(suspect.suspicion),
+    }
+}
+
+/// `invalid` or `suspicious`.
+pub(crate) fn severity_of(entry: &Entry) -> &'static str
+    ensures { result.now ≡ severity_of entry.now }
+{
+    match entry {
+        Entry::Invalid(_) => "invalid",
+        Entry::Suspicious(_) => "suspicious",
+    }
+}
+
+fn finding_position(finding: &Finding) -> Position
+    ensures { result ≡ position_of (Invalid finding.now) }
+{
+    match finding.rule {
+        Rule::Segment(_) => Position::Segment(finding.line, finding.index),
+        _ => Position::Nowhere,
+    }
+}
+
+fn suspect_position(suspect: &Suspect) -> Position
+    ensures { result ≡ position_of (Suspicious suspect.now) }
+{
+    match suspect.suspicion {
+        Suspicion::Token(_) | Suspicion::Generated(_) => {
+            Position::Token(suspect.line, suspect.index)
+        }
+        Suspicion::SegmentBack => Position::Segment(suspect.line, suspect.index),
+        Suspicion::Item(_) | Suspicion::Ranges(_) => Position::Nowhere,
+    }
+}
+
+/// Where in the text `mappings` or in the generated text it is.
+pub(crate) fn position_of(entry: &Entry) -> Position
+    ensures { result ≡ position_of entry.now }
+{
+    match entry {
+        Entry::Invalid(finding) => finding_position(finding),
+        Entry::Suspicious(suspect) => suspect_position(suspect),
+    }
+}

@@ -1,0 +1,83 @@
+-- What looks wrong in a map with its texts, and beside its generated text, in the order of codes.
+use Rattle.std.specs.Prelude.{◌≡◌, ℕ, ◌+◌, Bool, true, false, List, [], ◌∷◌, ◌++◌, cond, flat_map, length, map, min, take}
+use Rattle.std.specs.Prelude.{slice_get, Option, Some, None, Result, Ok, Err}
+use Rattle.std.specs.Option.{option_map_or}
+use Rattle.sourcemap_errors.specs.declared.errors.Error.{Error}
+use Rattle.sourcemap_records.specs.Bytes.{BytesHaveResult}
+use Rattle.sourcemap_map_regular.specs.Map.{MapValue}
+use Rattle.sourcemap_check_texts.specs.Doubts.{marked, is_doubtful, code_of as token_code}
+use Rattle.sourcemap_check_texts.specs.Generated.{is_misplaced, code_of_generated}
+use Rattle.sourcemap_check_lists.specs.Lists.{is_doubtful as is_doubtful_item, item_count, code_of as list_code}
+use Rattle.sourcemap_check_order.specs.Order.{places_back}
+use Rattle.sourcemap_check_order.specs.Ranges.{range_doubt, code_of as range_code}
+use Rattle.sourcemap_check_order.specs.declared.order.SegmentPlace.{SegmentPlace}
+use Rattle.sourcemap_check_order.specs.declared.ranges.RangeDoubt.{RangeDoubt}
+use Rattle.sourcemap_check_order.specs.declared.ranges.RangeDoubt.TheVariants.{OtherFormat, NoFormat}
+use Rattle.sourcemap_check_suspicious.specs.Reading.{TextMapDecodes, TextMapValue}
+use Rattle.sourcemap_check_suspicious.specs.declared.suspects.Suspect.{Suspect}
+use Rattle.sourcemap_check_suspicious.specs.declared.suspects.Suspects.{Suspects}
+use Rattle.sourcemap_check_suspicious.specs.declared.suspects.Suspicion.{Suspicion}
+use Rattle.sourcemap_check_suspicious.specs.declared.suspects.Suspicion.TheVariants.{Token, Item, SegmentBack, Ranges, Generated}
+use Rattle.sourcemap_check_suspicious.specs.declared.suspects.TheConstants.{SUSPICIONS}
+
+-- the number of the code
+abbrev pub code_of : Suspicion → ℕ
+code_of (Token doubt) = token_code doubt
+code_of (Item doubt) = list_code doubt
+code_of SegmentBack = 221
+code_of (Ranges doubt) = range_code doubt
+code_of (Generated doubt) = code_of_generated doubt
+
+-- the token with this index, at its generated position
+abbrev pub token_suspect : Suspicion → MapValue → ℕ → Suspect
+token_suspect suspicion m i =
+    option_map_or (λ t. record { suspicion = suspicion; line = t.dst_line; index = t.dst_col })
+    (slice_get m.tokens i) (record { suspicion = suspicion; line = 0; index = 0 })
+
+abbrev pub item_suspect : Suspicion → ℕ → Suspect
+item_suspect suspicion i = record { suspicion = suspicion; line = 0; index = i }
+
+abbrev pub segment_suspect : SegmentPlace → Suspect
+segment_suspect place = record { suspicion = SegmentBack; line = place.line; index = place.index }
+
+abbrev pub is_range_doubt : RangeDoubt → Option RangeDoubt → Bool
+is_range_doubt OtherFormat (Some OtherFormat) = true
+is_range_doubt NoFormat (Some NoFormat) = true
+is_range_doubt _ _ = false
+
+-- the tokens whose index passes a test
+abbrev pub suspect_tokens : Suspicion → (ℕ → Bool) → MapValue → List Suspect
+suspect_tokens suspicion test m = map (token_suspect suspicion m) (marked test (length m.tokens))
+
+-- all that looks wrong in one way. Without a generated text nothing looks wrong beside it
+abbrev pub suspects_of : Suspicion → TextMapValue → (generated : Option (List ℕ)) → List Suspect
+suspects_of (Token doubt) m generated = suspect_tokens (Token doubt) (is_doubtful doubt m.map) m.map
+suspects_of (Item doubt) m generated =
+    map (item_suspect (Item doubt)) (marked (is_doubtful_item doubt m.map) (item_count doubt m.map))
+suspects_of SegmentBack m generated = map segment_suspect (places_back m.mappings)
+suspects_of (Ranges doubt) m generated =
+    cond (is_range_doubt doubt (range_doubt m.mappings m.ranges)) (item_suspect (Ranges doubt) 0 ∷ []) []
+suspects_of (Generated doubt) m generated =
+    option_map_or (λ text. suspect_tokens (Generated doubt) (is_misplaced doubt text m.map) m.map) generated []
+
+-- the first `most` of these are added, and all of them are counted. The count stops at 18446744073709551615
+pub record Adds (most : ℕ) (all : List Suspect) (old new : Suspects) : Type 0 where
+  pub first : new.first.items ≡ old.first.items ++ take most all
+  pub count : new.count ≡ min (old.count + length all) 18446744073709551615
+
+-- the first `most` of each kind, and how many there are
+pub record AreSuspects (most : ℕ) (m : TextMapValue) (generated : Option (List ℕ)) (found : Suspects) : Type 0 where
+  pub first : found.first.items ≡ flat_map (λ suspicion. take most (suspects_of suspicion m generated)) SUSPICIONS
+  pub count : found.count
+      ≡ min (length (flat_map (λ suspicion. suspects_of suspicion m generated) SUSPICIONS)) 18446744073709551615
+
+-- those of a decoded map; none if there is an error
+abbrev pub AreSuspectsIn : (most : ℕ) → Result TextMapValue Error → (generated : Option (List ℕ)) → Suspects → Type 0
+AreSuspectsIn most (Ok m) generated found = AreSuspects most m generated found
+AreSuspectsIn most (Err e) generated found = (found.first.items ≡ []) × (found.count ≡ 0)
+
+-- those of the map that bytes decode to
+abbrev pub AreSuspectsOf : (most : ℕ) → (bytes : List ℕ) → (generated : Option (List ℕ)) → Suspects → Type 0
+AreSuspectsOf most bytes generated found =
+    (decoded : Result TextMapValue Error) × BytesHaveResult TextMapDecodes bytes decoded
+    × AreSuspectsIn most decoded generated found

@@ -1,0 +1,202 @@
+//! What looks wrong, in the order of codes.
+ghost use Rattle.std.specs.Prelude.{◌≡◌, ◌++◌, ◌∷◌, [], IfOk, IfErr, OnOk};
+ghost use Rattle.std.specs.Option.{option_copied};
+ghost use Rattle.sourcemap_errors.specs.declared.errors.Error.TheVariants.{OutOfMemory};
+ghost use Rattle.sourcemap_check_suspicious.specs.Reading.{text_map_value};
+ghost use Rattle.sourcemap_check_suspicious.specs.declared.suspects.Suspicion.TheVariants.{Generated, Ranges};
+ghost use Rattle.sourcemap_check_suspicious.specs.Suspects.{Adds, AreSuspects, AreSuspectsOf, code_of, suspects_of};
+
+use crate::adding::{add_if, add_items, add_segments, add_tokens};
+use crate::reading::{TextMap, read_text_map};
+use sourcemap_check_lists::lists::{ListDoubt, code_of as code_of_list, doubtful_items};
+use sourcemap_check_order::order::{BACK_CODE, segments_back};
+use sourcemap_check_order::ranges::{RangeDoubt, code_of as code_of_ranges, doubtful_ranges};
+use sourcemap_check_texts::generated::{GeneratedDoubt, code_of_generated, doubtful_positions};
+use sourcemap_check_texts::tokens::{Doubt, code_of as code_of_token, doubtful_tokens};
+use sourcemap_errors::errors::{Error, Result};
+use sourcemap_source_views::sourceview::SourceView;
+use std::alloc::Global;
+
+/// Why something looks wrong.
+#[derive(Clone, Copy, Debug, PartialEq, Eq)]
+pub enum Suspicion {
+    /// A token.
+    Token(Doubt),
+    /// An item of a list.
+    Item(ListDoubt),
+    /// A segment that goes back.
+    SegmentBack,
+    /// The text `rangeMappings`.
+    Ranges(RangeDoubt),
+    /// A token beside the generated text.
+    Generated(GeneratedDoubt),
+}
+
+/// All of them, in the order of their codes.
+pub const SUSPICIONS: [Suspicion; 16] = [
+    Suspicion::Token(Doubt::TwoOriginals),
+    Suspicion::Token(Doubt::PastSource),
+    Suspicion::Token(Doubt::PastLine),
+    Suspicion::Token(Doubt::WithinPair),
+    Suspicion::Token(Doubt::OtherName),
+    Suspicion::Item(ListDoubt::UnusedSource),
+    Suspicion::Item(ListDoubt::UnusedName),
+    Suspicion::Item(ListDoubt::EqualSource),
+    Suspicion::Item(ListDoubt::MissingContents),
+    Suspicion::Item(ListDoubt::RootWithoutEffect),
+    Suspicion::SegmentBack,
+    Suspicion::Ranges(RangeDoubt::OtherFormat),
+    Suspicion::Ranges(RangeDoubt::NoFormat),
+    Suspicion::Generated(GeneratedDoubt::PastText),
+    Suspicion::Generated(GeneratedDoubt::PastLine),
+    Suspicion::Generated(GeneratedDoubt::WithinPair),
+];
+
+/// What looks wrong at one place.
+#[derive(Clone, Copy, Debug, PartialEq, Eq)]
+pub struct Suspect {
+    /// Why.
+    pub suspicion: Suspicion,
+    /// The generated line of a token, or the line of a segment in `mappings`; both count from 0.
+    /// Otherwise 0.
+    pub line: usize,
+    /// The generated column of a token, the index of a segment on its line, or the index of an item
+    /// of a list; all count from 0. Otherwise 0.
+    pub index: usize,
+}
+
+/// The first of each kind that look wrong, and how many do.
+#[derive(Drop)]
+pub struct Suspects {
+    /// The first ones, in the order of codes.
+    pub first: Vec<Suspect>,
+    /// How many there are. The count stops at 18446744073709551615.
+    pub count: u64,
+}
+
+/// The number of the code. The code is `SM` and this number.
+pub fn code_of(suspicion: Suspicion) -> u32
+    ensures { result ≡ code_of suspicion }
+{
+    match suspicion {
+        Suspicion::Token(doubt) => code_of_token(doubt),
+        Suspicion::Item(doubt) => code_of_list(doubt),
+        Suspicion::SegmentBack => BACK_CODE,
+        Suspicion::Ranges(doubt) => code_of_ranges(doubt),
+        Suspicion::Generated(doubt) => code_of_generated(doubt),
+    }
+}
+
+fn add_generated(
+    alloc: Global,
+    found: &mut Suspects,
+    map: &TextMap,
+    generated: Option<&SourceView>,
+    doubt: GeneratedDoubt,
+    most: usize,
+) -> Result<()>
+    ensures added { OnOk result (Adds most
+        (suspects_of (Generated doubt) (text_map_value map.now) (option_copied generated.entry)) found.old found.new) }
+    ensures memory { IfErr result (λ e. e ≡ OutOfMemory) }
+{
+    let Some(generated) = generated else {
+        return Ok(());
+    };
+    let places = doubtful_positions(alloc, &map.map, generated, doubt, most)?;
+    add_tokens(found, &map.map, Suspicion::Generated(doubt), &places)
+}
+
+fn add_ranges(
+    alloc: Global,
+    found: &mut Suspects,
+    map: &TextMap,
+    doubt: RangeDoubt,
+    most: usize,
+) -> Result<()>
+    ensures added { (generated : _) → OnOk result (Adds most
+        (suspects_of (Ranges doubt) (text_map_value map.now) generated) found.old found.new) }
+    ensures memory { IfErr result (λ e. e ≡ OutOfMemory) }
+{
+    let doubts = doubtful_ranges(alloc, map.mappings.as_str(), map.ranges.as_str())?;
+    add_if(found, Suspicion::Ranges(doubt), doubts == Some(doubt), most)
+}
+
+fn add_all(
+    alloc: Global,
+    found: &mut Suspects,
+    map: &TextMap,
+    generated: Option<&SourceView>,
+    suspicion: Suspicion,
+    most: usize,
+) -> Result<()>
+    ensures added { OnOk result (Adds most
+        (suspects_of suspicion (text_map_value map.now) (option_copied generated.entry)) found.old found.new) }
+    ensures memory { IfErr result (λ e. e ≡ OutOfMemory) }
+{
+    match suspicion {
+        Suspicion::Token(doubt) => {
+            let places = doubtful_tokens(alloc, &map.map, doubt, most)?;
+            add_tokens(found, &map.map, suspicion, &places)
+        }
+        Suspicion::Item(doubt) => {
+            let places = doubtful_items(alloc, &map.map, doubt, most)?;
+            add_items(found, suspicion, &places)
+        }
+        Suspicion::SegmentBack => {
+            let places = segments_back(alloc, map.mappings.as_str(), most)?;
+            add_segments(found, &places)
+        }
+        Suspicion::Ranges(doubt) => add_ranges(alloc, found, map, doubt, most),
+        Suspicion::Generated(doubt) => add_generated(alloc, found, map, generated, doubt, most),
+    }
+}
+
+/// What looks wrong in a map, and with a generated text also beside it: the first `most` of each
+/// kind, in the order of codes, and how many there are of all kinds. The only error is
+/// `OutOfMemory`.
+pub fn suspects_in(
+    alloc: Global,
+    map: &TextMap,
+    generated: Option<&SourceView>,
+    most: usize,
+) -> Result<Suspects>
+    ensures suspects { IfOk result
+        (AreSuspects most (text_map_value map.now) (option_copied generated.entry)) }
+    ensures memory { IfErr result (λ e. e ≡ OutOfMemory) }
+{
+    let mut found = no_suspects(alloc);
+    for suspicion in SUSPICIONS {
+        add_all(alloc, &mut found, map, generated, suspicion, most)?;
+    }
+    Ok(found)
+}
+
+/// No suspects.
+pub fn no_suspects(alloc: Global) -> Suspects
+    ensures first { result.first.items ≡ [] }
+    ensures count { result.count ≡ 0 }
+{
+    Suspects {
+        first: Vec::new(alloc),
+        count: 0,
+    }
+}
+
+/// What looks wrong in the map that bytes decode to, as `suspects_in` says. Nothing does in an index
+/// map, and in bytes that `read_text_map` does not decode. The only error is `OutOfMemory`.
+pub fn suspects_of_bytes(
+    alloc: Global,
+    bytes: &[u8],
+    generated: Option<&SourceView>,
+    most: usize,
+) -> Result<Suspects>
+    ensures suspects { IfOk result
+        (AreSuspectsOf most bytes.now (option_copied generated.entry)) }
+    ensures memory { IfErr result (λ e. e ≡ OutOfMemory) }
+{
+    match read_text_map(alloc, bytes) {
+        Ok(map) => suspects_in(alloc, &map, generated, most),
+        Err(Error::OutOfMemory) => Err(Error::OutOfMemory),
+        Err(_) => Ok(no_suspects(alloc)),
+    }
+}
