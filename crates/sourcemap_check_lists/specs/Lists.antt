@@ -13,14 +13,6 @@ use Rattle.sourcemap_check_lists.specs.declared.lists.ListDoubt.TheVariants.{Mis
 use Rattle.sourcemap_check_lists.specs.declared.marks.Field.{Field}
 use Rattle.sourcemap_check_lists.specs.declared.marks.Field.TheVariants.{Source, Name}
 
--- the number of the code of a doubt
-abbrev pub code_of : ListDoubt → ℕ
-code_of UnusedSource = 211
-code_of UnusedName = 212
-code_of EqualSource = 213
-code_of MissingContents = 214
-code_of RootWithoutEffect = 215
-
 -- the source id of a token, or its name id
 abbrev pub id_in : Field → RawToken → ℕ
 id_in Source t = t.src_id

@@ -4,7 +4,7 @@ ghost use Rattle.std.specs.Prelude.{is_none};
 ghost use Rattle.sourcemap_errors.specs.declared.errors.Error.TheVariants.{OutOfMemory};
 ghost use Rattle.sourcemap_map_regular.specs.Map.{contents_of};
 ghost use Rattle.sourcemap_check_texts.specs.Doubts.{ArePlaces, marked};
-ghost use Rattle.sourcemap_check_lists.specs.Lists.{code_of, has_idle_root, is_doubtful, item_count};
+ghost use Rattle.sourcemap_check_lists.specs.Lists.{has_idle_root, is_doubtful, item_count};
 ghost use Rattle.sourcemap_check_lists.specs.Marks.{AreMarks};
 
 use crate::marks::{Field, marked_places, repeated_marks, same_texts, unused_marks};
@@ -38,9 +38,7 @@ pub const LIST_DOUBTS: [ListDoubt; 5] = [
 ];
 
 /// The number of the code of a doubt. The code is `SM` and this number.
-pub fn code_of(doubt: ListDoubt) -> u32
-    ensures { result ≡ code_of doubt }
-{
+pub fn code_of(doubt: ListDoubt) -> u32 {
     match doubt {
         ListDoubt::UnusedSource => 211,
         ListDoubt::UnusedName => 212,

@@ -14,11 +14,6 @@ use Rattle.sourcemap_check_order.specs.declared.ranges.Distances.{Distances}
 use Rattle.sourcemap_check_order.specs.declared.ranges.RangeDoubt.{RangeDoubt}
 use Rattle.sourcemap_check_order.specs.declared.ranges.RangeDoubt.TheVariants.{OtherFormat, NoFormat}
 
--- the number of the code of a doubt
-abbrev pub code_of : RangeDoubt → ℕ
-code_of OtherFormat = 222
-code_of NoFormat = 223
-
 -- a byte is a digit, which has the bits of the next six segments, lowest first; if fewer are left, no bit past them is set
 abbrev pub digit_fits : (left : ℕ) → ℕ → Bool
 digit_fits left c = option_map_or (λ v. nat_lt v (2 ^ min left 6)) (digit_value c) false

@@ -3,7 +3,7 @@ ghost use Rattle.std.specs.Prelude.{◌≡◌, ℕ, ◌<◌, ◌==◌, ◌∷◌
 ghost use Rattle.std.specs.List.{slice_split};
 ghost use Rattle.sourcemap_errors.specs.declared.errors.Error.TheVariants.{OutOfMemory};
 ghost use Rattle.sourcemap_check_segments.specs.Segments.{comma, is_cut, raws_of, semicolon, segments_of};
-ghost use Rattle.sourcemap_check_order.specs.Ranges.{AreDistances, code_of, digit_fits, fits_bits, fits_numbers, line_fits, lines_fit};
+ghost use Rattle.sourcemap_check_order.specs.Ranges.{AreDistances, digit_fits, fits_bits, fits_numbers, line_fits, lines_fit};
 ghost use Rattle.sourcemap_check_order.specs.Ranges.{range_doubt, segment_counts};
 
 use crate::order::continues;
@@ -26,9 +26,7 @@ pub enum RangeDoubt {
 pub const RANGE_DOUBTS: [RangeDoubt; 2] = [RangeDoubt::OtherFormat, RangeDoubt::NoFormat];
 
 /// The number of the code of a doubt. The code is `SM` and this number.
-pub fn code_of(doubt: RangeDoubt) -> u32
-    ensures { result ≡ code_of doubt }
-{
+pub fn code_of(doubt: RangeDoubt) -> u32 {
     match doubt {
         RangeDoubt::OtherFormat => 222,
         RangeDoubt::NoFormat => 223,

@@ -4,8 +4,8 @@ use Rattle.std.specs.Prelude.{Option}
 use Rattle.sourcemap_check.specs.Validity.{IsValid}
 use Rattle.sourcemap_check_report.specs.Report.{first_of_each}
 use Rattle.sourcemap_check_report.specs.declared.report.Finding.{Finding}
-use Rattle.sourcemap_check_suspicious.specs.declared.suspects.Suspects.{Suspects}
-use Rattle.sourcemap_check_print.specs.Print.{AreShown, HasVerdict, has_none, verdict_of}
+use Rattle.sourcemap_check_suspicious.specs.declared.suspects.Suspicious.{Suspicious}
+use Rattle.sourcemap_check_print.specs.Print.{AreShown, HasVerdict, count_of, has_none, verdict_of}
 use Rattle.sourcemap_check_print.specs.declared.print.TheConstants.{MOST}
 
 -- the first finding is kept
@@ -23,14 +23,14 @@ nil_if_none [] is = refl
 nil_if_none (finding ∷ findings) is = absurd cc
 
 pub verdict_holds : (all : List Finding) (is_valid : Bool) (bytes : List ℕ) (generated : Option (List ℕ))
-    (found : Suspects) → is_valid ≡ has_none all → ((all ≡ []) ↔ (IsValid bytes))
-    → AreShown is_valid bytes generated found → HasVerdict (verdict_of is_valid found.count) bytes generated
+    (found : Suspicious) → is_valid ≡ has_none all → ((all ≡ []) ↔ (IsValid bytes))
+    → AreShown is_valid bytes generated found → HasVerdict (verdict_of is_valid (count_of found)) bytes generated
 verdict_holds all false bytes generated found is decided shown =
     λ valid. let no : false ≡ true = is ∙ ap has_none (decided.1 valid) in cc
-verdict_holds all true bytes generated found is decided shown = by_count found.count refl
+verdict_holds all true bytes generated found is decided shown = by_count (count_of found) refl
   where
     valid : IsValid bytes
     valid = decided.0 (nil_if_none all (sym is))
-    by_count : (count : ℕ) → found.count ≡ count → HasVerdict (verdict_of true count) bytes generated
+    by_count : (count : ℕ) → count_of found ≡ count → HasVerdict (verdict_of true count) bytes generated
     by_count zero e = (valid, record { found = found; are = shown; count_is = e })
     by_count (suc count) e = (valid, (count, record { found = found; are = shown; count_is = e }))

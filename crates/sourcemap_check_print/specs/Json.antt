@@ -1,12 +1,12 @@
 -- The report of a check as a JSON object: compact, with sorted keys, and a newline after it.
 use Rattle.std.specs.Prelude.{ℕ, List, [], ◌∷◌, ◌++◌, codes, flat_map, length}
-use Rattle.std.specs.Fmt.{decimal}
+use Rattle.std.specs.Fmt.{decimal, signed_decimal}
 use Rattle.sourcemap_check.specs.declared.tree.MapPlace.{MapPlace}
 use Rattle.sourcemap_check_print.specs.Entries.{code_of, position_of, sentence_of, severity_of}
 use Rattle.sourcemap_check_print.specs.Places.{key_text, map_of, sections_of}
 use Rattle.sourcemap_check_print.specs.declared.entries.Entry.{Entry}
 use Rattle.sourcemap_check_print.specs.declared.entries.Position.{Position}
-use Rattle.sourcemap_check_print.specs.declared.entries.Position.TheVariants.{Nowhere, Segment, Token}
+use Rattle.sourcemap_check_print.specs.declared.entries.Position.TheVariants.{Nowhere, Segment, Token, Shift}
 use Rattle.sourcemap_check_print.specs.declared.print.Counts.{Counts}
 
 -- the texts of items, with a comma before each but the first
@@ -14,13 +14,15 @@ abbrev pub separated : {X : Type 0} → (X → List ℕ) → List X → List ℕ
 separated text [] = []
 separated text (item ∷ items) = text item ++ flat_map (λ item. codes "," ++ text item) items
 
--- line and index of a segment, generated line and column of a token, or null
+-- line and index of a segment, generated line and column of a token, lines and columns of a shift, or null
 abbrev pub position_json : Position → List ℕ
 position_json Nowhere = codes "null"
 position_json (Segment line index) =
     codes "{\"index\":" ++ decimal index ++ codes ",\"line\":" ++ decimal line ++ codes "}"
 position_json (Token line column) =
     codes "{\"column\":" ++ decimal column ++ codes ",\"line\":" ++ decimal line ++ codes "}"
+position_json (Shift lines columns) =
+    codes "{\"columns\":" ++ signed_decimal columns ++ codes ",\"lines\":" ++ signed_decimal lines ++ codes "}"
 
 -- an entry up to its key
 abbrev pub code_json : Entry → List ℕ

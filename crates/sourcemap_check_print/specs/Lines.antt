@@ -1,23 +1,24 @@
 -- A line for each entry, and a last line with counts.
 use Rattle.std.specs.Prelude.{ℕ, List, [], ◌++◌, codes, flat_map, length}
-use Rattle.std.specs.Fmt.{decimal}
+use Rattle.std.specs.Fmt.{decimal, signed_decimal}
 use Rattle.sourcemap_check.specs.declared.tree.MapPlace.{MapPlace}
 use Rattle.sourcemap_check_print.specs.Entries.{code_of, position_of, sentence_of}
 use Rattle.sourcemap_check_print.specs.Places.{key_text, map_of, sections_of}
 use Rattle.sourcemap_check_print.specs.declared.entries.Entry.{Entry}
 use Rattle.sourcemap_check_print.specs.declared.entries.Position.{Position}
-use Rattle.sourcemap_check_print.specs.declared.entries.Position.TheVariants.{Nowhere, Segment, Token}
+use Rattle.sourcemap_check_print.specs.declared.entries.Position.TheVariants.{Nowhere, Segment, Token, Shift}
 use Rattle.sourcemap_check_print.specs.declared.print.Counts.{Counts}
 
 -- the sections that lead to a map, before a key of this map
 abbrev pub path_text : (sections : List ℕ) → List ℕ
 path_text sections = flat_map (λ section. codes "sections[" ++ decimal section ++ codes "].map.") sections
 
--- a token is at a generated line and column
+-- a token is at a generated line and column, positions are off by lines and columns
 abbrev pub position_text : Position → List ℕ
 position_text Nowhere = []
 position_text (Segment line index) = codes " " ++ decimal line ++ codes ":" ++ decimal index
 position_text (Token line column) = codes " at " ++ decimal line ++ codes ":" ++ decimal column
+position_text (Shift lines columns) = codes " by " ++ signed_decimal lines ++ codes ":" ++ signed_decimal columns
 
 -- the code, and a sentence
 abbrev pub end_text : Entry → List ℕ

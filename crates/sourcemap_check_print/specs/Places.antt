@@ -9,7 +9,7 @@ use Rattle.sourcemap_check_report.specs.declared.rules.Rule.TheVariants.{Section
 use Rattle.sourcemap_check_print.specs.Suspicions.{suspect_key}
 use Rattle.sourcemap_check_print.specs.Words.{map_key, section_key}
 use Rattle.sourcemap_check_print.specs.declared.entries.Entry.{Entry}
-use Rattle.sourcemap_check_print.specs.declared.entries.Entry.TheVariants.{Invalid, Suspicious}
+use Rattle.sourcemap_check_print.specs.declared.entries.Entry.TheVariants.{Invalid, Doubtful, Off}
 
 -- the indexes of the sections that lead to the map with this number, the outermost first: those that lead to the map
 -- that has its section, and this section. At most `left`
@@ -40,9 +40,11 @@ rule_key (Segment rule) index = codes "mappings"
 -- the key that an entry is on
 abbrev pub key_text : Entry → List ℕ
 key_text (Invalid finding) = rule_key finding.rule finding.index
-key_text (Suspicious suspect) = suspect_key suspect
+key_text (Doubtful suspect) = suspect_key suspect
+key_text (Off shifted) = codes "mappings"
 
 -- the number of the map that an entry is in. Only the whole map is looked at for what looks wrong
 abbrev pub map_of : Entry → ℕ
 map_of (Invalid finding) = finding.map
-map_of (Suspicious suspect) = 0
+map_of (Doubtful suspect) = 0
+map_of (Off shifted) = 0

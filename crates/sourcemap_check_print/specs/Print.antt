@@ -1,12 +1,12 @@
 -- The report of a check, as it is printed.
-use Rattle.std.specs.Prelude.{◌≡◌, ¬◌, ℕ, zero, suc, ◌+◌, ◌<◌, Bool, true, false, List, [], ◌∷◌, fold, min, Option}
+use Rattle.std.specs.Prelude.{◌≡◌, ¬◌, ℕ, zero, suc, ◌+◌, ◌<◌, Bool, true, false, List, [], ◌∷◌, fold, length, min, Option}
 use Rattle.sourcemap_check.specs.Validity.{AreFindings, ArePlaces, IsValid}
 use Rattle.sourcemap_check.specs.declared.tree.Checked.{Checked}
 use Rattle.sourcemap_check_report.specs.Report.{Reports}
 use Rattle.sourcemap_check_report.specs.declared.report.Finding.{Finding}
 use Rattle.sourcemap_check_report.specs.declared.report.Report.{Report}
-use Rattle.sourcemap_check_suspicious.specs.Suspects.{AreSuspectsOf}
-use Rattle.sourcemap_check_suspicious.specs.declared.suspects.Suspects.{Suspects}
+use Rattle.sourcemap_check_suspicious.specs.Suspects.{HasNone, LooksWrongOf}
+use Rattle.sourcemap_check_suspicious.specs.declared.suspects.Suspicious.{Suspicious}
 use Rattle.sourcemap_check_print.specs.Entries.{entries}
 use Rattle.sourcemap_check_print.specs.Json.{json_text}
 use Rattle.sourcemap_check_print.specs.Lines.{lines_text}
@@ -21,19 +21,23 @@ use Rattle.sourcemap_check_print.specs.declared.print.Verdict.TheVariants.{Inval
 abbrev pub total : Report → ℕ
 total report = fold (λ sum count. min (sum + count) 18446744073709551615) 0 report.counts
 
-abbrev pub counts_of : Checked → Suspects → Counts
-counts_of checked found = record { invalid = total checked.report; suspicious = found.count }
+-- how much looks wrong. The number stops at 18446744073709551615
+abbrev pub count_of : Suspicious → ℕ
+count_of found = min (found.places.count + length found.shifts.items) 18446744073709551615
 
-abbrev pub report_text : Form → Checked → Suspects → List ℕ
+abbrev pub counts_of : Checked → Suspicious → Counts
+counts_of checked found = record { invalid = total checked.report; suspicious = count_of found }
+
+abbrev pub report_text : Form → Checked → Suspicious → List ℕ
 report_text Lines checked found =
-    lines_text checked.maps.items (entries checked.report.findings.items found.first.items) (counts_of checked found)
+    lines_text checked.maps.items (entries checked.report.findings.items found) (counts_of checked found)
 report_text Json checked found =
-    json_text checked.maps.items (entries checked.report.findings.items found.first.items) (counts_of checked found)
+    json_text checked.maps.items (entries checked.report.findings.items found) (counts_of checked found)
 
 -- what looks wrong is shown of a valid map alone
-abbrev pub AreShown : (is_valid : Bool) → (bytes : List ℕ) → (generated : Option (List ℕ)) → Suspects → Type 0
-AreShown true bytes generated found = AreSuspectsOf MOST bytes generated found
-AreShown false bytes generated found = (found.first.items ≡ []) × (found.count ≡ 0)
+abbrev pub AreShown : (is_valid : Bool) → (bytes : List ℕ) → (generated : Option (List ℕ)) → Suspicious → Type 0
+AreShown true bytes generated found = LooksWrongOf MOST bytes generated found
+AreShown false bytes generated found = HasNone found
 
 abbrev pub has_none : List Finding → Bool
 has_none [] = true
@@ -44,7 +48,7 @@ has_none (finding ∷ findings) = false
 pub record IsReportOf (form : Form) (bytes : List ℕ) (generated : Option (List ℕ)) (text : List ℕ) : Type 0 where
   pub all : List Finding
   pub checked : Checked
-  pub found : Suspects
+  pub found : Suspicious
   pub findings : AreFindings bytes all
   pub reports : Reports MOST all checked.report
   pub places : ArePlaces bytes checked.maps.items
@@ -57,12 +61,12 @@ verdict_of true zero = Right
 verdict_of true (suc count) = Suspicious
 
 -- so much looks wrong
-pub record LookWrong (bytes : List ℕ) (generated : Option (List ℕ)) (count : ℕ) : Type 0 where
-  pub found : Suspects
-  pub are : AreSuspectsOf MOST bytes generated found
-  pub count_is : found.count ≡ count
+pub record HasDoubts (bytes : List ℕ) (generated : Option (List ℕ)) (count : ℕ) : Type 0 where
+  pub found : Suspicious
+  pub are : LooksWrongOf MOST bytes generated found
+  pub count_is : count_of found ≡ count
 
 abbrev pub HasVerdict : Verdict → (bytes : List ℕ) → (generated : Option (List ℕ)) → Type 0
 HasVerdict Invalid bytes generated = ¬ IsValid bytes
-HasVerdict Suspicious bytes generated = IsValid bytes × ((count : ℕ) × LookWrong bytes generated (suc count))
-HasVerdict Right bytes generated = IsValid bytes × LookWrong bytes generated 0
+HasVerdict Suspicious bytes generated = IsValid bytes × ((count : ℕ) × HasDoubts bytes generated (suc count))
+HasVerdict Right bytes generated = IsValid bytes × HasDoubts bytes generated 0

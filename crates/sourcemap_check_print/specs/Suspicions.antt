@@ -12,6 +12,9 @@ use Rattle.sourcemap_check_texts.specs.declared.generated.GeneratedDoubt.TheVari
 use Rattle.sourcemap_check_texts.specs.declared.tokens.Doubt.{Doubt}
 use Rattle.sourcemap_check_texts.specs.declared.tokens.Doubt.TheVariants.{TwoOriginals, PastSource, PastLine, WithinPair}
 use Rattle.sourcemap_check_texts.specs.declared.tokens.Doubt.TheVariants.{OtherName}
+use Rattle.sourcemap_check_suspicious.specs.declared.shifted.Shifted.{Shifted}
+use Rattle.sourcemap_check_suspicious.specs.declared.shifted.Shifted.TheVariants.{Original}
+use Rattle.sourcemap_check_suspicious.specs.declared.shifted.Shifted.TheVariants.{Generated as GeneratedShift}
 use Rattle.sourcemap_check_suspicious.specs.declared.suspects.Suspect.{Suspect}
 use Rattle.sourcemap_check_suspicious.specs.declared.suspects.Suspicion.{Suspicion}
 use Rattle.sourcemap_check_suspicious.specs.declared.suspects.Suspicion.TheVariants.{Token, Item, SegmentBack, Ranges}
@@ -47,6 +50,11 @@ suspicion_sentence (Item doubt) = item_sentence doubt
 suspicion_sentence SegmentBack = codes "the segment has a lower column than the one before it"
 suspicion_sentence (Ranges doubt) = range_sentence doubt
 suspicion_sentence (Generated doubt) = generated_sentence doubt
+
+-- which positions are off
+abbrev pub shift_sentence : Shifted → List ℕ
+shift_sentence (Original shift) = codes "names stand in the contents of sources after this shift"
+shift_sentence (GeneratedShift shift) = codes "words stand in the generated text after this shift"
 
 -- a key and an index in it
 abbrev pub indexed_key : List ℕ → ℕ → List ℕ

@@ -2,13 +2,15 @@
 ghost use Rattle.std.specs.Prelude.{◌≡◌, ◌++◌, IfErr, MatchResult, OnOk, map};
 ghost use Rattle.sourcemap_errors.specs.declared.errors.Error.TheVariants.{OutOfMemory};
 ghost use Rattle.sourcemap_check_print.specs.Entries.{code_of, entries, position_of, sentence_of, severity_of};
-ghost use Rattle.sourcemap_check_print.specs.declared.entries.Entry.TheVariants.{Invalid, Suspicious};
+ghost use Rattle.sourcemap_check_print.specs.declared.entries.Entry.TheVariants.{Doubtful, Invalid, Off};
 
-use crate::suspicions::suspicion_sentence;
+use crate::suspicions::{shift_sentence, suspicion_sentence};
 use crate::words::sentence;
 use sourcemap_check_report::report::Finding;
 use sourcemap_check_report::rules::{Rule, number_of};
-use sourcemap_check_suspicious::suspects::{Suspect, Suspicion, code_of as code_of_suspicion};
+use sourcemap_check_suspicious::codes::code_of as code_of_suspicion;
+use sourcemap_check_suspicious::shifted::{Shifted, code_of_shifted};
+use sourcemap_check_suspicious::suspects::{Suspect, Suspicion, Suspicious};
 use sourcemap_errors::errors::Result;
 use std::alloc::Global;
 
@@ -18,7 +20,9 @@ pub(crate) enum Entry {
     /// A rule is broken.
     Invalid(Finding),
     /// Something looks wrong.
-    Suspicious(Suspect),
+    Doubtful(Suspect),
+    /// Positions are off throughout.
+    Off(Shifted),
 }
 
 /// A position as it is printed.
@@ -30,6 +34,8 @@ pub(crate) enum Position {
     Segment(usize, usize),
     /// Generated line and column of a token.
     Token(usize, usize),
+    /// Positions off by lines and columns.
+    Shift(i32, i32),
 }
 
 fn push_findings(entries: &mut Vec<Entry>, findings: &[Finding]) -> Result<()>
@@ -45,11 +51,21 @@ fn push_findings(entries: &mut Vec<Entry>, findings: &[Finding]) -> Result<()>
 
 fn push_suspects(entries: &mut Vec<Entry>, suspects: &[Suspect]) -> Result<()>
     ensures pushed { OnOk result (entries.new.items
-        ≡ entries.old.items ++ map Suspicious suspects.now) }
+        ≡ entries.old.items ++ map Doubtful suspects.now) }
     ensures memory { IfErr result (λ e. e ≡ OutOfMemory) }
 {
     for suspect in suspects {
-        entries.push(Entry::Suspicious(*suspect))?;
+        entries.push(Entry::Doubtful(*suspect))?;
+    }
+    Ok(())
+}
+
+fn push_shifts(entries: &mut Vec<Entry>, shifts: &[Shifted]) -> Result<()>
+    ensures pushed { OnOk result (entries.new.items ≡ entries.old.items ++ map Off shifts.now) }
+    ensures memory { IfErr result (λ e. e ≡ OutOfMemory) }
+{
+    for shifted in shifts {
+        entries.push(Entry::Off(*shifted))?;
     }
     Ok(())
 }
@@ -58,14 +74,15 @@ fn push_suspects(entries: &mut Vec<Entry>, suspects: &[Suspect]) -> Result<()>
 pub(crate) fn entries(
     alloc: Global,
     findings: &[Finding],
-    suspects: &[Suspect],
+    found: &Suspicious,
 ) -> Result<Vec<Entry>>
-    ensures { MatchResult result (λ all. all.items ≡ entries findings.now suspects.now)
+    ensures { MatchResult result (λ all. all.items ≡ entries findings.now found.now)
         (λ e. e ≡ OutOfMemory) }
 {
     let mut all = Vec::new(alloc);
     push_findings(&mut all, findings)?;
-    push_suspects(&mut all, suspects)?;
+    push_suspects(&mut all, found.places.first.as_slice())?;
+    push_shifts(&mut all, found.shifts.as_slice())?;
     Ok(all)
 }
 
@@ -75,7 +92,8 @@ pub(crate) fn code_of(entry: &Entry) -> u32
 {
     match entry {
         Entry::Invalid(finding) => number_of(finding.rule) as u32 + 101,
-        Entry::Suspicious(suspect) => code_of_suspicion(suspect.suspicion),
+        Entry::Doubtful(suspect) => code_of_suspicion(suspect.suspicion),
+        Entry::Off(shifted) => code_of_shifted(*shifted),
     }
 }
 
@@ -85,7 +103,8 @@ pub(crate) fn sentence_of(entry: &Entry) -> &'static str
 {
     match entry {
         Entry::Invalid(finding) => sentence(finding.rule),
-        Entry::Suspicious(suspect) => suspicion_sentence(suspect.suspicion),
+        Entry::Doubtful(suspect) => suspicion_sentence(suspect.suspicion),
+        Entry::Off(shifted) => shift_sentence(*shifted),
     }
 }
 
@@ -95,7 +114,7 @@ pub(crate) fn severity_of(entry: &Entry) -> &'static str
 {
     match entry {
         Entry::Invalid(_) => "invalid",
-        Entry::Suspicious(_) => "suspicious",
+        Entry::Doubtful(_) | Entry::Off(_) => "suspicious",
     }
 }
 
@@ -109,7 +128,7 @@ fn finding_position(finding: &Finding) -> Position
 }
 
 fn suspect_position(suspect: &Suspect) -> Position
-    ensures { result ≡ position_of (Suspicious suspect.now) }
+    ensures { result ≡ position_of (Doubtful suspect.now) }
 {
     match suspect.suspicion {
         Suspicion::Token(_) | Suspicion::Generated(_) => {
@@ -120,12 +139,23 @@ fn suspect_position(suspect: &Suspect) -> Position
     }
 }
 
-/// Where in the text `mappings` or in the generated text it is.
+fn shift_position(shifted: Shifted) -> Position
+    ensures { result ≡ position_of (Off shifted) }
+{
+    match shifted {
+        Shifted::Original(shift) | Shifted::Generated(shift) => {
+            Position::Shift(shift.lines, shift.columns)
+        }
+    }
+}
+
+/// Where in the text `mappings` or in the generated text it is, or by how much positions are off.
 pub(crate) fn position_of(entry: &Entry) -> Position
     ensures { result ≡ position_of entry.now }
 {
     match entry {
         Entry::Invalid(finding) => finding_position(finding),
-        Entry::Suspicious(suspect) => suspect_position(suspect),
+        Entry::Doubtful(suspect) => suspect_position(suspect),
+        Entry::Off(shifted) => shift_position(*shifted),
     }
 }

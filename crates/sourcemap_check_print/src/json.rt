@@ -51,6 +51,10 @@ fn push_position(text: &mut String, position: Position) -> Result<()>
             write!(text, "{{\"column\":{column},\"line\":{line}}}")?;
             Ok(())
         }
+        Position::Shift(lines, columns) => {
+            write!(text, "{{\"columns\":{columns},\"lines\":{lines}}}")?;
+            Ok(())
+        }
     }
 }
 

@@ -36,6 +36,10 @@ fn push_position(text: &mut String, position: Position) -> Result<()>
             write!(text, " at {line}:{column}")?;
             Ok(())
         }
+        Position::Shift(lines, columns) => {
+            write!(text, " by {lines}:{columns}")?;
+            Ok(())
+        }
     }
 }
 

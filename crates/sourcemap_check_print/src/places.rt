@@ -43,7 +43,7 @@ fn map_of(entry: &Entry) -> usize
 {
     match entry {
         Entry::Invalid(finding) => finding.map,
-        Entry::Suspicious(_) => 0,
+        Entry::Doubtful(_) | Entry::Off(_) => 0,
     }
 }
 
@@ -64,7 +64,8 @@ pub(crate) fn push_key(text: &mut String, entry: &Entry) -> Result<()>
 {
     match entry {
         Entry::Invalid(finding) => push_rule_key(text, finding),
-        Entry::Suspicious(suspect) => push_suspect_key(text, suspect),
+        Entry::Doubtful(suspect) => push_suspect_key(text, suspect),
+        Entry::Off(_) => push(text, "mappings"),
     }
 }
 

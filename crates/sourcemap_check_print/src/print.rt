@@ -2,7 +2,7 @@
 ghost use Rattle.std.specs.Prelude.{◌≡◌, IfErr, IfOk, MatchResult, string_bytes};
 ghost use Rattle.std.specs.Option.{option_copied};
 ghost use Rattle.sourcemap_errors.specs.declared.errors.Error.TheVariants.{OutOfMemory};
-ghost use Rattle.sourcemap_check_print.specs.Print.{AreShown, HasVerdict, IsReportOf, report_text, total, verdict_of};
+ghost use Rattle.sourcemap_check_print.specs.Print.{AreShown, HasVerdict, IsReportOf, count_of, report_text, total, verdict_of};
 
 use crate::entries::entries;
 use crate::json::json_text;
@@ -11,7 +11,7 @@ use sourcemap_check::check::{Options, check};
 use sourcemap_check::laws::validity_is_decided;
 use sourcemap_check::tree::Checked;
 use sourcemap_check_report::report::Report;
-use sourcemap_check_suspicious::suspects::{Suspects, no_suspects, suspects_of_bytes};
+use sourcemap_check_suspicious::suspects::{Suspicious, nothing, suspicious_in_bytes};
 use sourcemap_errors::errors::Result;
 use sourcemap_source_views::sourceview::SourceView;
 use std::alloc::Global;
@@ -70,21 +70,17 @@ fn total(report: &Report) -> u64
 fn report_text(
     alloc: Global,
     checked: &Checked,
-    found: &Suspects,
+    found: &Suspicious,
     form: Form,
 ) -> Result<String>
     ensures { MatchResult result
         (λ text. string_bytes text ≡ report_text form checked.now found.now)
         (λ e. e ≡ OutOfMemory) }
 {
-    let all = entries(
-        alloc,
-        checked.report.findings.as_slice(),
-        found.first.as_slice(),
-    )?;
+    let all = entries(alloc, checked.report.findings.as_slice(), found)?;
     let counts = Counts {
         invalid: total(&checked.report),
-        suspicious: found.count,
+        suspicious: count_of(found),
     };
     let maps = checked.maps.as_slice();
     match form {
@@ -93,20 +89,27 @@ fn report_text(
     }
 }
 
+// How much looks wrong. The number stops at 18446744073709551615.
+fn count_of(found: &Suspicious) -> u64
+    ensures { result ≡ count_of found.now }
+{
+    found.places.count.saturating_add(found.shifts.len() as u64)
+}
+
 // Only a valid map is looked at for what looks wrong.
-fn suspects_if_valid(
+fn suspicious_if_valid(
     alloc: Global,
     bytes: &[u8],
     generated: Option<&SourceView>,
     is_valid: bool,
-) -> Result<Suspects>
+) -> Result<Suspicious>
     ensures shown { IfOk result (AreShown is_valid bytes.now (option_copied generated.entry)) }
     ensures memory { IfErr result (λ e. e ≡ OutOfMemory) }
 {
     if !is_valid {
-        return Ok(no_suspects(alloc));
+        return Ok(nothing(alloc));
     }
-    suspects_of_bytes(alloc, bytes, generated, MOST)
+    suspicious_in_bytes(alloc, bytes, generated, MOST)
 }
 
 fn verdict_of(is_valid: bool, count: u64) -> Verdict
@@ -127,12 +130,12 @@ fn verdict_of(is_valid: bool, count: u64) -> Verdict
 /// shown.
 ///
 /// A line is `MAP:`, for each section that leads to the map `sections[I].map.`, the key, for a
-/// segment its line and its index, for a token `at` with its generated line and column, `: `, the
-/// code and a sentence. The last line is `N invalid, N suspicious, N shown`.
+/// segment its line and its index, for a token `at` with its generated line and column, for a shift
+/// `by` with lines and columns, `: `, the code and a sentence. The last line is `N invalid, N suspicious, N shown`.
 ///
 /// The JSON object is compact, and its keys are sorted. `counts` has `invalid`, `shown` and
 /// `suspicious`. Each of `findings` has `code`, `key`, `position` (`index` and `line` of a segment,
-/// `column` and `line` of a token, or null), `sections` (the indexes of the sections that lead to the
+/// `column` and `line` of a token, `columns` and `lines` of a shift, or null), `sections` (the indexes of the sections that lead to the
 /// map), `sentence` and `severity`.
 ///
 /// The only error is `OutOfMemory`.
@@ -151,8 +154,8 @@ pub fn check_text(
     validity_is_decided(); // prover: a report without findings is that of a valid map
     let checked = check(alloc, bytes, Options { most: MOST })?;
     let is_valid = checked.report.findings.is_empty();
-    let found = suspects_if_valid(alloc, bytes, generated, is_valid)?;
+    let found = suspicious_if_valid(alloc, bytes, generated, is_valid)?;
     let text = report_text(alloc, &checked, &found, form)?;
-    let verdict = verdict_of(is_valid, found.count);
+    let verdict = verdict_of(is_valid, count_of(&found));
     Ok(CheckText { text, verdict })
 }

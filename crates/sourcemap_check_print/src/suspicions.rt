@@ -1,11 +1,12 @@
 //! The key and the sentence of what looks wrong.
 ghost use Rattle.std.specs.Prelude.{◌≡◌, ◌++◌, IsOkUnless, OnOk, string_bytes};
 ghost use Rattle.sourcemap_errors.specs.declared.errors.Error.TheVariants.{OutOfMemory};
-ghost use Rattle.sourcemap_check_print.specs.Suspicions.{generated_sentence, item_key, item_sentence, range_sentence, suspect_key, suspicion_sentence, token_sentence};
+ghost use Rattle.sourcemap_check_print.specs.Suspicions.{generated_sentence, item_key, item_sentence, range_sentence, shift_sentence, suspect_key, suspicion_sentence, token_sentence};
 
 use crate::places::{push, push_indexed};
 use sourcemap_check_lists::lists::ListDoubt;
 use sourcemap_check_order::ranges::RangeDoubt;
+use sourcemap_check_suspicious::shifted::Shifted;
 use sourcemap_check_suspicious::suspects::{Suspect, Suspicion};
 use sourcemap_check_texts::generated::GeneratedDoubt;
 use sourcemap_check_texts::tokens::Doubt;
@@ -64,6 +65,16 @@ pub(crate) fn suspicion_sentence(suspicion: Suspicion) -> &'static str
         Suspicion::SegmentBack => "the segment has a lower column than the one before it",
         Suspicion::Ranges(doubt) => range_sentence(doubt),
         Suspicion::Generated(doubt) => generated_sentence(doubt),
+    }
+}
+
+/// A sentence that says which positions are off.
+pub(crate) fn shift_sentence(shifted: Shifted) -> &'static str
+    ensures { result.now ≡ shift_sentence shifted }
+{
+    match shifted {
+        Shifted::Original(_) => "names stand in the contents of sources after this shift",
+        Shifted::Generated(_) => "words stand in the generated text after this shift",
     }
 }
 

@@ -1,7 +1,7 @@
 -- What looks wrong, as it is added to a list.
 use Rattle.std.proofs.Common.{◌≡◌, ℕ, ◌+◌, ◌<◌, ◌≤◌, List, [], ◌∷◌, ◌++◌, map, take, length, flat_map, get_or, min, Option}
 use Rattle.std.proofs.Common.{sym, ap, subst, ◌∙◌, refl, append_assoc, length-append, arith}
-use Rattle.std.proofs.lemmas.List.{map_more, take_more, take-map, length-map, take_all, flat_map_more}
+use Rattle.std.proofs.lemmas.List.{map_more, take_more, take-map, length-map, take_all, flat_map_more, append-nil}
 use Rattle.sourcemap_check_suspicious.specs.Reading.{TextMapValue}
 use Rattle.sourcemap_check_suspicious.specs.declared.suspects.Suspect.{Suspect}
 use Rattle.sourcemap_check_suspicious.specs.declared.suspects.Suspects.{Suspects}
@@ -36,10 +36,18 @@ stopped_sum_left a b = omega arith
 -- the images of the items that are shown are added, and all items are counted
 pub adds_images : {X : Type 0} (f : X → Suspect) (most : ℕ) (all shown : List X) (old new : Suspects)
     → shown ≡ take most all → new.first.items ≡ old.first.items ++ map f shown
-    → new.count ≡ min (old.count + length all) 18446744073709551615 → Adds most (map f all) old new
+    → (old.count ≤ 18446744073709551615 → new.count ≡ min (old.count + length all) 18446744073709551615)
+    → Adds most (map f all) old new
 adds_images f most all shown old new are first count = record {
   first = first ∙ ap (λ xs. old.first.items ++ map f xs) are ∙ ap (λ xs. old.first.items ++ xs) (sym (take-map f most all));
-  count = count ∙ ap (λ n. min (old.count + n) 18446744073709551615) (sym (length-map all f));
+  count = λ small. count small ∙ ap (λ n. min (old.count + n) 18446744073709551615) (sym (length-map all f));
+}
+
+pub adds_nothing : (most : ℕ) (found : Suspects) → Adds most [] found found
+adds_nothing most found = record {
+  first = sym (append-nil found.first.items)
+      ∙ ap (λ xs. found.first.items ++ xs) (sym (take_all most [] (omega arith)));
+  count = λ small. omega (arith, small);
 }
 
 -- the first kinds
@@ -60,11 +68,13 @@ pub SuspectsSoFar-more : (most : ℕ) (m : TextMapValue) (generated : Option (Li
 SuspectsSoFar-more most m generated i suspicion old new within at so_far adds =
     let all : Suspicion → List Suspect = λ s. suspects_of s m generated in
     let shown : Suspicion → List Suspect = λ s. take most (suspects_of s m generated) in
+    let counted = so_far.count in
+    let small : old.count ≤ 18446744073709551615 = omega (arith, counted) in
     record {
       first = adds.first ∙ ap (λ xs. xs ++ shown suspicion) so_far.first
           ∙ ap (λ s. flat_map shown (take i SUSPICIONS) ++ shown s) at
           ∙ one_list_more shown SUSPICIONS i suspicion within;
-      count = adds.count ∙ ap (λ n. min (n + length (all suspicion)) 18446744073709551615) so_far.count
+      count = adds.count small ∙ ap (λ n. min (n + length (all suspicion)) 18446744073709551615) so_far.count
           ∙ stopped_sum_left (length (flat_map all (take i SUSPICIONS))) (length (all suspicion))
           ∙ ap (λ n. min n 18446744073709551615) (sym (length-append (flat_map all (take i SUSPICIONS)) (all suspicion)))
           ∙ ap (λ s. min (length (flat_map all (take i SUSPICIONS) ++ all s)) 18446744073709551615) at

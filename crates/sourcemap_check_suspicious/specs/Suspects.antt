@@ -1,32 +1,26 @@
 -- What looks wrong in a map with its texts, and beside its generated text, in the order of codes.
-use Rattle.std.specs.Prelude.{◌≡◌, ℕ, ◌+◌, Bool, true, false, List, [], ◌∷◌, ◌++◌, cond, flat_map, length, map, min, take}
+use Rattle.std.specs.Prelude.{◌≡◌, ℕ, ◌+◌, ◌≤◌, Bool, true, false, List, [], ◌∷◌, ◌++◌, cond, flat_map, length, map, min, take}
 use Rattle.std.specs.Prelude.{slice_get, Option, Some, None, Result, Ok, Err}
 use Rattle.std.specs.Option.{option_map_or}
 use Rattle.sourcemap_errors.specs.declared.errors.Error.{Error}
 use Rattle.sourcemap_records.specs.Bytes.{BytesHaveResult}
 use Rattle.sourcemap_map_regular.specs.Map.{MapValue}
-use Rattle.sourcemap_check_texts.specs.Doubts.{marked, is_doubtful, code_of as token_code}
-use Rattle.sourcemap_check_texts.specs.Generated.{is_misplaced, code_of_generated}
-use Rattle.sourcemap_check_lists.specs.Lists.{is_doubtful as is_doubtful_item, item_count, code_of as list_code}
+use Rattle.sourcemap_check_texts.specs.Doubts.{marked, is_doubtful}
+use Rattle.sourcemap_check_texts.specs.Generated.{is_misplaced}
+use Rattle.sourcemap_check_lists.specs.Lists.{is_doubtful as is_doubtful_item, item_count}
 use Rattle.sourcemap_check_order.specs.Order.{places_back}
-use Rattle.sourcemap_check_order.specs.Ranges.{range_doubt, code_of as range_code}
+use Rattle.sourcemap_check_order.specs.Ranges.{range_doubt}
 use Rattle.sourcemap_check_order.specs.declared.order.SegmentPlace.{SegmentPlace}
 use Rattle.sourcemap_check_order.specs.declared.ranges.RangeDoubt.{RangeDoubt}
 use Rattle.sourcemap_check_order.specs.declared.ranges.RangeDoubt.TheVariants.{OtherFormat, NoFormat}
 use Rattle.sourcemap_check_suspicious.specs.Reading.{TextMapDecodes, TextMapValue}
+use Rattle.sourcemap_check_suspicious.specs.Shifted.{AreOff}
 use Rattle.sourcemap_check_suspicious.specs.declared.suspects.Suspect.{Suspect}
 use Rattle.sourcemap_check_suspicious.specs.declared.suspects.Suspects.{Suspects}
+use Rattle.sourcemap_check_suspicious.specs.declared.suspects.Suspicious.{Suspicious}
 use Rattle.sourcemap_check_suspicious.specs.declared.suspects.Suspicion.{Suspicion}
 use Rattle.sourcemap_check_suspicious.specs.declared.suspects.Suspicion.TheVariants.{Token, Item, SegmentBack, Ranges, Generated}
 use Rattle.sourcemap_check_suspicious.specs.declared.suspects.TheConstants.{SUSPICIONS}
-
--- the number of the code
-abbrev pub code_of : Suspicion → ℕ
-code_of (Token doubt) = token_code doubt
-code_of (Item doubt) = list_code doubt
-code_of SegmentBack = 221
-code_of (Ranges doubt) = range_code doubt
-code_of (Generated doubt) = code_of_generated doubt
 
 -- the token with this index, at its generated position
 abbrev pub token_suspect : Suspicion → MapValue → ℕ → Suspect
@@ -45,9 +39,12 @@ is_range_doubt OtherFormat (Some OtherFormat) = true
 is_range_doubt NoFormat (Some NoFormat) = true
 is_range_doubt _ _ = false
 
+abbrev pub token_suspects : Suspicion → MapValue → (indexes : List ℕ) → List Suspect
+token_suspects suspicion m indexes = map (token_suspect suspicion m) indexes
+
 -- the tokens whose index passes a test
 abbrev pub suspect_tokens : Suspicion → (ℕ → Bool) → MapValue → List Suspect
-suspect_tokens suspicion test m = map (token_suspect suspicion m) (marked test (length m.tokens))
+suspect_tokens suspicion test m = token_suspects suspicion m (marked test (length m.tokens))
 
 -- all that looks wrong in one way. Without a generated text nothing looks wrong beside it
 abbrev pub suspects_of : Suspicion → TextMapValue → (generated : Option (List ℕ)) → List Suspect
@@ -60,10 +57,11 @@ suspects_of (Ranges doubt) m generated =
 suspects_of (Generated doubt) m generated =
     option_map_or (λ text. suspect_tokens (Generated doubt) (is_misplaced doubt text m.map) m.map) generated []
 
--- the first `most` of these are added, and all of them are counted. The count stops at 18446744073709551615
+-- the first `most` of these are added, and all of them are counted. The count, a number of 64 bits, stops at
+-- 18446744073709551615
 pub record Adds (most : ℕ) (all : List Suspect) (old new : Suspects) : Type 0 where
   pub first : new.first.items ≡ old.first.items ++ take most all
-  pub count : new.count ≡ min (old.count + length all) 18446744073709551615
+  pub count : old.count ≤ 18446744073709551615 → new.count ≡ min (old.count + length all) 18446744073709551615
 
 -- the first `most` of each kind, and how many there are
 pub record AreSuspects (most : ℕ) (m : TextMapValue) (generated : Option (List ℕ)) (found : Suspects) : Type 0 where
@@ -71,13 +69,24 @@ pub record AreSuspects (most : ℕ) (m : TextMapValue) (generated : Option (List
   pub count : found.count
       ≡ min (length (flat_map (λ suspicion. suspects_of suspicion m generated) SUSPICIONS)) 18446744073709551615
 
--- those of a decoded map; none if there is an error
-abbrev pub AreSuspectsIn : (most : ℕ) → Result TextMapValue Error → (generated : Option (List ℕ)) → Suspects → Type 0
-AreSuspectsIn most (Ok m) generated found = AreSuspects most m generated found
-AreSuspectsIn most (Err e) generated found = (found.first.items ≡ []) × (found.count ≡ 0)
+-- nothing looks wrong
+pub record HasNone (found : Suspicious) : Type 0 where
+  pub first : found.places.first.items ≡ []
+  pub count : found.places.count ≡ 0
+  pub shifts : found.shifts.items ≡ []
 
--- those of the map that bytes decode to
-abbrev pub AreSuspectsOf : (most : ℕ) → (bytes : List ℕ) → (generated : Option (List ℕ)) → Suspects → Type 0
-AreSuspectsOf most bytes generated found =
+-- what looks wrong in a map: places, and shifts
+pub record LooksWrong (most : ℕ) (m : TextMapValue) (generated : Option (List ℕ)) (found : Suspicious) : Type 0 where
+  pub places : AreSuspects most m generated found.places
+  pub shifts : AreOff m.map generated found.shifts.items
+
+-- what looks wrong in a decoded map; nothing if there is an error
+abbrev pub LooksWrongIn : (most : ℕ) → Result TextMapValue Error → (generated : Option (List ℕ)) → Suspicious → Type 0
+LooksWrongIn most (Ok m) generated found = LooksWrong most m generated found
+LooksWrongIn most (Err e) generated found = HasNone found
+
+-- what looks wrong in the map that bytes decode to
+abbrev pub LooksWrongOf : (most : ℕ) → (bytes : List ℕ) → (generated : Option (List ℕ)) → Suspicious → Type 0
+LooksWrongOf most bytes generated found =
     (decoded : Result TextMapValue Error) × BytesHaveResult TextMapDecodes bytes decoded
-    × AreSuspectsIn most decoded generated found
+    × LooksWrongIn most decoded generated found

@@ -1,10 +1,10 @@
 //! Adds what looks wrong to a list.
-ghost use Rattle.std.specs.Prelude.{◌≡◌, ◌++◌, ◌∷◌, [], ℕ, List, IfErr, OnOk, cond, map, min, ◌+◌};
+ghost use Rattle.std.specs.Prelude.{◌≡◌, ◌++◌, ◌∷◌, [], ℕ, List, IfErr, OnOk, cond, map};
 ghost use Rattle.sourcemap_errors.specs.declared.errors.Error.TheVariants.{OutOfMemory};
 ghost use Rattle.sourcemap_check_order.specs.Order.{AreSegmentPlaces};
 ghost use Rattle.sourcemap_check_order.specs.declared.order.SegmentPlace.{SegmentPlace};
 ghost use Rattle.sourcemap_check_texts.specs.Doubts.{ArePlaces};
-ghost use Rattle.sourcemap_check_suspicious.specs.Suspects.{Adds, item_suspect, segment_suspect, token_suspect};
+ghost use Rattle.sourcemap_check_suspicious.specs.Suspects.{Adds, item_suspect, segment_suspect, token_suspect, token_suspects};
 
 use crate::suspects::{Suspect, Suspects, Suspicion};
 use sourcemap_check_order::order::{SegmentPlace, SegmentPlaces};
@@ -40,7 +40,7 @@ fn push_tokens(
     indexes: &[usize],
 ) -> Result<()>
     ensures pushed { OnOk result (first.new.items
-        ≡ first.old.items ++ map (token_suspect suspicion map.now) indexes.now) }
+        ≡ first.old.items ++ token_suspects suspicion map.now indexes.now) }
     ensures memory { IfErr result (λ e. e ≡ OutOfMemory) }
 {
     for index in indexes {
@@ -86,7 +86,7 @@ pub(crate) fn add_tokens(
     places: &Places,
 ) -> Result<()>
     ensures added { (most : ℕ) (all : List ℕ) → ArePlaces most all places.now
-        → OnOk result (Adds most (map (token_suspect suspicion map.now) all) found.old found.new) }
+        → OnOk result (Adds most (token_suspects suspicion map.now all) found.old found.new) }
     ensures memory { IfErr result (λ e. e ≡ OutOfMemory) }
 {
     push_tokens(&mut found.first, map, suspicion, places.first.as_slice())?;
@@ -115,6 +115,7 @@ pub(crate) fn add_segments(found: &mut Suspects, places: &SegmentPlaces) -> Resu
 }
 
 // Adds the one suspect of a kind, if it holds.
+#[tactic(auto, using(crate::proofs::SuspectLemmas::adds_nothing))]
 pub(crate) fn add_if(
     found: &mut Suspects,
     suspicion: Suspicion,

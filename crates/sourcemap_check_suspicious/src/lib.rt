@@ -3,5 +3,7 @@
 #![tactic(auto)]
 
 mod adding;
+pub mod codes;
 pub mod reading;
+pub mod shifted;
 pub mod suspects;

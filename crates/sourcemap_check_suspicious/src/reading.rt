@@ -44,12 +44,15 @@ fn text_map_of(alloc: Global, raw: RawSourceMap) -> Result<TextMap>
     }
     let mappings = text_or_empty(alloc, &raw.mappings)?;
     let ranges = text_or_empty(alloc, &raw.range_mappings)?;
-    let map = decode_regular(alloc, raw)?;
-    Ok(TextMap {
-        map,
-        mappings,
-        ranges,
-    })
+    // prover: error passed on by `match`
+    match decode_regular(alloc, raw) {
+        Ok(map) => Ok(TextMap {
+            map,
+            mappings,
+            ranges,
+        }),
+        Err(error) => Err(error),
+    }
 }
 
 /// Decodes bytes as `SourceMap::from_slice` does, but a Hermes map to the regular map that it holds.

@@ -4,15 +4,16 @@ ghost use Rattle.std.specs.Option.{option_copied};
 ghost use Rattle.sourcemap_errors.specs.declared.errors.Error.TheVariants.{OutOfMemory};
 ghost use Rattle.sourcemap_check_suspicious.specs.Reading.{text_map_value};
 ghost use Rattle.sourcemap_check_suspicious.specs.declared.suspects.Suspicion.TheVariants.{Generated, Ranges};
-ghost use Rattle.sourcemap_check_suspicious.specs.Suspects.{Adds, AreSuspects, AreSuspectsOf, code_of, suspects_of};
+ghost use Rattle.sourcemap_check_suspicious.specs.Suspects.{Adds, AreSuspects, HasNone, LooksWrong, LooksWrongOf, suspects_of};
 
 use crate::adding::{add_if, add_items, add_segments, add_tokens};
 use crate::reading::{TextMap, read_text_map};
-use sourcemap_check_lists::lists::{ListDoubt, code_of as code_of_list, doubtful_items};
-use sourcemap_check_order::order::{BACK_CODE, segments_back};
-use sourcemap_check_order::ranges::{RangeDoubt, code_of as code_of_ranges, doubtful_ranges};
-use sourcemap_check_texts::generated::{GeneratedDoubt, code_of_generated, doubtful_positions};
-use sourcemap_check_texts::tokens::{Doubt, code_of as code_of_token, doubtful_tokens};
+use crate::shifted::{Shifted, shifts_of};
+use sourcemap_check_lists::lists::{ListDoubt, doubtful_items};
+use sourcemap_check_order::order::segments_back;
+use sourcemap_check_order::ranges::{RangeDoubt, doubtful_ranges};
+use sourcemap_check_texts::generated::{GeneratedDoubt, doubtful_positions};
+use sourcemap_check_texts::tokens::{Doubt, doubtful_tokens};
 use sourcemap_errors::errors::{Error, Result};
 use sourcemap_source_views::sourceview::SourceView;
 use std::alloc::Global;
@@ -74,19 +75,16 @@ pub struct Suspects {
     pub count: u64,
 }
 
-/// The number of the code. The code is `SM` and this number.
-pub fn code_of(suspicion: Suspicion) -> u32
-    ensures { result ≡ code_of suspicion }
-{
-    match suspicion {
-        Suspicion::Token(doubt) => code_of_token(doubt),
-        Suspicion::Item(doubt) => code_of_list(doubt),
-        Suspicion::SegmentBack => BACK_CODE,
-        Suspicion::Ranges(doubt) => code_of_ranges(doubt),
-        Suspicion::Generated(doubt) => code_of_generated(doubt),
-    }
+/// What looks wrong in a map.
+#[derive(Drop)]
+pub struct Suspicious {
+    /// At places.
+    pub places: Suspects,
+    /// Throughout.
+    pub shifts: Vec<Shifted>,
 }
 
+#[tactic(auto, using(crate::proofs::SuspectLemmas::adds_nothing))]
 fn add_generated(
     alloc: Global,
     found: &mut Suspects,
@@ -171,8 +169,7 @@ pub fn suspects_in(
     Ok(found)
 }
 
-/// No suspects.
-pub fn no_suspects(alloc: Global) -> Suspects
+fn no_suspects(alloc: Global) -> Suspects
     ensures first { result.first.items ≡ [] }
     ensures count { result.count ≡ 0 }
 {
@@ -182,21 +179,47 @@ pub fn no_suspects(alloc: Global) -> Suspects
     }
 }
 
-/// What looks wrong in the map that bytes decode to, as `suspects_in` says. Nothing does in an index
-/// map, and in bytes that `read_text_map` does not decode. The only error is `OutOfMemory`.
-pub fn suspects_of_bytes(
+/// Nothing that looks wrong.
+pub fn nothing(alloc: Global) -> Suspicious
+    ensures { HasNone result }
+{
+    Suspicious {
+        places: no_suspects(alloc),
+        shifts: Vec::new(alloc),
+    }
+}
+
+fn look_at(
+    alloc: Global,
+    map: &TextMap,
+    generated: Option<&SourceView>,
+    most: usize,
+) -> Result<Suspicious>
+    ensures wrong { IfOk result
+        (LooksWrong most (text_map_value map.now) (option_copied generated.entry)) }
+    ensures memory { IfErr result (λ e. e ≡ OutOfMemory) }
+{
+    let places = suspects_in(alloc, map, generated, most)?;
+    let shifts = shifts_of(alloc, &map.map, generated)?;
+    Ok(Suspicious { places, shifts })
+}
+
+/// What looks wrong in the map that bytes decode to, with a generated text also beside it. Nothing
+/// does in an index map, and in bytes that `read_text_map` does not decode. The only error is
+/// `OutOfMemory`.
+pub fn suspicious_in_bytes(
     alloc: Global,
     bytes: &[u8],
     generated: Option<&SourceView>,
     most: usize,
-) -> Result<Suspects>
-    ensures suspects { IfOk result
-        (AreSuspectsOf most bytes.now (option_copied generated.entry)) }
+) -> Result<Suspicious>
+    ensures wrong { IfOk result
+        (LooksWrongOf most bytes.now (option_copied generated.entry)) }
     ensures memory { IfErr result (λ e. e ≡ OutOfMemory) }
 {
     match read_text_map(alloc, bytes) {
-        Ok(map) => suspects_in(alloc, &map, generated, most),
+        Ok(map) => look_at(alloc, &map, generated, most),
         Err(Error::OutOfMemory) => Err(Error::OutOfMemory),
-        Err(_) => Ok(no_suspects(alloc)),
+        Err(_) => Ok(nothing(alloc)),
     }
 }

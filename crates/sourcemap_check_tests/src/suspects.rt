@@ -1,6 +1,7 @@
 // What looks wrong in a map, in one list.
+use sourcemap_check_suspicious::codes::code_of;
 use sourcemap_check_suspicious::reading::read_text_map;
-use sourcemap_check_suspicious::suspects::{code_of, suspects_in};
+use sourcemap_check_suspicious::suspects::suspects_in;
 use sourcemap_errors::errors::{Error, Result};
 use sourcemap_source_views::sourceview::SourceView;
 use sourcemap_test_support::checks::{Checked, check, check_that};

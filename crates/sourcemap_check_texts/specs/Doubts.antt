@@ -12,14 +12,6 @@ use Rattle.sourcemap_check_texts.specs.declared.tokens.Doubt.{Doubt}
 use Rattle.sourcemap_check_texts.specs.declared.tokens.Doubt.TheVariants.{TwoOriginals, PastSource, PastLine, WithinPair, OtherName}
 use Rattle.sourcemap_check_texts.specs.declared.tokens.Places.{Places}
 
--- the number of the code of a doubt
-abbrev pub code_of : Doubt → ℕ
-code_of TwoOriginals = 201
-code_of PastSource = 202
-code_of PastLine = 203
-code_of WithinPair = 204
-code_of OtherName = 205
-
 abbrev pub are_at_one_position : RawToken → RawToken → Bool
 are_at_one_position a b = (a.dst_line == b.dst_line) && (a.dst_col == b.dst_col)
 

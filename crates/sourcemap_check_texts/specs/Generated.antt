@@ -10,12 +10,6 @@ use Rattle.sourcemap_check_texts.specs.declared.generated.GeneratedDoubt.{Genera
 use Rattle.sourcemap_check_texts.specs.declared.generated.GeneratedDoubt.TheVariants.{PastText, PastLine, WithinPair}
 use Rattle.sourcemap_check_texts.specs.declared.spots.Spot.{Spot}
 
--- the number of the code of a doubt
-abbrev pub code_of_generated : GeneratedDoubt → ℕ
-code_of_generated PastText = 231
-code_of_generated PastLine = 232
-code_of_generated WithinPair = 233
-
 -- the line that the generated position is on, if the text has such a line
 abbrev pub generated_line : List ℕ → RawToken → Option (List ℕ)
 generated_line text t = slice_get (line_bodies text) t.dst_line

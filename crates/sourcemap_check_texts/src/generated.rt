@@ -3,7 +3,7 @@ ghost use Rattle.std.specs.Prelude.{◌≡◌, ℕ, List, IfOk, IfErr, IfSome, S
 ghost use Rattle.sourcemap_errors.specs.declared.errors.Error.TheVariants.{OutOfMemory};
 ghost use Rattle.sourcemap_source_views.specs.Lines.{line_bodies};
 ghost use Rattle.sourcemap_check_texts.specs.Doubts.{ArePlaces, marked};
-ghost use Rattle.sourcemap_check_texts.specs.Generated.{IsSpot, code_of_generated, is_misplaced, misses_text};
+ghost use Rattle.sourcemap_check_texts.specs.Generated.{IsSpot, is_misplaced, misses_text};
 
 use crate::spots::Spot;
 use crate::tokens::{Places, add_place};
@@ -32,9 +32,7 @@ pub const GENERATED_DOUBTS: [GeneratedDoubt; 3] = [
 ];
 
 /// The number of the code of a doubt. The code is `SM` and this number.
-pub fn code_of_generated(doubt: GeneratedDoubt) -> u32
-    ensures { result ≡ code_of_generated doubt }
-{
+pub fn code_of_generated(doubt: GeneratedDoubt) -> u32 {
     match doubt {
         GeneratedDoubt::PastText => 231,
         GeneratedDoubt::PastLine => 232,

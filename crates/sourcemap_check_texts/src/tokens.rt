@@ -5,7 +5,7 @@ ghost use Rattle.sourcemap_errors.specs.declared.errors.Error.TheVariants.{OutOf
 ghost use Rattle.sourcemap_check_texts.specs.Doubts.{are_at_one_position, have_one_original, has_two_originals, ArePlaces};
 ghost use Rattle.sourcemap_check_texts.specs.Doubts.{is_past_source, is_past_line, splits_pair, stands_at, marked};
 ghost use Rattle.sourcemap_check_texts.specs.Doubts.{has_other_name, original_line, looks_wrong, is_doubtful};
-ghost use Rattle.sourcemap_check_texts.specs.Doubts.{code_of, looks_wrong_in_line};
+ghost use Rattle.sourcemap_check_texts.specs.Doubts.{looks_wrong_in_line};
 
 use sourcemap_errors::errors::Result;
 use sourcemap_map_regular::map::SourceMap;
@@ -48,9 +48,7 @@ pub struct Places {
 }
 
 /// The number of the code of a doubt. The code is `SM` and this number.
-pub fn code_of(doubt: Doubt) -> u32
-    ensures { result ≡ code_of doubt }
-{
+pub fn code_of(doubt: Doubt) -> u32 {
     match doubt {
         Doubt::TwoOriginals => 201,
         Doubt::PastSource => 202,

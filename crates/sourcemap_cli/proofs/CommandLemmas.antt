@@ -10,7 +10,7 @@ use Rattle.sourcemap_check_print.specs.declared.print.Form.{Form}
 use Rattle.sourcemap_check_print.specs.declared.print.Form.TheVariants.{Lines, Json}
 use Rattle.sourcemap_cli.specs.Command.{AskFor, IsNumber, IsSameCommand, counted_words, from_1, without_contents}
 use Rattle.sourcemap_cli.specs.declared.command.Command.{Command}
-use Rattle.sourcemap_cli.specs.declared.command.Command.TheVariants.{Lookup, Tokens, Rewrite, Flatten, Compose, Shift, Trace, Compile, Check}
+use Rattle.sourcemap_cli.specs.declared.command.Command.TheVariants.{Lookup, Tokens, Rewrite, Flatten, Compose, Shift, Trace, Compile, Check, CheckBeside}
 use Rattle.sourcemap_cli.specs.declared.command.Strictness.{Strictness}
 use Rattle.sourcemap_cli.specs.declared.command.Strictness.TheVariants.{Usual, Strict}
 
@@ -59,6 +59,7 @@ kind_of (Shift _) = (6, 2)
 kind_of (Trace counting _) = (7, with_flag counting 2)
 kind_of (Compile contents) = (8, compile_count contents)
 kind_of (Check form strictness) = (9, check_count form strictness)
+kind_of (CheckBeside form strictness _) = (9, check_count form strictness + 2)
 
 words_of_kind : (words : List (List ℕ)) (c : Command) → AskFor words c → kind_of_words words ≡ kind_of c
 words_of_kind words (Lookup From0 line col) (l, c, is, at_line, at_col) = ap kind_of_words is
@@ -76,6 +77,10 @@ words_of_kind words (Check Lines Usual) is = ap kind_of_words is
 words_of_kind words (Check Json Usual) is = ap kind_of_words is
 words_of_kind words (Check Lines Strict) is = ap kind_of_words is
 words_of_kind words (Check Json Strict) is = ap kind_of_words is
+words_of_kind words (CheckBeside Lines Usual path) is = ap kind_of_words is
+words_of_kind words (CheckBeside Json Usual path) is = ap kind_of_words is
+words_of_kind words (CheckBeside Lines Strict path) is = ap kind_of_words is
+words_of_kind words (CheckBeside Json Strict path) is = ap kind_of_words is
 
 -- as `words_of_kind`, for each of the two numbers
 kind_is : (words : List (List ℕ)) (c : Command) → AskFor words c
@@ -137,15 +142,54 @@ no_check word no_json no_strict command asked =
     absurd (let no : (9 ≡ (kind_of command).0) × (2 ≡ (kind_of command).1) =
     kind_is (codes "check" ∷ word ∷ []) command asked in cc)
 
-pub no_strict_json : (first second : List ℕ) → (first ≢ codes "--json") ⊎ (second ≢ codes "--strict")
+pub no_check_of_two : (first second : List ℕ) → first ≢ codes "--generated"
+    → (first ≢ codes "--json") ⊎ (second ≢ codes "--strict")
     → (command : Command) → ¬ AskFor (codes "check" ∷ first ∷ second ∷ []) command
-no_strict_json first second (inl other) (Check Json Strict) is =
+no_check_of_two first second alone (inl other) (Check Json Strict) is =
     other (same_word 1 (codes "check" ∷ first ∷ second ∷ []) (codes "check" ∷ codes "--json" ∷ codes "--strict" ∷ []) is)
-no_strict_json first second (inr other) (Check Json Strict) is =
+no_check_of_two first second alone (inr other) (Check Json Strict) is =
     other (same_word 2 (codes "check" ∷ first ∷ second ∷ []) (codes "check" ∷ codes "--json" ∷ codes "--strict" ∷ []) is)
-no_strict_json first second other command asked =
+no_check_of_two first second alone other (CheckBeside Lines Usual path) is =
+    alone (same_word 1 (codes "check" ∷ first ∷ second ∷ [])
+    (codes "check" ∷ codes "--generated" ∷ string_bytes path ∷ []) is)
+no_check_of_two first second alone other command asked =
     absurd (let no : (9 ≡ (kind_of command).0) × (3 ≡ (kind_of command).1) =
     kind_is (codes "check" ∷ first ∷ second ∷ []) command asked in cc)
+
+pub no_check_of_three : (first second file : List ℕ)
+    → (second ≢ codes "--generated") ⊎ ((first ≢ codes "--json") × (first ≢ codes "--strict"))
+    → (command : Command) → ¬ AskFor (codes "check" ∷ first ∷ second ∷ file ∷ []) command
+no_check_of_three first second file (inl other) (CheckBeside Json Usual path) is =
+    other (same_word 2 (codes "check" ∷ first ∷ second ∷ file ∷ [])
+    (codes "check" ∷ codes "--json" ∷ codes "--generated" ∷ string_bytes path ∷ []) is)
+no_check_of_three first second file (inr other) (CheckBeside Json Usual path) is =
+    other.0 (same_word 1 (codes "check" ∷ first ∷ second ∷ file ∷ [])
+    (codes "check" ∷ codes "--json" ∷ codes "--generated" ∷ string_bytes path ∷ []) is)
+no_check_of_three first second file (inl other) (CheckBeside Lines Strict path) is =
+    other (same_word 2 (codes "check" ∷ first ∷ second ∷ file ∷ [])
+    (codes "check" ∷ codes "--strict" ∷ codes "--generated" ∷ string_bytes path ∷ []) is)
+no_check_of_three first second file (inr other) (CheckBeside Lines Strict path) is =
+    other.1 (same_word 1 (codes "check" ∷ first ∷ second ∷ file ∷ [])
+    (codes "check" ∷ codes "--strict" ∷ codes "--generated" ∷ string_bytes path ∷ []) is)
+no_check_of_three first second file other command asked =
+    absurd (let no : (9 ≡ (kind_of command).0) × (4 ≡ (kind_of command).1) =
+    kind_is (codes "check" ∷ first ∷ second ∷ file ∷ []) command asked in cc)
+
+pub no_check_of_four : (first second third file : List ℕ)
+    → (first ≢ codes "--json") ⊎ ((second ≢ codes "--strict") ⊎ (third ≢ codes "--generated"))
+    → (command : Command) → ¬ AskFor (codes "check" ∷ first ∷ second ∷ third ∷ file ∷ []) command
+no_check_of_four first second third file (inl other) (CheckBeside Json Strict path) is =
+    other (same_word 1 (codes "check" ∷ first ∷ second ∷ third ∷ file ∷ [])
+    (codes "check" ∷ codes "--json" ∷ codes "--strict" ∷ codes "--generated" ∷ string_bytes path ∷ []) is)
+no_check_of_four first second third file (inr (inl other)) (CheckBeside Json Strict path) is =
+    other (same_word 2 (codes "check" ∷ first ∷ second ∷ third ∷ file ∷ [])
+    (codes "check" ∷ codes "--json" ∷ codes "--strict" ∷ codes "--generated" ∷ string_bytes path ∷ []) is)
+no_check_of_four first second third file (inr (inr other)) (CheckBeside Json Strict path) is =
+    other (same_word 3 (codes "check" ∷ first ∷ second ∷ third ∷ file ∷ [])
+    (codes "check" ∷ codes "--json" ∷ codes "--strict" ∷ codes "--generated" ∷ string_bytes path ∷ []) is)
+no_check_of_four first second third file other command asked =
+    absurd (let no : (9 ≡ (kind_of command).0) × (5 ≡ (kind_of command).1) =
+    kind_is (codes "check" ∷ first ∷ second ∷ third ∷ file ∷ []) command asked in cc)
 
 -- `--from-1` is no file of `trace`
 pub no_trace : (file : List ℕ) (counting : Counting) → file ≡ from_1 → (command : Command)
@@ -170,6 +214,9 @@ trace_asked file counting path is other =
 
 other_flags : codes "--json" ≢ codes "--strict"
 other_flags same = let numbers : 106 ≡ 115 = ap (λ word. get_or word 2 0) same in cc
+
+no_generated : codes "--json" ≢ codes "--generated"
+no_generated same = let numbers : 106 ≡ 103 = ap (λ word. get_or word 2 0) same in cc
 
 pub command_once : (words : List (List ℕ)) (a b : Command) → AskFor words a → AskFor words b → IsSameCommand a b
 command_once words (Lookup From0 row col) (Lookup From0 row' col') (l, c, is, of_l, of_c) (l', c', is', of_l', of_c') =
@@ -210,6 +257,31 @@ command_once words (Check Json Usual) (Check Lines Strict) p q =
 command_once words (Check Lines Strict) (Check Json Usual) p q =
     absurd (other_flags (same_word 1 (codes "check" ∷ codes "--json" ∷ []) (codes "check" ∷ codes "--strict" ∷ [])
     (sym q ∙ p)))
+command_once words (CheckBeside Lines Usual path) (CheckBeside Lines Usual other) p q =
+    (refl, refl, same_word 2 (codes "check" ∷ codes "--generated" ∷ string_bytes path ∷ [])
+    (codes "check" ∷ codes "--generated" ∷ string_bytes other ∷ []) (sym p ∙ q))
+command_once words (CheckBeside Json Usual path) (CheckBeside Json Usual other) p q =
+    (refl, refl, same_word 3 (codes "check" ∷ codes "--json" ∷ codes "--generated" ∷ string_bytes path ∷ [])
+    (codes "check" ∷ codes "--json" ∷ codes "--generated" ∷ string_bytes other ∷ []) (sym p ∙ q))
+command_once words (CheckBeside Lines Strict path) (CheckBeside Lines Strict other) p q =
+    (refl, refl, same_word 3 (codes "check" ∷ codes "--strict" ∷ codes "--generated" ∷ string_bytes path ∷ [])
+    (codes "check" ∷ codes "--strict" ∷ codes "--generated" ∷ string_bytes other ∷ []) (sym p ∙ q))
+command_once words (CheckBeside Json Strict path) (CheckBeside Json Strict other) p q =
+    (refl, refl, same_word 4
+    (codes "check" ∷ codes "--json" ∷ codes "--strict" ∷ codes "--generated" ∷ string_bytes path ∷ [])
+    (codes "check" ∷ codes "--json" ∷ codes "--strict" ∷ codes "--generated" ∷ string_bytes other ∷ []) (sym p ∙ q))
+command_once words (CheckBeside Json Usual path) (CheckBeside Lines Strict other) p q =
+    absurd (other_flags (same_word 1 (codes "check" ∷ codes "--json" ∷ codes "--generated" ∷ string_bytes path ∷ [])
+    (codes "check" ∷ codes "--strict" ∷ codes "--generated" ∷ string_bytes other ∷ []) (sym p ∙ q)))
+command_once words (CheckBeside Lines Strict path) (CheckBeside Json Usual other) p q =
+    absurd (other_flags (same_word 1 (codes "check" ∷ codes "--json" ∷ codes "--generated" ∷ string_bytes other ∷ [])
+    (codes "check" ∷ codes "--strict" ∷ codes "--generated" ∷ string_bytes path ∷ []) (sym q ∙ p)))
+command_once words (Check Json Strict) (CheckBeside Lines Usual path) p q =
+    absurd (no_generated (same_word 1 (codes "check" ∷ codes "--json" ∷ codes "--strict" ∷ [])
+    (codes "check" ∷ codes "--generated" ∷ string_bytes path ∷ []) (sym p ∙ q)))
+command_once words (CheckBeside Lines Usual path) (Check Json Strict) p q =
+    absurd (no_generated (same_word 1 (codes "check" ∷ codes "--json" ∷ codes "--strict" ∷ [])
+    (codes "check" ∷ codes "--generated" ∷ string_bytes path ∷ []) (sym q ∙ p)))
 command_once words a b p q =
     let of_a = kind_is words a p in
     let of_b = kind_is words b q in

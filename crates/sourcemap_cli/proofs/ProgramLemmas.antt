@@ -31,9 +31,9 @@ use Rattle.sourcemap_trace.specs.Asked.{compiled_says}
 use Rattle.sourcemap_cli.specs.Command.{AskFor, IsOfMaps, IsQuestion, IsSameCommand, TakesAdjustment}
 use Rattle.sourcemap_cli.specs.Compiled.{IsFaultOf, compiled_line}
 use Rattle.sourcemap_cli.specs.Lines.{newline}
-use Rattle.sourcemap_cli.specs.Program.{AreApplied, AskForNone, IsCheckReply, ReturnsBy, ReturnsElse, ReturnsOnBytes, Ending, answered, rejected, misused, Ends, EndsOn, is_applied, IsCompileReply, IsRefusedReply, RepliesOn, FileDecodes, MayBeRead, MayEnd, IsCutShort, IsReply, IsReplyOf, IsReplyTo, IsPrinted, IsRefusal, IsWriteError, IsLookupLine, IsJsonLine, IsNotIndex, PrintsMap, Runs, Returns, ReturnsWithFile, ShiftAnswer, WithFile, adjusted_by, file_read, found_text, passes, rewritten_leaf, traced}
+use Rattle.sourcemap_cli.specs.Program.{AreApplied, AskForNone, IsCheckReply, ReturnsBy, ReturnsElse, ReturnsOnBytes, Ending, answered, rejected, misused, Ends, EndsOn, is_applied, IsCompileReply, IsRefusedReply, RepliesOn, FileDecodes, MayBeRead, MayEnd, IsCutShort, IsReply, IsReplyOf, IsReplyTo, IsPrinted, IsRefusal, IsWriteError, IsLookupLine, IsJsonLine, IsNotIndex, PrintsMap, ReadsText, Runs, Returns, ReturnsWithFile, ShiftAnswer, WithFile, adjusted_by, file_read, found_text, passes, rewritten_leaf, traced}
 use Rattle.sourcemap_cli.specs.declared.command.Command.{Command}
-use Rattle.sourcemap_cli.specs.declared.command.Command.TheVariants.{Check, Compile, Compose, Flatten, Lookup, Rewrite, Shift, Tokens, Trace}
+use Rattle.sourcemap_cli.specs.declared.command.Command.TheVariants.{Check, CheckBeside, Compile, Compose, Flatten, Lookup, Rewrite, Shift, Tokens, Trace}
 use Rattle.sourcemap_cli.specs.declared.command.Strictness.{Strictness}
 use Rattle.sourcemap_cli.specs.declared.program.Reply.{Reply}
 use Rattle.sourcemap_errors.proofs.AnswerLemmas.{UnlessMemory-weaker, UnlessMemory-from}
@@ -318,16 +318,20 @@ no_question command no_lookup no_trace h = h
 -- a command that is not applied to a decoded map compiles, checks or asks
 pub questions_left : (command : Command) (bytes : List ℕ) → is_applied command bytes ≡ false
     → ((contents : WithContents) → command ≢ Compile contents)
-    → ((form : Form) (strictness : Strictness) → command ≢ Check form strictness) → IsQuestion command
-questions_left (Lookup counting line col) bytes is no_compile no_check = tt
-questions_left (Trace counting path) bytes is no_compile no_check = tt
-questions_left (Compile contents) bytes is no_compile no_check = absurd (no_compile contents refl)
-questions_left (Check form strictness) bytes is no_compile no_check = absurd (no_check form strictness refl)
-questions_left command bytes is no_compile no_check = absurd cc
+    → ((form : Form) (strictness : Strictness) → command ≢ Check form strictness)
+    → ((form : Form) (strictness : Strictness) (path : String Global) → command ≢ CheckBeside form strictness path)
+    → IsQuestion command
+questions_left (Lookup counting line col) bytes is no_compile no_check no_beside = tt
+questions_left (Trace counting path) bytes is no_compile no_check no_beside = tt
+questions_left (Compile contents) bytes is no_compile no_check no_beside = absurd (no_compile contents refl)
+questions_left (Check form strictness) bytes is no_compile no_check no_beside = absurd (no_check form strictness refl)
+questions_left (CheckBeside form strictness path) bytes is no_compile no_check no_beside =
+    absurd (no_beside form strictness path refl)
+questions_left command bytes is no_compile no_check no_beside = absurd cc
 
--- a report is printed, with the status of the check
+-- the reply for a report is that of `check`
 pub reply_of_check : (form : Form) (strictness : Strictness) (bytes : List ℕ) (file : Result (List ℕ) Error)
-    (r : Result Reply Error) → MatchResult r (IsCheckReply form strictness bytes) (λ e. e ≡ OutOfMemory)
+    (r : Result Reply Error) → MatchResult r (IsCheckReply form strictness bytes None) (λ e. e ≡ OutOfMemory)
     → MatchResult r (RepliesOn (Check form strictness) bytes file) (λ e. e ≡ OutOfMemory)
 reply_of_check form strictness bytes file (Err e) is = is
 reply_of_check form strictness bytes file (Ok reply) is = by_status (passes strictness is.verdict) refl
@@ -340,6 +344,34 @@ reply_of_check form strictness bytes file (Ok reply) is = by_status (passes stri
     by_status false failing =
         let status : reply.status ≡ 1 = is.status_is ∙ ap (λ b. if b then 0 else 1) failing in
         (rejected reply.output.items, (refl, ((is.verdict, (is.has_verdict, failing)), is.report)), (refl, status))
+
+-- or of `check` beside the text of a file
+pub reply_of_check_beside : (form : Form) (strictness : Strictness) (path : String Global) (bytes text : List ℕ)
+    (file : Result (List ℕ) Error) (r : Result Reply Error) → ReadsText file (Ok text)
+    → MatchResult r (IsCheckReply form strictness bytes (Some text)) (λ e. e ≡ OutOfMemory)
+    → MatchResult r (RepliesOn (CheckBeside form strictness path) bytes file) (λ e. e ≡ OutOfMemory)
+reply_of_check_beside form strictness path bytes text file (Err e) reads is = is
+reply_of_check_beside form strictness path bytes text file (Ok reply) reads is =
+    by_status (passes strictness is.verdict) refl
+  where
+    by_status : (passing : Bool) → passes strictness is.verdict ≡ passing
+        → RepliesOn (CheckBeside form strictness path) bytes file reply
+    by_status true passing =
+        let status : reply.status ≡ 0 = is.status_is ∙ ap (λ b. if b then 0 else 1) passing in
+        (answered (Ok reply.output.items),
+        inl (text, reads, ((is.verdict, (is.has_verdict, passing)), is.report)), (refl, status))
+    by_status false failing =
+        let status : reply.status ≡ 1 = is.status_is ∙ ap (λ b. if b then 0 else 1) failing in
+        (rejected reply.output.items,
+        (refl, (text, reads, ((is.verdict, (is.has_verdict, failing)), is.report))), (refl, status))
+
+pub reply_of_no_text : (form : Form) (strictness : Strictness) (path : String Global) (bytes : List ℕ)
+    (file : Result (List ℕ) Error) (e : Error) (r : Result Reply Error) → UnlessMemory e (ReadsText file (Err e))
+    → MatchResult r (IsReplyOf (Err e)) (λ e. e ≡ OutOfMemory)
+    → MatchResult r (RepliesOn (CheckBeside form strictness path) bytes file) (λ e. e ≡ OutOfMemory)
+reply_of_no_text form strictness path bytes file e (Err f) h is = is
+reply_of_no_text form strictness path bytes file e (Ok reply) h is =
+    (answered (Err e), inr (with_memory e (ReadsText file (Err e)) is.0 h), is.1)
 
 -- a damaged compiled map is refused
 pub reply_of_fault : (command : Command) (bytes : List ℕ) (file : Result (List ℕ) Error) (e : CompiledMapError)
@@ -510,6 +542,7 @@ returns_alike (Shift rows) (index parts ss) other a b ordered p q = shift_alike 
 returns_alike (Trace counting path) t other a b ordered p q = absurd p
 returns_alike (Compile contents) t other a b ordered p q = equal_alike a b (p ∙ sym q)
 returns_alike (Check form strictness) t other a b ordered p q = equal_alike a b (p ∙ sym q)
+returns_alike (CheckBeside form strictness path) t other a b ordered p q = equal_alike a b (p ∙ sym q)
 
 reply_alike : (a b : Result (List ℕ) Error) → PrintAlike a b → (reply : Reply) → IsReply (answered a) reply
     → IsReply (answered b) reply
@@ -563,6 +596,7 @@ same_command : (c d : Command) (bytes : List ℕ) (file a : Result (List ℕ) Er
 same_command (Compose path) (Compose other) bytes file a same h = h
 same_command (Trace counting path) (Trace counting' other) bytes file a (same, paths) h =
     subst (λ x. ReturnsOnBytes (Trace x path) bytes file a) same h
+same_command (CheckBeside form strictness path) (CheckBeside form' strictness' other) bytes file a same h = h
 same_command c d bytes file a same h = subst (λ x. ReturnsOnBytes x bytes file a) same h
 
 -- a command that is applied to a decoded map has its output for the map

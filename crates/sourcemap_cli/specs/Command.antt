@@ -9,7 +9,7 @@ use Rattle.sourcemap_cache.specs.declared.parts.WithContents.TheVariants.{Yes, N
 use Rattle.sourcemap_check_print.specs.declared.print.Form.{Form}
 use Rattle.sourcemap_check_print.specs.declared.print.Form.TheVariants.{Lines, Json}
 use Rattle.sourcemap_cli.specs.declared.command.Command.{Command}
-use Rattle.sourcemap_cli.specs.declared.command.Command.TheVariants.{Lookup, Tokens, Rewrite, Flatten, Compose, Shift, Trace, Compile, Check}
+use Rattle.sourcemap_cli.specs.declared.command.Command.TheVariants.{Lookup, Tokens, Rewrite, Flatten, Compose, Shift, Trace, Compile, Check, CheckBeside}
 use Rattle.sourcemap_cli.specs.declared.command.Strictness.{Strictness}
 use Rattle.sourcemap_cli.specs.declared.command.Strictness.TheVariants.{Usual, Strict}
 
@@ -35,12 +35,12 @@ abbrev pub compile_words : WithContents → List (List ℕ)
 compile_words Yes = codes "compile" ∷ []
 compile_words No = codes "compile" ∷ without_contents ∷ []
 
--- the words that check a map
-abbrev pub check_words : Form → Strictness → List (List ℕ)
-check_words Lines Usual = codes "check" ∷ []
-check_words Json Usual = codes "check" ∷ codes "--json" ∷ []
-check_words Lines Strict = codes "check" ∷ codes "--strict" ∷ []
-check_words Json Strict = codes "check" ∷ codes "--json" ∷ codes "--strict" ∷ []
+-- the words that check a map, with further ones
+abbrev pub check_words : Form → Strictness → List (List ℕ) → List (List ℕ)
+check_words Lines Usual more = codes "check" ∷ more
+check_words Json Usual more = codes "check" ∷ codes "--json" ∷ more
+check_words Lines Strict more = codes "check" ∷ codes "--strict" ∷ more
+check_words Json Strict more = codes "check" ∷ codes "--json" ∷ codes "--strict" ∷ more
 
 -- these arguments of the program ask for this command. FILE of `trace` is not `--from-1`
 abbrev pub AskFor : List (List ℕ) → Command → Type 0
@@ -55,13 +55,17 @@ AskFor words (Shift rows) = (r : List ℕ) × (words ≡ codes "shift" ∷ r ∷
 AskFor words (Trace counting path) = (words ≡ counted_words (codes "trace") counting (string_bytes path ∷ []))
     × (string_bytes path ≢ from_1)
 AskFor words (Compile contents) = words ≡ compile_words contents
-AskFor words (Check form strictness) = words ≡ check_words form strictness
+AskFor words (Check form strictness) = words ≡ check_words form strictness []
+AskFor words (CheckBeside form strictness path) =
+    words ≡ check_words form strictness (codes "--generated" ∷ string_bytes path ∷ [])
 
 -- two commands are equal; the buffers of their paths may differ in capacity
 abbrev pub IsSameCommand : Command → Command → Type 0
 IsSameCommand (Compose path) (Compose other) = string_bytes path ≡ string_bytes other
 IsSameCommand (Trace counting path) (Trace counting' other) =
     (counting ≡ counting') × (string_bytes path ≡ string_bytes other)
+IsSameCommand (CheckBeside form strictness path) (CheckBeside form' strictness' other) =
+    (form ≡ form') × (strictness ≡ strictness') × (string_bytes path ≡ string_bytes other)
 IsSameCommand a b = a ≡ b
 
 -- `compose` takes a second map, and no other command does

@@ -1,7 +1,8 @@
 -- The output and the exit status of a run.
-use Rattle.std.specs.Prelude.{◌≡◌, ◌≢◌, ℕ, List, [], ◌++◌, codes, flat_map, if◌then◌else◌, Option, Some, None, option_map, Result, Ok, Err, IsOkAnd, Bool, true, false, not, String, Vec, string_bytes, ◌⊎◌}
+use Rattle.std.specs.Prelude.{◌≡◌, ◌≢◌, ℕ, List, [], ◌++◌, codes, flat_map, if◌then◌else◌, Option, Some, None, option_map, Result, Ok, Err, IsOkAnd, Bool, true, false, not, String, Vec, string_bytes, ◌⊎◌, IsUtf8}
 use Rattle.std.specs.Fmt.{decimal}
 use Rattle.std.specs.Io.KnownBytes.{Appends}
+use Rattle.std.specs.declared.str.Utf8Error.{Utf8Error}
 use Rattle.sourcemap.specs.Adjust.{adjusted}
 use Rattle.sourcemap.specs.AnyMap.{IsTextOf}
 use Rattle.sourcemap.specs.Answer.{UnlessMemory}
@@ -16,7 +17,7 @@ use Rattle.sourcemap.specs.TreeDecoder.{Then}
 use Rattle.sourcemap.specs.Trees.{LeafMap, regular, hermes, held, MapTree, leaf, index, MapSection, IndexParts, section_list, sections_from, lookup, meaning, IsInOrder}
 use Rattle.sourcemap.specs.Types.{MapValue, Meaning}
 use Rattle.sourcemap.specs.declared.errors.Error.{Error}
-use Rattle.sourcemap.specs.declared.errors.Error.TheVariants.{IncompatibleSourceMap, OutOfMemory}
+use Rattle.sourcemap.specs.declared.errors.Error.TheVariants.{IncompatibleSourceMap, OutOfMemory, Utf8}
 use Rattle.std.specs.declared.alloc.Global.{Global}
 use Rattle.std.specs.declared.io.Error.{Error as IoError}
 use Rattle.sourcemap_compiled.specs.Soundness.{IsSound}
@@ -34,7 +35,7 @@ use Rattle.sourcemap_cli.specs.Command.{AskFor}
 use Rattle.sourcemap_cli.specs.Compiled.{CompilesTo, IsRefusedCompiled, IsTooLarge, compiled_line, is_compiled}
 use Rattle.sourcemap_cli.specs.Lines.{IsLineOf, newline}
 use Rattle.sourcemap_cli.specs.declared.command.Command.{Command}
-use Rattle.sourcemap_cli.specs.declared.command.Command.TheVariants.{Lookup, Tokens, Rewrite, Flatten, Compose, Shift, Trace, Compile, Check}
+use Rattle.sourcemap_cli.specs.declared.command.Command.TheVariants.{Lookup, Tokens, Rewrite, Flatten, Compose, Shift, Trace, Compile, Check, CheckBeside}
 use Rattle.sourcemap_cli.specs.declared.command.Strictness.{Strictness}
 use Rattle.sourcemap_cli.specs.declared.command.Strictness.TheVariants.{Usual, Strict}
 use Rattle.sourcemap_cli.specs.declared.program.Reply.{Reply}
@@ -43,7 +44,7 @@ abbrev pub usage_text : List ℕ
 usage_text =
     codes "usage: lookup [--from-1] LINE COL | tokens | rewrite | flatten | compose FILE | shift ROWS"
     ++ codes " | trace [--from-1] FILE | compile [--without-contents]"
-    ++ codes " | check [--json] [--strict]" ++ newline
+    ++ codes " | check [--json] [--strict] [--generated FILE]" ++ newline
 
 -- the text of a token, with its original line and column counted from `first`; `none` if there is no token
 abbrev pub found_text : (first : ℕ) → Option TokenValue → List ℕ
@@ -127,6 +128,7 @@ Returns (Shift rows) (index parts ss) _ answer = ShiftAnswer rows parts (section
 Returns (Trace _ _) _ _ _ = ⊥
 Returns (Compile _) _ _ answer = answer ≡ Err IncompatibleSourceMap
 Returns (Check _ _) _ _ answer = answer ≡ Err IncompatibleSourceMap
+Returns (CheckBeside _ _ _) _ _ answer = answer ≡ Err IncompatibleSourceMap
 
 -- a file decodes to this map or to this error; the file is given as its bytes, or as the error of reading it
 abbrev pub FileDecodes : Result (List ℕ) Error → Result MapTree Error → Type 0
@@ -153,6 +155,7 @@ is_applied (Lookup _ _ _) bytes = not (is_compiled bytes)
 is_applied (Trace _ _) bytes = not (is_compiled bytes)
 is_applied (Compile _) bytes = false
 is_applied (Check _ _) bytes = false
+is_applied (CheckBeside _ _ _) bytes = false
 is_applied _ bytes = true
 
 -- whether a verdict lets a check pass. What looks wrong fails a strict check
@@ -163,9 +166,15 @@ passes Strict Suspicious = false
 passes strictness Right = true
 
 -- the bytes have a verdict that lets the check pass, or not
-abbrev pub Judges : (passing : Bool) → Strictness → (bytes : List ℕ) → Type 0
-Judges passing strictness bytes =
-    (verdict : Verdict) × HasVerdict verdict bytes None × (passes strictness verdict ≡ passing)
+abbrev pub Judges : (passing : Bool) → Strictness → (bytes : List ℕ) → (generated : Option (List ℕ)) → Type 0
+Judges passing strictness bytes generated =
+    (verdict : Verdict) × HasVerdict verdict bytes generated × (passes strictness verdict ≡ passing)
+
+-- the text in a file, or the error of reading it, or that it is not UTF-8
+abbrev pub ReadsText : (file : Result (List ℕ) Error) → Result (List ℕ) Error → Type 0
+ReadsText (Ok bytes) (Ok text) = IsUtf8 bytes × (text ≡ bytes)
+ReadsText (Ok bytes) (Err e) = (¬ IsUtf8 bytes) × ((cause : Utf8Error) × (e ≡ Utf8 cause))
+ReadsText (Err e) answer = answer ≡ Err e
 
 -- the output of a command that is not applied to a decoded map. A compiled map is looked up only if it is sound
 abbrev pub ReturnsElse : Command → (bytes : List ℕ) → (file : Result (List ℕ) Error) → Result (List ℕ) Error → Type 0
@@ -175,7 +184,10 @@ ReturnsElse (Trace counting _) bytes file answer =
     IsSound bytes × (answer ≡ traced (first_of counting) (compiled_says bytes) file)
 ReturnsElse (Compile contents) bytes file answer = Then (BytesDecode bytes) (λ t a. CompilesTo contents t a) answer
 ReturnsElse (Check form strictness) bytes file answer =
-    Judges true strictness bytes × IsOkAnd answer (IsReportOf form bytes None)
+    Judges true strictness bytes None × IsOkAnd answer (IsReportOf form bytes None)
+ReturnsElse (CheckBeside form strictness _) bytes file answer =
+    Then (ReadsText file) (λ generated a. Judges true strictness bytes (Some generated)
+    × IsOkAnd a (IsReportOf form bytes (Some generated))) answer
 ReturnsElse _ bytes file answer = ⊥
 
 -- the output of a command, or the first error
@@ -186,12 +198,16 @@ ReturnsBy false command bytes file answer = ReturnsElse command bytes file answe
 
 -- a command that is not applied to a decoded map is refused with this text: the compiled map is damaged, the map is too
 -- large to be compiled, or the check fails
-abbrev pub Refuses : Command → (bytes : List ℕ) → (text : List ℕ) → Type 0
-Refuses (Lookup _ _ _) bytes text = IsRefusedCompiled bytes text
-Refuses (Trace _ _) bytes text = IsRefusedCompiled bytes text
-Refuses (Compile contents) bytes text = IsTooLarge contents bytes text
-Refuses (Check form strictness) bytes text = Judges false strictness bytes × IsReportOf form bytes None text
-Refuses _ bytes text = ⊥
+abbrev pub Refuses : Command → (bytes : List ℕ) → (file : Result (List ℕ) Error) → (text : List ℕ) → Type 0
+Refuses (Lookup _ _ _) bytes file text = IsRefusedCompiled bytes text
+Refuses (Trace _ _) bytes file text = IsRefusedCompiled bytes text
+Refuses (Compile contents) bytes file text = IsTooLarge contents bytes text
+Refuses (Check form strictness) bytes file text =
+    Judges false strictness bytes None × IsReportOf form bytes None text
+Refuses (CheckBeside form strictness _) bytes file text =
+    (generated : List ℕ) × ReadsText file (Ok generated)
+    × Judges false strictness bytes (Some generated) × IsReportOf form bytes (Some generated) text
+Refuses _ bytes file text = ⊥
 
 -- Definitions for runs that are given words and the bytes of a map. For `compose` and `trace`, a run is also given the
 -- bytes of a file, or the error of reading it.
@@ -209,7 +225,7 @@ pub data Ending : Type 0 where
 -- a command on these bytes and this file has this ending
 abbrev pub EndsOn : Command → (bytes : List ℕ) → (file : Result (List ℕ) Error) → Ending → Type 0
 EndsOn command bytes file (answered answer) = ReturnsBy (is_applied command bytes) command bytes file answer
-EndsOn command bytes file (rejected text) = (is_applied command bytes ≡ false) × Refuses command bytes text
+EndsOn command bytes file (rejected text) = (is_applied command bytes ≡ false) × Refuses command bytes file text
 EndsOn command bytes file misused = ⊥
 
 -- a run with these words, these bytes and this file has this ending
@@ -255,10 +271,11 @@ abbrev pub IsRefusedReply : (known : Option (List ℕ)) → Reply → Type 0
 IsRefusedReply known reply = IsLineOf known reply.output.items × (reply.status ≡ 1)
 
 -- the reply for a report: its status is 0 if the check passes, otherwise 1
-pub record IsCheckReply (form : Form) (strictness : Strictness) (bytes : List ℕ) (reply : Reply) : Type 0 where
-  pub report : IsReportOf form bytes None reply.output.items
+pub record IsCheckReply (form : Form) (strictness : Strictness) (bytes : List ℕ) (generated : Option (List ℕ))
+    (reply : Reply) : Type 0 where
+  pub report : IsReportOf form bytes generated reply.output.items
   pub verdict : Verdict
-  pub has_verdict : HasVerdict verdict bytes None
+  pub has_verdict : HasVerdict verdict bytes generated
   pub status_is : reply.status ≡ (if passes strictness verdict then 0 else 1)
 
 -- the reply for what `compile` returned; there is no reply for `OutOfMemory`

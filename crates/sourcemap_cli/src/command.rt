@@ -19,6 +19,9 @@ const WITHOUT_CONTENTS: &str = "--without-contents";
 // The word that prints a report as JSON.
 const JSON: &str = "--json";
 
+// The word before the file of the generated text.
+const GENERATED: &str = "--generated";
+
 // The word that makes what looks wrong fail a check, too.
 const STRICT: &str = "--strict";
 
@@ -54,6 +57,9 @@ pub enum Command {
     Compile(WithContents),
     /// `check`, `check --json`, `check --strict`, `check --json --strict`: the findings in the map.
     Check(Form, Strictness),
+    /// The same words, then `--generated FILE`: what looks wrong beside the generated text in FILE,
+    /// too.
+    CheckBeside(Form, Strictness, String),
 }
 
 // Accepts only decimal digits. `parse` alone would also accept a `+` before them.
@@ -129,18 +135,94 @@ fn check_command(word: &str) -> Option<Command>
     None
 }
 
-fn strict_json_command(first: &str, second: &str) -> Option<Command>
-    ensures { MatchOption result
+fn check_command_of_two(alloc: Global, first: &str, second: &str) -> Result<Option<Command>>
+    ensures { MatchResult result
+        (λ found. MatchOption found
         ((command : _) → ¬ AskFor (codes "check" ∷ first.now ∷ second.now ∷ []) command)
-        (AskFor (codes "check" ∷ first.now ∷ second.now ∷ [])) }
+        (AskFor (codes "check" ∷ first.now ∷ second.now ∷ [])))
+        (λ e. e ≡ OutOfMemory) }
 {
+    if first == GENERATED {
+        let path = String::from_str(alloc, second)?;
+        return Ok(Some(Command::CheckBeside(
+            Form::Lines,
+            Strictness::Usual,
+            path,
+        )));
+    }
     if first != JSON {
-        return None;
+        return Ok(None);
     }
     if second != STRICT {
-        return None;
+        return Ok(None);
     }
-    Some(Command::Check(Form::Json, Strictness::Strict))
+    Ok(Some(Command::Check(Form::Json, Strictness::Strict)))
+}
+
+fn check_command_of_three(
+    alloc: Global,
+    first: &str,
+    second: &str,
+    file: &str,
+) -> Result<Option<Command>>
+    ensures { MatchResult result
+        (λ found. MatchOption found
+        ((command : _) → ¬ AskFor
+        (codes "check" ∷ first.now ∷ second.now ∷ file.now ∷ []) command)
+        (AskFor (codes "check" ∷ first.now ∷ second.now ∷ file.now ∷ [])))
+        (λ e. e ≡ OutOfMemory) }
+{
+    if second != GENERATED {
+        return Ok(None);
+    }
+    if first == JSON {
+        let path = String::from_str(alloc, file)?;
+        return Ok(Some(Command::CheckBeside(
+            Form::Json,
+            Strictness::Usual,
+            path,
+        )));
+    }
+    if first != STRICT {
+        return Ok(None);
+    }
+    let path = String::from_str(alloc, file)?;
+    Ok(Some(Command::CheckBeside(
+        Form::Lines,
+        Strictness::Strict,
+        path,
+    )))
+}
+
+fn check_command_of_four(
+    alloc: Global,
+    first: &str,
+    second: &str,
+    third: &str,
+    file: &str,
+) -> Result<Option<Command>>
+    ensures { MatchResult result
+        (λ found. MatchOption found
+        ((command : _) → ¬ AskFor
+        (codes "check" ∷ first.now ∷ second.now ∷ third.now ∷ file.now ∷ []) command)
+        (AskFor (codes "check" ∷ first.now ∷ second.now ∷ third.now ∷ file.now ∷ [])))
+        (λ e. e ≡ OutOfMemory) }
+{
+    if first != JSON {
+        return Ok(None);
+    }
+    if second != STRICT {
+        return Ok(None);
+    }
+    if third != GENERATED {
+        return Ok(None);
+    }
+    let path = String::from_str(alloc, file)?;
+    Ok(Some(Command::CheckBeside(
+        Form::Json,
+        Strictness::Strict,
+        path,
+    )))
 }
 
 fn parse_verb(verb: &str) -> Option<Command>
@@ -195,23 +277,55 @@ fn parse_verb_and_two(
             }
             trace_command(alloc, Counting::From1, second)
         }
-        "check" => Ok(strict_json_command(first, second)),
+        "check" => check_command_of_two(alloc, first, second),
         _ => Ok(None),
     }
 }
 
-fn parse_verb_and_three(verb: &str, flag: &str, line: &str, col: &str) -> Option<Command>
-    ensures { MatchOption result
-        ((command : _) → ¬ AskFor (verb.now ∷ flag.now ∷ line.now ∷ col.now ∷ []) command)
-        (AskFor (verb.now ∷ flag.now ∷ line.now ∷ col.now ∷ [])) }
+fn parse_verb_and_three(
+    alloc: Global,
+    verb: &str,
+    first: &str,
+    second: &str,
+    third: &str,
+) -> Result<Option<Command>>
+    ensures { MatchResult result
+        (λ found. MatchOption found
+        ((command : _) → ¬ AskFor (verb.now ∷ first.now ∷ second.now ∷ third.now ∷ []) command)
+        (AskFor (verb.now ∷ first.now ∷ second.now ∷ third.now ∷ [])))
+        (λ e. e ≡ OutOfMemory) }
 {
-    if verb != "lookup" {
-        return None;
+    match verb {
+        "lookup" => {
+            if first != FROM_1 {
+                return Ok(None);
+            }
+            Ok(lookup_command(Counting::From1, second, third))
+        }
+        "check" => check_command_of_three(alloc, first, second, third),
+        _ => Ok(None),
     }
-    if flag != FROM_1 {
-        return None;
+}
+
+fn parse_verb_and_four(
+    alloc: Global,
+    verb: &str,
+    first: &str,
+    second: &str,
+    third: &str,
+    fourth: &str,
+) -> Result<Option<Command>>
+    ensures { MatchResult result
+        (λ found. MatchOption found
+        ((command : _) → ¬ AskFor
+        (verb.now ∷ first.now ∷ second.now ∷ third.now ∷ fourth.now ∷ []) command)
+        (AskFor (verb.now ∷ first.now ∷ second.now ∷ third.now ∷ fourth.now ∷ [])))
+        (λ e. e ≡ OutOfMemory) }
+{
+    if verb != "check" {
+        return Ok(None);
     }
-    lookup_command(Counting::From1, line, col)
+    check_command_of_four(alloc, first, second, third, fourth)
 }
 
 /// Parses the arguments of a run. Returns `None` if they are no command. LINE, COL and ROWS are
@@ -230,12 +344,21 @@ pub fn parse_words(alloc: Global, words: &[String]) -> Result<Option<Command>>
         [verb, first, second] => {
             parse_verb_and_two(alloc, verb.as_str(), first.as_str(), second.as_str())
         }
-        [verb, flag, line, col] => Ok(parse_verb_and_three(
+        [verb, first, second, third] => parse_verb_and_three(
+            alloc,
             verb.as_str(),
-            flag.as_str(),
-            line.as_str(),
-            col.as_str(),
-        )),
+            first.as_str(),
+            second.as_str(),
+            third.as_str(),
+        ),
+        [verb, first, second, third, fourth] => parse_verb_and_four(
+            alloc,
+            verb.as_str(),
+            first.as_str(),
+            second.as_str(),
+            third.as_str(),
+            fourth.as_str(),
+        ),
         _ => Ok(None),
     }
 }

@@ -28,8 +28,8 @@ fn is_compiled(bytes: &[u8]) -> bool
     bytes.starts_with(b"\x8fSMC")
 }
 
-/// Whether a command is applied to the map that bytes decode to. `Compile` and `Check` are not, nor
-/// are `Lookup` and `Trace` if the bytes begin as a compiled map.
+/// Whether a command is applied to the map that bytes decode to. `Compile`, `Check` and `CheckBeside`
+/// are not, nor are `Lookup` and `Trace` if the bytes begin as a compiled map.
 pub(crate) fn is_applied(command: &Command, bytes: &[u8]) -> bool
     ensures { result ≡ is_applied command.now bytes.now }
 {
@@ -38,6 +38,7 @@ pub(crate) fn is_applied(command: &Command, bytes: &[u8]) -> bool
         Command::Trace(_, _) => !is_compiled(bytes),
         Command::Compile(_) => false,
         Command::Check(_, _) => false,
+        Command::CheckBeside(_, _, _) => false,
         _ => true,
     }
 }

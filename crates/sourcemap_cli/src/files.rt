@@ -26,6 +26,7 @@ pub fn read_command_file<F: Files>(rt: &F, alloc: Global, command: &Command) -> 
     match command {
         Command::Compose(path) => read_file(rt, alloc, path.as_str()),
         Command::Trace(_, path) => read_file(rt, alloc, path.as_str()),
+        Command::CheckBeside(_, _, path) => read_file(rt, alloc, path.as_str()),
         _ => Ok(Vec::new(alloc)),
     }
 }

@@ -176,8 +176,8 @@ pub(crate) fn adjusted_json(
 /// - `IncompatibleSourceMap` if `Tokens` or `Rewrite` gets an index map.
 /// - `IncompatibleSourceMap` if `Flatten` or `Shift` gets a map that is not an index map.
 /// - `IncompatibleSourceMap` if `Compose` gets a map or an adjustment that is not regular.
-/// - `IncompatibleSourceMap` for `Compile`, whose output is no text, and for `Check`, which checks
-///   bytes; use `sourcemap_cache::compile` and `sourcemap_check_print::check_text`.
+/// - `IncompatibleSourceMap` for `Compile`, whose output is no text, and for `Check` and `CheckBeside`,
+///   which check bytes; use `sourcemap_cache::compile` and `sourcemap_check_print::check_text`.
 /// - `IncompatibleSourceMap` if `Compose` would move a token past column 4294967295.
 /// - `IncompatibleSourceMap` if `Shift` would move a section past row 4294967295.
 /// - `CannotFlatten` if `SourceMapIndex::flatten` returns it for the map that `Flatten` gets.
@@ -209,5 +209,6 @@ pub fn apply<F: Files>(
         Command::Trace(_, _) => Err(Error::IncompatibleSourceMap),
         Command::Compile(_) => Err(Error::IncompatibleSourceMap),
         Command::Check(_, _) => Err(Error::IncompatibleSourceMap),
+        Command::CheckBeside(_, _, _) => Err(Error::IncompatibleSourceMap),
     }
 }

@@ -1,6 +1,7 @@
 //! A run of the program: from words and input to a reply, which is a text and an exit status.
 ghost use Rattle.std.specs.Prelude.{◌≡◌, false, if◌then◌else◌, ℕ, List, Result, IfErr, IfOk, MatchResult, map, string_bytes};
 ghost use Rattle.std.specs.Io.KnownBytes.{Appends};
+ghost use Rattle.std.specs.Option.{option_copied};
 ghost use Rattle.sourcemap.specs.Answer.{IsAnswer};
 ghost use Rattle.sourcemap.specs.AnyMap.{map_tree};
 ghost use Rattle.sourcemap.specs.Decoder.{Reading};
@@ -14,9 +15,9 @@ ghost use Rattle.sourcemap_trace.specs.Asked.{IsExact, asked_meaning};
 ghost use Rattle.sourcemap_trace.specs.Positions.{first_of};
 ghost use Rattle.sourcemap_cli.specs.Command.{IsQuestion};
 ghost use Rattle.sourcemap_cli.specs.Lines.{IsLineOf};
-ghost use Rattle.sourcemap_cli.specs.declared.command.Command.TheVariants.{Compile, Compose};
+ghost use Rattle.sourcemap_cli.specs.declared.command.Command.TheVariants.{CheckBeside, Compile, Compose};
 ghost use Rattle.sourcemap_cli.specs.declared.program.Reply.{Reply};
-ghost use Rattle.sourcemap_cli.specs.Program.{AreApplied, AskForNone, Ending, Ends, IsCheckReply, IsCompileReply, IsCutShort, IsPrinted, IsRefusedReply, IsReply, IsReplyOf, IsReplyTo, IsWriteError, PrintsRefusal, RepliesOn, ReturnsElse, ReturnsOnBytes, ReturnsWithFile, Runs, WithFile, file_read, is_applied, misused, passes, traced};
+ghost use Rattle.sourcemap_cli.specs.Program.{AreApplied, AskForNone, Ending, Ends, IsCheckReply, IsCompileReply, IsCutShort, IsPrinted, IsRefusedReply, IsReply, IsReplyOf, IsReplyTo, IsWriteError, PrintsRefusal, ReadsText, RepliesOn, ReturnsElse, ReturnsOnBytes, ReturnsWithFile, Runs, WithFile, file_read, is_applied, misused, passes, traced};
 
 use crate::command::{Command, Strictness, parse_words};
 use crate::compiled::{compiled_line, is_applied, sound_map};
@@ -30,15 +31,17 @@ use sourcemap_cache::parts::WithContents;
 use sourcemap_check_print::print::{CheckText, Form, Verdict, check_text};
 use sourcemap_compiled::map::CompiledMap;
 use sourcemap_records::bytes::read_all;
+use sourcemap_source_views::sourceview::SourceView;
 use sourcemap_trace::{AskedMap, Counting, trace_text_from};
 use std::alloc::Global;
 use std::fmt::Display;
 use std::io::{Read, Write};
 use std::result;
 use std::rt::Files;
+use std::str;
 
 const USAGE: &str =
-    "usage: lookup [--from-1] LINE COL | tokens | rewrite | flatten | compose FILE | shift ROWS | trace [--from-1] FILE | compile [--without-contents] | check [--json] [--strict]\n";
+    "usage: lookup [--from-1] LINE COL | tokens | rewrite | flatten | compose FILE | shift ROWS | trace [--from-1] FILE | compile [--without-contents] | check [--json] [--strict] [--generated FILE]\n";
 
 const NO_MEMORY: &str = "out of memory\n";
 
@@ -197,16 +200,45 @@ fn compile_reply(alloc: Global, bytes: Vec<u8>, contents: WithContents) -> Resul
 fn check_reply(
     alloc: Global,
     bytes: &[u8],
+    generated: Option<&SourceView>,
     form: Form,
     strictness: Strictness,
 ) -> Result<Reply>
     ensures { MatchResult result
-        (IsCheckReply form strictness bytes.now)
+        (IsCheckReply form strictness bytes.now (option_copied generated.entry))
         (λ e. e ≡ OutOfMemory) }
 {
-    let report = check_text(alloc, bytes, None, form)?;
+    let report = check_text(alloc, bytes, generated, form)?;
     let CheckText { text, verdict } = report;
     Ok(text_reply(text, check_status(strictness, verdict)))
+}
+
+// The generated text in a file.
+fn generated_view(alloc: Global, file: Result<Vec<u8>>) -> Result<SourceView>
+    ensures { IsAnswer (λ view. view) (ReadsText (file_read file)) result }
+{
+    let bytes = file?;
+    let text = str::from_utf8(bytes.as_slice())?;
+    SourceView::new(alloc, text)
+}
+
+// A check beside a generated text, which is given as the bytes of its file.
+fn check_beside_reply(
+    alloc: Global,
+    bytes: &[u8],
+    file: Result<Vec<u8>>,
+    form: Form,
+    strictness: Strictness,
+) -> Result<Reply>
+    ensures { (path : _) → MatchResult result
+        (RepliesOn (CheckBeside form strictness path) bytes.now (file_read file))
+        (λ e. e ≡ OutOfMemory) }
+{
+    // prover: error passed on by `match`
+    match generated_view(alloc, file) {
+        Ok(view) => check_reply(alloc, bytes, Some(&view), form, strictness),
+        Err(error) => into_reply(alloc, Err(error)),
+    }
 }
 
 fn check_status(strictness: Strictness, verdict: Verdict) -> u8
@@ -274,7 +306,10 @@ fn reply_without_map(
     match command {
         Command::Compile(contents) => compile_reply(alloc, bytes, *contents),
         Command::Check(form, strictness) => {
-            check_reply(alloc, bytes.as_slice(), *form, *strictness)
+            check_reply(alloc, bytes.as_slice(), None, *form, *strictness)
+        }
+        Command::CheckBeside(form, strictness, _) => {
+            check_beside_reply(alloc, bytes.as_slice(), file, *form, *strictness)
         }
         command => compiled_reply(alloc, command, bytes.as_slice(), file),
     }

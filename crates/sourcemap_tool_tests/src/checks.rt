@@ -1,7 +1,10 @@
 // Runs of `check`.
 use crate::compiled::check_run;
-use crate::runs::MAP;
-use sourcemap_test_support::checks::Checked;
+use crate::fake_files::files_with;
+use crate::memory::unless_out;
+use crate::runs::{MAP, words_of};
+use sourcemap_cli::program::run;
+use sourcemap_test_support::checks::{Checked, check_that};
 
 // An index map with two sections. The first has a map without a version, whose second line has the
 // segments `g` and `F`. The second has no map, and starts where the first starts.
@@ -77,7 +80,7 @@ const DOUBTFUL_JSON: &str = concat!(
 );
 
 // Words, a map, and the status and output of the run.
-static RUNS: [(&str, &str, u8, &str); 19] = [
+static RUNS: [(&str, &str, u8, &str); 20] = [
     ("check", INVALID, 1, LINES),
     ("check --strict", INVALID, 1, LINES),
     ("check --json", INVALID, 1, JSON),
@@ -96,6 +99,7 @@ static RUNS: [(&str, &str, u8, &str); 19] = [
     ("check --strict", DOUBTFUL, 1, DOUBTFUL_LINES),
     ("check --json", DOUBTFUL, 0, DOUBTFUL_JSON),
     ("check --json --strict", DOUBTFUL, 1, DOUBTFUL_JSON),
+    ("check", SHIFTED, 0, SHIFTED_LINES),
     (
         "check",
         NESTED,
@@ -138,6 +142,110 @@ static RUNS: [(&str, &str, u8, &str); 19] = [
 fn reports_are_printed(rt: HostRuntime) -> Checked {
     for (line, map, status, text) in RUNS.iter() {
         check_run(&rt, line, map.as_bytes(), *status, text)?;
+    }
+    Ok(())
+}
+
+// Four names stand in the contents one line after the lines that the map names. Each has a token of
+// its own on a generated line.
+const SHIFTED: &str =
+    r#"{"version":3,"sources":["a"],"sourcesContent":["//\nalpha\nbeta\ngamma\ndelta"],"names":["alpha","beta","gamma","delta"],"mappings":"AAAAA;AACAC;AACAC;AACAC"}"#;
+
+const SHIFTED_LINES: &str = "MAP:mappings at 0:0: SM205 the name does not stand at the original position
+MAP:mappings at 1:0: SM205 the name does not stand at the original position
+MAP:mappings at 2:0: SM205 the name does not stand at the original position
+MAP:mappings at 3:0: SM205 the name does not stand at the original position
+MAP:mappings by 1:0: SM241 names stand in the contents of sources after this shift
+0 invalid, 5 suspicious, 5 shown";
+
+// A word of the source on each of four generated lines.
+const LINED: &str =
+    r#"{"version":3,"sources":["a"],"sourcesContent":["alpha\nbeta\ngamma\ndelta"],"mappings":"AAAA;AACA;AACA;AACA"}"#;
+
+const BANNER_JSON: &str = r#"{"counts":{"invalid":0,"shown":1,"suspicious":1},"findings":[{"code":"SM242","key":"mappings","position":{"columns":0,"lines":3},"sections":[],"sentence":"words stand in the generated text after this shift","severity":"suspicious"}]}"#;
+
+// Words, a map, the text in the file `a.js`, and the status and output of the run.
+static BESIDE: [(&str, &str, &str, u8, &str); 8] = [
+    (
+        "check --generated a.js",
+        LINED,
+        "alpha\nbeta\ngamma\ndelta\n",
+        0,
+        "0 invalid, 0 suspicious, 0 shown",
+    ),
+    (
+        "check --json --generated a.js",
+        LINED,
+        "/*\n *\n */\nalpha\nbeta\ngamma\ndelta\n",
+        0,
+        BANNER_JSON,
+    ),
+    (
+        "check --json --strict --generated a.js",
+        LINED,
+        "/*\n *\n */\nalpha\nbeta\ngamma\ndelta\n",
+        1,
+        BANNER_JSON,
+    ),
+    (
+        "check --strict --generated a.js",
+        LINED,
+        "(alpha\n(beta\n(gamma\n(delta\n",
+        1,
+        "MAP:mappings by 0:1: SM242 words stand in the generated text after this shift\n0 invalid, 1 suspicious, 1 shown",
+    ),
+    (
+        "check --generated a.js",
+        LINED,
+        "x\ny",
+        0,
+        "MAP:mappings at 2:0: SM231 the generated text has no such line\nMAP:mappings at 3:0: SM231 the generated text has no such line\n0 invalid, 2 suspicious, 2 shown",
+    ),
+    (
+        "check --generated a.js",
+        r#"{"version":3,"sources":[],"mappings":"E"}"#,
+        "x",
+        0,
+        "MAP:mappings at 0:2: SM232 the generated line has fewer columns\n0 invalid, 1 suspicious, 1 shown",
+    ),
+    (
+        "check --generated a.js",
+        r#"{"version":3,"sources":[]}"#,
+        "x",
+        1,
+        "MAP:mappings: SM115 there is no mappings\n1 invalid, 0 suspicious, 1 shown",
+    ),
+    (
+        "check --generated b.js",
+        LINED,
+        "x",
+        1,
+        "entity not found",
+    ),
+];
+
+fn check_beside(
+    rt: &HostRuntime,
+    line: &str,
+    map: &str,
+    generated: &str,
+    status: u8,
+    text: &str,
+) -> Checked {
+    let words = words_of(rt.alloc(), line)?;
+    let files = files_with("a.js", generated);
+    let mut rest = map.as_bytes();
+    let mut output = Vec::new(rt.alloc());
+    let ended = run(&files, rt.alloc(), words.as_slice(), &mut rest, &mut output)?;
+    unless_out(ended, output.as_slice())?;
+    let is_text = output.as_slice().strip_suffix(b"\n") == Some(text.as_bytes());
+    check_that(line, ended == status && is_text)
+}
+
+#[test]
+fn maps_are_checked_beside_texts(rt: HostRuntime) -> Checked {
+    for (line, map, generated, status, text) in BESIDE.iter() {
+        check_beside(&rt, line, map, generated, *status, text)?;
     }
     Ok(())
 }

@@ -14,7 +14,7 @@ pub const MAP: &str =
     r#"{"version":3,"sources":["coolstuff.js"],"names":["x","alert"],"mappings":"AAAA,GAAIA,GAAI,EACR,IAAIA,GAAK,EAAG,CACVC,MAAM"}"#;
 
 pub const USAGE: &str =
-    "usage: lookup [--from-1] LINE COL | tokens | rewrite | flatten | compose FILE | shift ROWS | trace [--from-1] FILE | compile [--without-contents] | check [--json] [--strict]\n";
+    "usage: lookup [--from-1] LINE COL | tokens | rewrite | flatten | compose FILE | shift ROWS | trace [--from-1] FILE | compile [--without-contents] | check [--json] [--strict] [--generated FILE]\n";
 
 // Words, a map, and the status and output of the run.
 pub const RUNS: &str = r#"lookup 0 5|MAP|0 coolstuff.js:0:4 name=x
@@ -171,6 +171,10 @@ check --lines
 check --strict --json
 check --json --json
 check --json --strict --strict
+check --generated
+check --generated a.js --json
+check --strict --json --generated a.js
+check --json --generated
 --json check
 Check";
 
@@ -324,6 +328,12 @@ fn words_ask_for_commands(rt: HostRuntime) -> Result<(), Fail> {
     assert!(rt; ask_for(alloc, "check --strict", Some(command))?);
     let command = Command::Check(Form::Json, Strictness::Strict);
     assert!(rt; ask_for(alloc, "check --json --strict", Some(command))?);
+    let path = String::from_str(alloc, "--json")?;
+    let command = Command::CheckBeside(Form::Lines, Strictness::Usual, path);
+    assert!(rt; ask_for(alloc, "check --generated --json", Some(command))?);
+    let path = String::from_str(alloc, "a.js")?;
+    let command = Command::CheckBeside(Form::Json, Strictness::Strict, path);
+    assert!(rt; ask_for(alloc, "check --json --strict --generated a.js", Some(command))?);
     assert!(rt; ask_for(alloc, "tokens tokens", None)?);
     Ok(())
 }

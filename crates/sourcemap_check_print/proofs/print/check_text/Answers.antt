@@ -29,7 +29,8 @@ returns-clause-verdict c =
     let kept = c.in_ok-checked.checked.report.findings in
     let is = none_found findings.0 kept.items c.is_empty-is_valid.result findings.2.findings
     (c.is_empty-is_valid.ensures ∙ ap (λ n. n == 0) kept.ok.0) in
-    subst (λ v. HasVerdict v c.args.bytes.now (option_copied c.args.generated)) (sym c.verdict_of-verdict.ensures)
+    let counted = rw c.count_of.ensures at c.verdict_of-verdict.ensures in
+    subst (λ v. HasVerdict v c.args.bytes.now (option_copied c.args.generated)) (sym counted)
     (verdict_holds findings.0 c.is_empty-is_valid.result c.args.bytes.now (option_copied c.args.generated)
     c.in_ok-found.found is (c.validity_is_decided.ensures.valid c.args.bytes.now findings.0 findings.1)
     c.in_ok-found.ensures.shown)

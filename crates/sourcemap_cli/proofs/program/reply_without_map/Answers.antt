@@ -12,9 +12,14 @@ returns-in-Check c =
     (reply_of_check _ _ c.args.bytes.items (file_read c.args.file) c.check_reply.result
     (rw c.as_slice.ensures.value at c.check_reply.ensures))
 
+pub returns-in-CheckBeside : goal.returns-in-CheckBeside
+returns-in-CheckBeside c =
+    rw (c.in-CheckBeside.is, c.as_slice-in-CheckBeside.ensures.value) (c.check_beside_reply.ensures _)
+
 pub compiled_reply-requires-clause-question : goal.compiled_reply-requires-clause-question
 compiled_reply-requires-clause-question c =
     questions_left c.args.command.now c.args.bytes.items c.requires c.in_default.not-Compile c.in_default.not-Check
+    c.in_default.not-CheckBeside
 
 pub compiled_reply-requires-clause-compiled : goal.compiled_reply-requires-clause-compiled
 compiled_reply-requires-clause-compiled c = rw c.as_slice.ensures.value c.requires

@@ -1,0 +1,10 @@
+use Rattle.std.proofs.Common.{inl, inr, rules}
+use Rattle.sourcemap_cli.proofs.CommandLemmas.{no_check_of_three}
+use Rattle.sourcemap_cli.proofs.command.check_command_of_three.Goals as goal
+
+pub returns-then-ne : goal.returns-then-ne
+returns-then-ne c = no_check_of_three c.args.first.now c.args.second.now c.args.file.now (inl (search rules))
+
+pub returns-then-ne-2 : goal.returns-then-ne-2
+returns-then-ne-2 c =
+    no_check_of_three c.args.first.now c.args.second.now c.args.file.now (inr ((search rules), (search rules)))
