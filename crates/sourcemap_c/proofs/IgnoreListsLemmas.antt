@@ -19,9 +19,9 @@ ids_in_range from ids = filter_agree (range_contains nat_cmp (Included from) Unb
     and_true true = refl
     and_true false = refl
 
-pub one_more : (done old : List ℕ) (count id : ℕ) → length done ≡ count → count < length old
+pub set_next_id : (done old : List ℕ) (count id : ℕ) → length done ≡ count → count < length old
     → set (done ++ drop count old) count id ≡ (done ++ id ∷ []) ++ drop (count + 1) old
-one_more done old count id is space =
+set_next_id done old count id is space =
     ap (λ rest. set (done ++ rest) count id) (drop_more old count 0 space)
     ∙ ap (λ n. set (done ++ get_or old count 0 ∷ drop (count + 1) old) n id) (sym is)
     ∙ set-append_seam done (get_or old count 0) (drop (count + 1) old) id

@@ -22,17 +22,17 @@ value_in : HermesValue → Result HermesValue Error → HermesValue
 value_in other (Ok y) = y
 value_in other (Err _) = other
 
-both : (options : RewriteOptions) (h : HermesValue) (result : Result SourceMapHermes Error)
+rewritten_or_memory : (options : RewriteOptions) (h : HermesValue) (result : Result SourceMapHermes Error)
     → Gives hermes_value result (Ok (rewritten (removal_of options) h))
     → MatchResult result (λ new. hermes_value new ≡ rewritten (removal_of options) h) (λ e. e ≡ OutOfMemory)
-both options h (Ok new) gives = Gives-given hermes_value (rewritten (removal_of options) h) (Ok new) gives
-both options h (Err e) gives = Gives-memory hermes_value (rewritten (removal_of options) h) (Err e) gives
+rewritten_or_memory options h (Ok new) gives = Gives-given hermes_value (rewritten (removal_of options) h) (Ok new) gives
+rewritten_or_memory options h (Err e) gives = Gives-memory hermes_value (rewritten (removal_of options) h) (Err e) gives
 
 pub hermes_due : (options : RewriteOptions) (old copy : HermesValue) (result : Result SourceMapHermes Error)
     → options.load_local_source_contents ≡ false → copy ≡ old → IsAnswer hermes_value (Rewrites options copy) result
     → MatchResult result (λ new. hermes_value new ≡ rewritten (removal_of options) old) (λ e. e ≡ OutOfMemory)
 hermes_due options old copy result none same is =
-    rw (← same) (both options copy result (Gives-rewritten hermes_value options copy result none is))
+    rw (← same) (rewritten_or_memory options copy result (Gives-rewritten hermes_value options copy result none is))
 
 abbrev pub bytes_of : List (Bor (List ℕ)) → List (List ℕ)
 bytes_of texts = map (λ (text : Bor (List ℕ)). text.now) texts

@@ -1,5 +1,6 @@
 -- What a position means in a compiled map.
-use Rattle.std.specs.Prelude.{◌≡◌, ℕ, ◌+◌, ◌-◌, ◌<◌, ◌≤◌, List, Bool, min, Option, option_map, Result}
+use Rattle.std.specs.Prelude.{◌≡◌, ℕ, ◌+◌, ◌-◌, ◌<◌, ◌≤◌, nat_lt, if◌then◌else◌, List, Bool, min, Option, Some, None}
+use Rattle.std.specs.Prelude.{option_map, Result}
 use Rattle.sourcemap_tokens.specs.declared.tokens.RawToken.{RawToken}
 use Rattle.sourcemap_tokens.specs.Tokens.{AreInOrder, closest_token, destination}
 use Rattle.sourcemap_compose.specs.Moved.{distance}
@@ -65,6 +66,13 @@ says t = record {
   scope = compiled_scope t.bytes t.index;
   is_range = t.raw.is_range;
 }
+
+-- the token with this index, if there is one
+abbrev pub token_at : List ℕ → ℕ → Option CompiledTokenValue
+token_at bytes index =
+    if nat_lt index (token_count bytes)
+    then Some (record { bytes = bytes; raw = compiled_token bytes index; index = index; extra_columns = 0 })
+    else None
 
 -- the token closest to a generated position, if there is one
 abbrev pub lookup : List ℕ → ℕ × ℕ → Option CompiledTokenValue

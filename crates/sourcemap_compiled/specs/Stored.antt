@@ -1,6 +1,9 @@
 -- The values that contracts see of the types in `src`.
-use Rattle.std.specs.Prelude.{ℕ, List}
+use Rattle.std.specs.Prelude.{ℕ, ◌+◌, ◌*◌, ◌%◌, ◌^◌, List}
 use Rattle.sourcemap_compiled.specs.Lookup.{CompiledMeaning, CompiledTokenValue, says}
+use Rattle.sourcemap_compiled.specs.Numbers.{bits_at, position_number}
+use Rattle.sourcemap_compiled.specs.declared.blocks.Field.{Field}
+use Rattle.sourcemap_compiled.specs.declared.blocks.Positions.{Positions}
 use Rattle.sourcemap_compiled.specs.declared.map.CompiledMap.{CompiledMap}
 use Rattle.sourcemap_compiled.specs.declared.token.CompiledToken.{CompiledToken}
 
@@ -14,3 +17,12 @@ token_value t = record { bytes = bytes_of t.map; raw = t.raw; index = t.index; e
 -- the meaning of a token: what its getters return
 abbrev pub meaning_of_token : CompiledToken → CompiledMeaning
 meaning_of_token t = says (token_value t)
+
+-- the number of a field at a place
+abbrev pub number_in : Field → ℕ → ℕ
+number_in field place = bits_at field.bytes.now field.start (place * field.width) field.width
+
+-- the position at a place, as one number
+abbrev pub position_by : Positions → ℕ → ℕ
+position_by p place =
+    position_number ((p.line + number_in p.lines place) % 2 ^ 32, (p.column + number_in p.columns place) % 2 ^ 32)

@@ -1,5 +1,5 @@
 //! Blocks of packed tokens.
-ghost use Rattle.std.specs.Prelude.{◌≡◌, ◌≤◌, ◌<◌, ◌+◌, ◌-◌, ◌*◌, ◌/◌, ◌%◌, ◌^◌, length};
+ghost use Rattle.std.specs.Prelude.{◌≡◌, ℕ, ◌≤◌, ◌<◌, ◌+◌, ◌-◌, ◌*◌, ◌/◌, ◌%◌, ◌^◌, length};
 ghost use Rattle.sourcemap_compiled.specs.Blocks.{base_at, packed_at, position_in, scope_field, token_in, value_at};
 ghost use Rattle.sourcemap_compiled.specs.Blocks.{width_at, widths_before};
 ghost use Rattle.sourcemap_compiled.specs.Numbers.{position_number};
@@ -39,6 +39,27 @@ pub(crate) struct Block<'a> {
     ghost whole: { head + 32 ≤ length bytes.now },
 }
 
+/// The numbers of a field in the body of a block: where they start, and the bits of each number.
+#[derive(Clone, Copy)]
+struct Field<'a> {
+    bytes: &'a [u8],
+    start: usize,
+    width: usize,
+    ghost long: { 8 ≤ length bytes.now },
+    ghost near: { start < 2 ^ 40 },
+    ghost narrow: { width < 64 },
+}
+
+/// What all generated positions of a block are read from: the bases of lines and columns, and the
+/// numbers of both.
+#[derive(Clone, Copy)]
+pub(crate) struct Positions<'a> {
+    line: u32,
+    column: u32,
+    lines: Field<'a>,
+    columns: Field<'a>,
+}
+
 /// Where a search ends: the index of a token, the position of the token ahead of it, and its own.
 #[derive(Clone, Copy)]
 pub(crate) struct Bracket {
@@ -48,6 +69,8 @@ pub(crate) struct Bracket {
 }
 
 impl<'a> Block<'a> {
+    ghost use Rattle.sourcemap_compiled.specs.Stored.{number_in, position_by};
+
     /// Returns the token at a place, whose generated position is known.
     #[inline(always)]
     pub(crate) fn token(&self, place: usize, position: u64) -> RawToken
@@ -76,15 +99,18 @@ impl<'a> Block<'a> {
         self.packed(SCOPE, place)
     }
 
-    /// Returns the generated position of the token at a place other than 0, as one number.
+    /// Returns what the generated positions of the tokens at places other than 0 are read from.
     #[inline(always)]
-    pub(crate) fn position(&self, place: usize) -> u64
-        requires { place < 64 }
-        ensures { result ≡ position_in self.now.bytes.now (self.now.start / 2 ^ 32) self.now.head place }
+    pub(crate) fn positions(&self) -> Positions<'a>
+        ensures { (place : ℕ) → position_by result place
+            ≡ position_in self.now.bytes.now (self.now.start / 2 ^ 32) self.now.head place }
     {
-        let line = self.value(self.line(), LINE, place);
-        let column = self.value(self.base(COLUMN), COLUMN, place);
-        position_number(line, column)
+        Positions {
+            line: self.line(),
+            column: self.base(COLUMN),
+            lines: self.field(LINE),
+            columns: self.field(COLUMN),
+        }
     }
 
     /// Searches the places below `size` for a token at or after a position, where the token ahead
@@ -107,13 +133,14 @@ impl<'a> Block<'a> {
         ensures before { result.ahead < position }
         ensures from { result.index < size → position ≤ result.next }
     {
+        let positions = self.positions();
         let mut low = 1;
         let mut high = size;
         let mut ahead = self.start;
         let mut next = after;
         while low < high {
             let middle = low + (high - low) / 2;
-            let here = self.position(middle);
+            let here = positions.at(middle);
             if here < position {
                 low = middle + 1;
                 ahead = here;
@@ -143,21 +170,32 @@ impl<'a> Block<'a> {
         requires place { place < 64 }
         ensures { result ≡ value_at self.now.bytes.now base self.now.head field place }
     {
-        let sum = u64::from(base) + self.packed(field, place);
-        (sum % (1 << 32)) as u32
+        add(base, self.packed(field, place))
     }
 
     #[inline(always)]
-    #[tactic(auto, unfolding(crate::specs::Blocks::packed_at))]
     fn packed(&self, field: usize, place: usize) -> u64
         requires field { field < 8 }
         requires place { place < 64 }
         ensures number { result ≡ packed_at self.now.bytes.now self.now.head field place }
         ensures small { result < 2 ^ 63 }
     {
+        self.field(field).number(place)
+    }
+
+    #[inline(always)]
+    #[tactic(auto, unfolding(crate::specs::Blocks::packed_at))]
+    fn field(&self, field: usize) -> Field<'a>
+        requires { field < 8 }
+        ensures { (place : ℕ) → number_in result place
+            ≡ packed_at self.now.bytes.now self.now.head field place }
+    {
         let width = self.width(field);
-        let start = u32_at(self.bytes, self.head) as usize + 8 * self.widths_before(field);
-        bits_at(self.bytes, start, place * width, width)
+        Field {
+            bytes: self.bytes,
+            start: u32_at(self.bytes, self.head) as usize + 8 * self.widths_before(field),
+            width,
+        }
     }
 
     #[inline(always)]
@@ -190,6 +228,55 @@ impl<'a> Block<'a> {
         }
         sum
     }
+}
+
+impl Field<'_> {
+    ghost use Rattle.sourcemap_compiled.specs.Stored.{number_in};
+
+    /// Returns the number at a place. Nothing is read if the numbers have no bits.
+    #[inline(always)]
+    fn number(&self, place: usize) -> u64
+        requires { place < 64 }
+        ensures value { result ≡ number_in self.now place }
+        ensures small { result < 2 ^ 63 }
+    {
+        if self.width == 0 { 0 } else { self.read(place) }
+    }
+
+    #[inline(always)]
+    fn read(&self, place: usize) -> u64
+        requires { place < 64 }
+        ensures value { result ≡ number_in self.now place }
+        ensures small { result < 2 ^ 63 }
+    {
+        bits_at(self.bytes, self.start, place * self.width, self.width)
+    }
+}
+
+impl Positions<'_> {
+    ghost use Rattle.sourcemap_compiled.specs.Stored.{position_by};
+
+    /// Returns the generated position of the token at a place other than 0, as one number.
+    #[inline(always)]
+    pub(crate) fn at(&self, place: usize) -> u64
+        requires { place < 64 }
+        ensures { result ≡ position_by self.now place }
+    {
+        // The tokens of most blocks are on one line, and then no line is read. Columns differ, so
+        // a test for no bits would cost more than it saves.
+        let line = add(self.line, self.lines.number(place));
+        let column = add(self.column, self.columns.read(place));
+        position_number(line, column)
+    }
+}
+
+/// Returns a number plus a base, modulo 2^32.
+#[inline(always)]
+fn add(base: u32, number: u64) -> u32
+    requires { number < 2 ^ 63 }
+    ensures { result ≡ (base + number) % 2 ^ 32 }
+{
+    ((u64::from(base) + number) % (1 << 32)) as u32
 }
 
 /// Returns a position as one number.

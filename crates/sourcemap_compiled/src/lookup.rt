@@ -1,8 +1,9 @@
-//! Lookups in a compiled map.
+//! The tokens of a compiled map, by index and by position.
 ghost use Rattle.std.specs.Prelude.{◌≡◌, IfSome, MatchOption, option_map};
 ghost use Rattle.sourcemap_compose.specs.Moved.{distance};
 ghost use Rattle.sourcemap_compiled.specs.Blocks.{compiled_token};
 ghost use Rattle.sourcemap_compiled.specs.Lookup.{IsInOrder, IsNextTo, StartsAfter, compiled_meaning, lookup};
+ghost use Rattle.sourcemap_compiled.specs.Lookup.{token_at};
 ghost use Rattle.sourcemap_compiled.specs.Numbers.{position_number};
 
 use crate::map::CompiledMap;
@@ -11,6 +12,22 @@ use sourcemap_tokens::tokens::RawToken;
 
 impl<'a> CompiledMap<'a> {
     ghost use Rattle.sourcemap_compiled.specs.Stored.{bytes_of, meaning_of_token, token_value};
+
+    /// The token with this index; `None` after the last token. Indices count from 0, in order of
+    /// generated position if the file is in order.
+    pub fn get_token(&self, index: usize) -> Option<CompiledToken<'a>>
+        ensures { option_map token_value result ≡ token_at (bytes_of self.now) index }
+    {
+        if index >= self.token_count() as usize {
+            return None;
+        }
+        Some(CompiledToken {
+            map: *self,
+            raw: self.token(index, self.position(index)),
+            index,
+            extra_columns: 0,
+        })
+    }
 
     /// The token closest to a generated position: the first token at the position, otherwise the
     /// last token before the position, even if this token is on an earlier line. `None` if all

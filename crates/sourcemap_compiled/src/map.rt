@@ -180,7 +180,7 @@ impl<'a> CompiledMap<'a> {
         let block = self.block(index / BLOCK_SIZE);
         let place = index % BLOCK_SIZE;
         if place > 0 {
-            block.position(place)
+            block.positions().at(place)
         } else {
             block.start
         }

@@ -75,9 +75,6 @@ pub(crate) fn bits_at(bytes: &[u8], start: usize, bit: usize, width: usize) -> u
     ensures number { result ≡ bits_at bytes.now start bit width }
     ensures small { result < 2 ^ width }
 {
-    if width == 0 {
-        return 0;
-    }
     let word = u64_anywhere(bytes, start + bit / 8);
     word >> (bit % 8) & ((1 << width) - 1)
 }

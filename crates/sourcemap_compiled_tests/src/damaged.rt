@@ -1,6 +1,6 @@
 // Maps with some bytes changed, cut maps, and longer ones.
 use crate::maps::{ONE, map_named};
-use crate::texts::{lookup_text, parsed_texts, verified};
+use crate::texts::{indexed_text, lookup_text, parsed_texts, verified};
 use sourcemap_test_support::checks::{Checked, check};
 use std::alloc::{AllocError, Global};
 
@@ -339,4 +339,19 @@ fn damaged_lookups(rt: HostRuntime) -> Checked {
         check(row, lookup_text(rt.alloc(), &bytes, *line, *column), want)?;
     }
     Ok(())
+}
+
+#[test]
+fn tokens_out_of_order(rt: HostRuntime) -> Checked {
+    let bytes = changed(rt.alloc(), map_named("bytes"), &[(65, 201)])?;
+    check(
+        "column 201",
+        indexed_text(rt.alloc(), &bytes, 1),
+        "1 0:201 a.js 1:0 - -",
+    )?;
+    check(
+        "column 200",
+        indexed_text(rt.alloc(), &bytes, 2),
+        "2 0:200 a.js 2:0 - -",
+    )
 }

@@ -1,6 +1,6 @@
-// Lookups in maps that are in order.
+// Lookups in maps that are in order, and their tokens by index.
 use crate::maps::{EMPTY, GREATEST, ONE, map_named};
-use crate::texts::{lookup_text, parsed_counts, parsed_texts, verified};
+use crate::texts::{indexed_text, lookup_text, parsed_counts, parsed_texts, verified};
 use sourcemap_compiled::map::{COMPILED_MAGIC, COMPILED_VERSION, CompiledMap};
 use sourcemap_test_support::checks::{Checked, check, check_that};
 use sourcemap_tokens::tokens::{NO_ID, RawToken};
@@ -51,6 +51,30 @@ static LOOKUPS: [(&str, u32, u32, &str); 37] = [
     ("scopes", 7, 0, "3 0:12 a.js 0:3 - -"),
 ];
 
+// Each row: a map, an index, and the wanted text of the token.
+static TOKENS: [(&str, usize, &str); 20] = [
+    ("empty", 0, "none"),
+    ("one", 0, "0 2:5 a.js 7:9 f g"),
+    ("one", 1, "none"),
+    ("one", 4294967296, "none"),
+    ("one", 18446744073709551615, "none"),
+    ("block", 0, "0 0:0 a.js 0:0 - -"),
+    ("block", 1, "1 0:2 a.js 1:0 - -"),
+    ("block", 63, "63 0:126 a.js 63:0 - -"),
+    ("block", 64, "none"),
+    ("block_and_one", 63, "63 0:126 a.js 63:0 - -"),
+    ("block_and_one", 64, "64 0:128 a.js 64:0 - -"),
+    ("block_and_one", 65, "none"),
+    ("equal", 60, "60 0:100 a.js 60:0 n -"),
+    ("equal", 61, "61 0:100 a.js 61:0 n -"),
+    ("equal", 63, "63 0:100 a.js 63:0 n -"),
+    ("equal", 64, "64 0:100 a.js 64:0 n -"),
+    ("equal", 69, "69 0:100 a.js 69:0 n -"),
+    ("equal", 70, "none"),
+    ("range", 0, "0 0:3 a.js 1:4294967290 - - range"),
+    ("scopes", 1, "1 0:5 a.js 0:1 - main"),
+];
+
 // Each row: a map, the wanted counts, and the wanted texts.
 static MAPS: [(&str, &str, &str); 8] = [
     ("empty", "0 0 0 0", "-|-|-|-|-"),
@@ -69,6 +93,18 @@ fn closest_tokens(rt: HostRuntime) -> Checked {
         check(
             name,
             lookup_text(rt.alloc(), map_named(name), *line, *column),
+            want,
+        )?;
+    }
+    Ok(())
+}
+
+#[test]
+fn tokens_by_index(rt: HostRuntime) -> Checked {
+    for (name, index, want) in &TOKENS {
+        check(
+            name,
+            indexed_text(rt.alloc(), map_named(name), *index),
             want,
         )?;
     }

@@ -76,7 +76,21 @@ pub fn lookup_text(
         Ok(map) => map,
         Err(error) => return format!(in alloc; "{error}"),
     };
-    match map.lookup_token(line, column) {
+    found_text(alloc, map.lookup_token(line, column))
+}
+
+/// Returns the `token_text` of the token with this index, or `none`; or the text of the error of
+/// parsing.
+pub fn indexed_text(alloc: Global, bytes: &[u8], index: usize) -> Result<String, AllocError> {
+    let map = match CompiledMap::parse(bytes) {
+        Ok(map) => map,
+        Err(error) => return format!(in alloc; "{error}"),
+    };
+    found_text(alloc, map.get_token(index))
+}
+
+fn found_text(alloc: Global, found: Option<CompiledToken<'_>>) -> Result<String, AllocError> {
+    match found {
         Some(token) => token_text(alloc, &token),
         None => String::from_str(alloc, "none"),
     }

@@ -1,7 +1,7 @@
 use Rattle.std.proofs.Common.{◌≡◌, ◌∙◌, ◌+◌, ◌++◌, ◌∷◌, [], append_assoc, ap, arith, length, set, subst, sym}
 use Rattle.std.proofs.lemmas.List.{length-append, length_push}
 use Rattle.sourcemap_c.specs.Segments.{Overwrites, fitting}
-use Rattle.sourcemap_c.proofs.IgnoreListsLemmas.{all_written, one_more}
+use Rattle.sourcemap_c.proofs.IgnoreListsLemmas.{all_written, set_next_id}
 use Rattle.sourcemap_c.proofs.ignore_lists.write_ids.Goals as goal
 
 pub loop-count-preserved : goal.loop-count-preserved
@@ -15,7 +15,7 @@ loop-count-preserved c =
       h.0 ++ id ∷ [],
       h.1 ∙ ap (λ left. h.0 ++ left) c.in-Some.ensures.steps ∙ sym (append_assoc h.0 (id ∷ []) c.next.new.self),
       length_push h.0 id ∙ ap (λ n. n + 1) h.2,
-      ap (λ ids. set ids l.count id) h.3 ∙ one_more h.0 old l.count id h.2 (omega (arith, same, space)),
+      ap (λ ids. set ids l.count id) h.3 ∙ set_next_id h.0 old l.count id h.2 (omega (arith, same, space)),
       omega (arith, same, space),
     )
 
