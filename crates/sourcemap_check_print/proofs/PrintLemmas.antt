@@ -31,6 +31,7 @@ verdict_holds all true bytes generated found is decided shown = by_count (count_
   where
     valid : IsValid bytes
     valid = decided.0 (nil_if_none all (sym is))
+
     by_count : (count : ℕ) → count_of found ≡ count → HasVerdict (verdict_of true count) bytes generated
     by_count zero e = (valid, record { found = found; are = shown; count_is = e })
     by_count (suc count) e = (valid, (count, record { found = found; are = shown; count_is = e }))

@@ -71,11 +71,7 @@ fn push_shifts(entries: &mut Vec<Entry>, shifts: &[Shifted]) -> Result<()>
 }
 
 /// Returns what a report shows. The only error is `OutOfMemory`.
-pub(crate) fn entries(
-    alloc: Global,
-    findings: &[Finding],
-    found: &Suspicious,
-) -> Result<Vec<Entry>>
+pub(crate) fn entries(alloc: Global, findings: &[Finding], found: &Suspicious) -> Result<Vec<Entry>>
     ensures { MatchResult result (λ all. all.items ≡ entries findings.now found.now)
         (λ e. e ≡ OutOfMemory) }
 {

@@ -156,7 +156,8 @@ fn push_counts(text: &mut String, counts: Counts, shown: usize) -> Result<()>
         invalid,
         suspicious,
     } = counts;
-    write!(text,
+    write!(
+        text,
         "{{\"counts\":{{\"invalid\":{invalid},\"shown\":{shown},\"suspicious\":{suspicious}}},\"findings\":["
     )?;
     Ok(())

@@ -67,12 +67,7 @@ fn push_line(alloc: Global, text: &mut String, maps: &[MapPlace], entry: &Entry)
     Ok(())
 }
 
-fn push_lines(
-    alloc: Global,
-    text: &mut String,
-    maps: &[MapPlace],
-    entries: &[Entry],
-) -> Result<()>
+fn push_lines(alloc: Global, text: &mut String, maps: &[MapPlace], entries: &[Entry]) -> Result<()>
     ensures text { OnOk result (string_bytes text.new ≡ string_bytes text.old
         ++ flat_map (entry_line maps.now) entries.now) }
     ensures memory { IsOkUnless result OutOfMemory }
@@ -101,6 +96,9 @@ pub(crate) fn lines_text(
         suspicious,
     } = counts;
     let shown = entries.len();
-    write!(text, "{invalid} invalid, {suspicious} suspicious, {shown} shown\n")?;
+    write!(
+        text,
+        "{invalid} invalid, {suspicious} suspicious, {shown} shown\n"
+    )?;
     Ok(text)
 }

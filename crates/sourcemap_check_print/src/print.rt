@@ -67,12 +67,7 @@ fn total(report: &Report) -> u64
         .fold(0u64, |sum: u64, count: &u64| sum.saturating_add(*count))
 }
 
-fn report_text(
-    alloc: Global,
-    checked: &Checked,
-    found: &Suspicious,
-    form: Form,
-) -> Result<String>
+fn report_text(alloc: Global, checked: &Checked, found: &Suspicious, form: Form) -> Result<String>
     ensures { MatchResult result
         (λ text. string_bytes text ≡ report_text form checked.now found.now)
         (λ e. e ≡ OutOfMemory) }

@@ -1,13 +1,18 @@
 -- What looks wrong, as it is added to a list.
 use Rattle.std.proofs.Common.{◌≡◌, ℕ, ◌+◌, ◌<◌, ◌≤◌, List, [], ◌∷◌, ◌++◌, map, take, length, flat_map, get_or, min, Option}
-use Rattle.std.proofs.Common.{sym, ap, subst, ◌∙◌, refl, append_assoc, length-append, arith}
+use Rattle.std.proofs.Common.{◌≢◌, Result, Ok, Err, IfOk, MatchResult, sym, ap, ◌∙◌, refl, append_assoc, length-append, arith}
 use Rattle.std.proofs.lemmas.List.{map_more, take_more, take-map, length-map, take_all, flat_map_more, append-nil}
-use Rattle.sourcemap_check_suspicious.specs.Reading.{TextMapValue}
+use Rattle.sourcemap_errors.specs.Answer.{UnlessMemory}
+use Rattle.sourcemap_errors.specs.declared.errors.Error.{Error}
+use Rattle.sourcemap_errors.specs.declared.errors.Error.TheVariants.{OutOfMemory}
+use Rattle.sourcemap_records.specs.Bytes.{BytesHaveResult}
+use Rattle.sourcemap_check_suspicious.specs.Reading.{TextMapDecodes, TextMapValue}
 use Rattle.sourcemap_check_suspicious.specs.declared.suspects.Suspect.{Suspect}
 use Rattle.sourcemap_check_suspicious.specs.declared.suspects.Suspects.{Suspects}
+use Rattle.sourcemap_check_suspicious.specs.declared.suspects.Suspicious.{Suspicious}
 use Rattle.sourcemap_check_suspicious.specs.declared.suspects.Suspicion.{Suspicion}
 use Rattle.sourcemap_check_suspicious.specs.declared.suspects.TheConstants.{SUSPICIONS}
-use Rattle.sourcemap_check_suspicious.specs.Suspects.{Adds, AreSuspects, suspects_of}
+use Rattle.sourcemap_check_suspicious.specs.Suspects.{Adds, AreSuspects, HasNone, LooksWrong, LooksWrongOf, suspects_of}
 
 -- let `now` be `old` and the images of the first items, and `new` be `now` and the image of the next item
 pub one_more : {X Y : Type 0} (f : X → Y) (items : List X) (i : ℕ) (d : X) (old now new : List Y)
@@ -91,3 +96,23 @@ SuspectsSoFar-all most m generated i found so_far past =
       count = so_far.count
           ∙ ap (λ ks. min (length (flat_map (λ suspicion. suspects_of suspicion m generated) ks)) 18446744073709551615) whole;
     }
+
+with_memory : (e : Error) (P : Type 0) → e ≢ OutOfMemory → UnlessMemory e P → P
+with_memory OutOfMemory P is h = absurd (is refl)
+with_memory _ P is h = h
+
+-- what looks wrong in a decoded map does so in its bytes
+pub read : (most : ℕ) (bytes : List ℕ) (generated : Option (List ℕ)) (m : TextMapValue) (r : Result Suspicious Error)
+    → BytesHaveResult TextMapDecodes bytes (Ok m) → IfOk r (LooksWrong most m generated)
+    → IfOk r (LooksWrongOf most bytes generated)
+read most bytes generated m (Ok found) decodes wrong = (Ok m, (decodes, wrong))
+read most bytes generated m (Err e) decodes wrong = tt
+
+-- and nothing does in bytes that are not decoded
+pub unread : (most : ℕ) (bytes : List ℕ) (generated : Option (List ℕ)) (e : Error) (r : Result Suspicious Error)
+    → UnlessMemory e (BytesHaveResult TextMapDecodes bytes (Err e))
+    → MatchResult r (λ found. (e ≢ OutOfMemory) × HasNone found) (λ f. f ≡ OutOfMemory)
+    → IfOk r (LooksWrongOf most bytes generated)
+unread most bytes generated e (Ok found) fails (other, none) =
+    (Err e, (with_memory e (BytesHaveResult TextMapDecodes bytes (Err e)) other fails, none))
+unread most bytes generated e (Err f) fails is = tt

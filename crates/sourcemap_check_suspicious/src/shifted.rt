@@ -64,11 +64,7 @@ fn original(alloc: Global, map: &SourceMap) -> Result<Option<Shifted>>
     }
 }
 
-fn beside(
-    alloc: Global,
-    map: &SourceMap,
-    generated: Option<&SourceView>,
-) -> Result<Option<Shifted>>
+fn beside(alloc: Global, map: &SourceMap, generated: Option<&SourceView>) -> Result<Option<Shifted>>
     ensures off { IfOk result (IsOffBeside map.now (option_copied generated.entry)) }
     ensures memory { IfErr result (λ e. e ≡ OutOfMemory) }
 {

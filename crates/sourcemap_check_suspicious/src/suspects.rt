@@ -1,5 +1,5 @@
 //! What looks wrong, in the order of codes.
-ghost use Rattle.std.specs.Prelude.{◌≡◌, ◌++◌, ◌∷◌, [], IfOk, IfErr, OnOk};
+ghost use Rattle.std.specs.Prelude.{◌≡◌, ◌≢◌, [], IfOk, IfErr, MatchResult, OnOk};
 ghost use Rattle.std.specs.Option.{option_copied};
 ghost use Rattle.sourcemap_errors.specs.declared.errors.Error.TheVariants.{OutOfMemory};
 ghost use Rattle.sourcemap_check_suspicious.specs.Reading.{text_map_value};
@@ -204,6 +204,18 @@ fn look_at(
     Ok(Suspicious { places, shifts })
 }
 
+// Nothing that looks wrong, after another error than want of memory.
+fn nothing_after(alloc: Global, error: &Error) -> Result<Suspicious>
+    ensures { MatchResult result
+        (λ found. (error.now ≢ OutOfMemory) × HasNone found)
+        (λ e. e ≡ OutOfMemory) }
+{
+    match error {
+        Error::OutOfMemory => Err(Error::OutOfMemory),
+        _ => Ok(nothing(alloc)),
+    }
+}
+
 /// What looks wrong in the map that bytes decode to, with a generated text also beside it. Nothing
 /// does in an index map, and in bytes that `read_text_map` does not decode. The only error is
 /// `OutOfMemory`.
@@ -219,7 +231,6 @@ pub fn suspicious_in_bytes(
 {
     match read_text_map(alloc, bytes) {
         Ok(map) => look_at(alloc, &map, generated, most),
-        Err(Error::OutOfMemory) => Err(Error::OutOfMemory),
-        Err(_) => Ok(nothing(alloc)),
+        Err(error) => nothing_after(alloc, &error),
     }
 }

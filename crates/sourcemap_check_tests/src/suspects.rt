@@ -97,5 +97,8 @@ fn maps_look_wrong(rt: HostRuntime) -> Checked {
 #[test]
 fn index_maps_are_not_looked_at(rt: HostRuntime) -> Checked {
     let read = read_text_map(rt.alloc(), br#"{"version":3,"sections":[]}"#);
-    check_that("an index", matches!(read, Err(Error::IncompatibleSourceMap)))
+    check_that(
+        "an index",
+        matches!(read, Err(Error::IncompatibleSourceMap)),
+    )
 }

@@ -257,19 +257,31 @@ command_once words (Check Json Usual) (Check Lines Strict) p q =
 command_once words (Check Lines Strict) (Check Json Usual) p q =
     absurd (other_flags (same_word 1 (codes "check" ∷ codes "--json" ∷ []) (codes "check" ∷ codes "--strict" ∷ [])
     (sym q ∙ p)))
-command_once words (CheckBeside Lines Usual path) (CheckBeside Lines Usual other) p q =
-    (refl, refl, same_word 2 (codes "check" ∷ codes "--generated" ∷ string_bytes path ∷ [])
-    (codes "check" ∷ codes "--generated" ∷ string_bytes other ∷ []) (sym p ∙ q))
-command_once words (CheckBeside Json Usual path) (CheckBeside Json Usual other) p q =
-    (refl, refl, same_word 3 (codes "check" ∷ codes "--json" ∷ codes "--generated" ∷ string_bytes path ∷ [])
-    (codes "check" ∷ codes "--json" ∷ codes "--generated" ∷ string_bytes other ∷ []) (sym p ∙ q))
-command_once words (CheckBeside Lines Strict path) (CheckBeside Lines Strict other) p q =
-    (refl, refl, same_word 3 (codes "check" ∷ codes "--strict" ∷ codes "--generated" ∷ string_bytes path ∷ [])
-    (codes "check" ∷ codes "--strict" ∷ codes "--generated" ∷ string_bytes other ∷ []) (sym p ∙ q))
-command_once words (CheckBeside Json Strict path) (CheckBeside Json Strict other) p q =
-    (refl, refl, same_word 4
-    (codes "check" ∷ codes "--json" ∷ codes "--strict" ∷ codes "--generated" ∷ string_bytes path ∷ [])
-    (codes "check" ∷ codes "--json" ∷ codes "--strict" ∷ codes "--generated" ∷ string_bytes other ∷ []) (sym p ∙ q))
+command_once words (CheckBeside Lines Usual path) (CheckBeside Lines Usual other) p q = (
+  refl,
+  refl,
+  same_word 2 (codes "check" ∷ codes "--generated" ∷ string_bytes path ∷ [])
+      (codes "check" ∷ codes "--generated" ∷ string_bytes other ∷ []) (sym p ∙ q),
+)
+command_once words (CheckBeside Json Usual path) (CheckBeside Json Usual other) p q = (
+  refl,
+  refl,
+  same_word 3 (codes "check" ∷ codes "--json" ∷ codes "--generated" ∷ string_bytes path ∷ [])
+      (codes "check" ∷ codes "--json" ∷ codes "--generated" ∷ string_bytes other ∷ []) (sym p ∙ q),
+)
+command_once words (CheckBeside Lines Strict path) (CheckBeside Lines Strict other) p q = (
+  refl,
+  refl,
+  same_word 3 (codes "check" ∷ codes "--strict" ∷ codes "--generated" ∷ string_bytes path ∷ [])
+      (codes "check" ∷ codes "--strict" ∷ codes "--generated" ∷ string_bytes other ∷ []) (sym p ∙ q),
+)
+command_once words (CheckBeside Json Strict path) (CheckBeside Json Strict other) p q = (
+  refl,
+  refl,
+  same_word 4
+      (codes "check" ∷ codes "--json" ∷ codes "--strict" ∷ codes "--generated" ∷ string_bytes path ∷ [])
+      (codes "check" ∷ codes "--json" ∷ codes "--strict" ∷ codes "--generated" ∷ string_bytes other ∷ []) (sym p ∙ q),
+)
 command_once words (CheckBeside Json Usual path) (CheckBeside Lines Strict other) p q =
     absurd (other_flags (same_word 1 (codes "check" ∷ codes "--json" ∷ codes "--generated" ∷ string_bytes path ∷ [])
     (codes "check" ∷ codes "--strict" ∷ codes "--generated" ∷ string_bytes other ∷ []) (sym p ∙ q)))

@@ -357,13 +357,17 @@ reply_of_check_beside form strictness path bytes text file (Ok reply) reads is =
     by_status : (passing : Bool) → passes strictness is.verdict ≡ passing
         → RepliesOn (CheckBeside form strictness path) bytes file reply
     by_status true passing =
-        let status : reply.status ≡ 0 = is.status_is ∙ ap (λ b. if b then 0 else 1) passing in
-        (answered (Ok reply.output.items),
-        inl (text, reads, ((is.verdict, (is.has_verdict, passing)), is.report)), (refl, status))
+        let status : reply.status ≡ 0 = is.status_is ∙ ap (λ b. if b then 0 else 1) passing in (
+          answered (Ok reply.output.items),
+          inl (text, reads, ((is.verdict, (is.has_verdict, passing)), is.report)),
+          (refl, status),
+        )
     by_status false failing =
-        let status : reply.status ≡ 1 = is.status_is ∙ ap (λ b. if b then 0 else 1) failing in
-        (rejected reply.output.items,
-        (refl, (text, reads, ((is.verdict, (is.has_verdict, failing)), is.report))), (refl, status))
+        let status : reply.status ≡ 1 = is.status_is ∙ ap (λ b. if b then 0 else 1) failing in (
+          rejected reply.output.items,
+          (refl, (text, reads, ((is.verdict, (is.has_verdict, failing)), is.report))),
+          (refl, status),
+        )
 
 pub reply_of_no_text : (form : Form) (strictness : Strictness) (path : String Global) (bytes : List ℕ)
     (file : Result (List ℕ) Error) (e : Error) (r : Result Reply Error) → UnlessMemory e (ReadsText file (Err e))

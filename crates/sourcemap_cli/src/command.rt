@@ -144,11 +144,7 @@ fn check_command_of_two(alloc: Global, first: &str, second: &str) -> Result<Opti
 {
     if first == GENERATED {
         let path = String::from_str(alloc, second)?;
-        return Ok(Some(Command::CheckBeside(
-            Form::Lines,
-            Strictness::Usual,
-            path,
-        )));
+        return Ok(Some(Command::CheckBeside(Form::Lines, Strictness::Usual, path)));
     }
     if first != JSON {
         return Ok(None);
@@ -177,21 +173,13 @@ fn check_command_of_three(
     }
     if first == JSON {
         let path = String::from_str(alloc, file)?;
-        return Ok(Some(Command::CheckBeside(
-            Form::Json,
-            Strictness::Usual,
-            path,
-        )));
+        return Ok(Some(Command::CheckBeside(Form::Json, Strictness::Usual, path)));
     }
     if first != STRICT {
         return Ok(None);
     }
     let path = String::from_str(alloc, file)?;
-    Ok(Some(Command::CheckBeside(
-        Form::Lines,
-        Strictness::Strict,
-        path,
-    )))
+    Ok(Some(Command::CheckBeside(Form::Lines, Strictness::Strict, path)))
 }
 
 fn check_command_of_four(
@@ -218,11 +206,7 @@ fn check_command_of_four(
         return Ok(None);
     }
     let path = String::from_str(alloc, file)?;
-    Ok(Some(Command::CheckBeside(
-        Form::Json,
-        Strictness::Strict,
-        path,
-    )))
+    Ok(Some(Command::CheckBeside(Form::Json, Strictness::Strict, path)))
 }
 
 fn parse_verb(verb: &str) -> Option<Command>

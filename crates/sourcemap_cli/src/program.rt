@@ -36,9 +36,8 @@ use sourcemap_trace::{AskedMap, Counting, trace_text_from};
 use std::alloc::Global;
 use std::fmt::Display;
 use std::io::{Read, Write};
-use std::result;
 use std::rt::Files;
-use std::str;
+use std::{result, str};
 
 const USAGE: &str =
     "usage: lookup [--from-1] LINE COL | tokens | rewrite | flatten | compose FILE | shift ROWS | trace [--from-1] FILE | compile [--without-contents] | check [--json] [--strict] [--generated FILE]\n";
@@ -317,19 +316,20 @@ fn reply_without_map(
 
 /// Returns the reply of a run. `words` are the arguments, and `bytes` is the map as JSON text; for
 /// `Lookup` and `Trace` it may be a compiled map, which begins with the byte 8F and `SMC`. `file`
-/// is the bytes of the file that `Compose` or `Trace` names, or the error of reading that file.
-/// Other commands ignore `file`.
+/// is the bytes of the file that `Compose`, `Trace` or `CheckBeside` names, or the error of reading
+/// that file. Other commands ignore `file`.
 ///
 /// - Status 0: the output of the command, as returned by `apply`, for `Trace` by `trace_text_from`,
-///   for `Compile` by `sourcemap_cache::compile`, and for `Check` by `check_text` of
-///   `sourcemap_check_print`, if the check passes: if the map is valid, and for `Strict` nothing
+///   for `Compile` by `sourcemap_cache::compile`, and for `Check` and `CheckBeside` by `check_text`
+///   of `sourcemap_check_print`, if the check passes: if the map is valid, and for `Strict` nothing
 ///   looks wrong.
 /// - Status 1: the text of the first error and a newline. Errors are checked in this order:
 ///   `decode_slice` returns an error for `bytes`; the file could not be read; the file of `Compose`
 ///   does not decode; the command returns an error. An `Io` error says that a junk header is
 ///   invalid, or that the file could not be read. std does not specify the text of an `Io` error.
 ///   A compiled map is refused with the error of `CompiledMap::parse` or of `verify`.
-///   For `Check`, 1 also says that the check fails; the output is the report all the same.
+///   For `Check` and `CheckBeside`, 1 also says that the check fails; the output is the report all
+///   the same. A generated text that is not UTF-8 is an error.
 /// - Status 2: the usage, for words that are no command.
 ///
 /// The only error is `OutOfMemory`. No reply reports this error, even if `file` is

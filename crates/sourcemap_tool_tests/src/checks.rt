@@ -48,8 +48,7 @@ const NO_CONTENTS: &str = "MAP:sources[0]: SM214 the map has no contents for the
 const DOUBTFUL: &str =
     r#"{"version":3,"sourceRoot":"","sources":["a","b"],"sourcesContent":["xy"],"names":["n","m"],"mappings":"AAAAA,EAAG,D","rangeMappings":"g"}"#;
 
-const DOUBTFUL_LINES: &str =
-    "MAP:mappings at 0:2: SM203 the original line has fewer columns
+const DOUBTFUL_LINES: &str = "MAP:mappings at 0:2: SM203 the original line has fewer columns
 MAP:mappings at 0:0: SM205 the name does not stand at the original position
 MAP:sources[1]: SM211 no token has the source
 MAP:names[1]: SM212 no token has the name
@@ -86,7 +85,12 @@ static RUNS: [(&str, &str, u8, &str); 20] = [
     ("check --json", INVALID, 1, JSON),
     ("check --json --strict", INVALID, 1, JSON),
     ("check", RIGHT, 0, "0 invalid, 0 suspicious, 0 shown"),
-    ("check --strict", RIGHT, 0, "0 invalid, 0 suspicious, 0 shown"),
+    (
+        "check --strict",
+        RIGHT,
+        0,
+        "0 invalid, 0 suspicious, 0 shown",
+    ),
     (
         "check --json --strict",
         RIGHT,
@@ -151,7 +155,8 @@ fn reports_are_printed(rt: HostRuntime) -> Checked {
 const SHIFTED: &str =
     r#"{"version":3,"sources":["a"],"sourcesContent":["//\nalpha\nbeta\ngamma\ndelta"],"names":["alpha","beta","gamma","delta"],"mappings":"AAAAA;AACAC;AACAC;AACAC"}"#;
 
-const SHIFTED_LINES: &str = "MAP:mappings at 0:0: SM205 the name does not stand at the original position
+const SHIFTED_LINES: &str =
+    "MAP:mappings at 0:0: SM205 the name does not stand at the original position
 MAP:mappings at 1:0: SM205 the name does not stand at the original position
 MAP:mappings at 2:0: SM205 the name does not stand at the original position
 MAP:mappings at 3:0: SM205 the name does not stand at the original position
@@ -162,7 +167,8 @@ MAP:mappings by 1:0: SM241 names stand in the contents of sources after this shi
 const LINED: &str =
     r#"{"version":3,"sources":["a"],"sourcesContent":["alpha\nbeta\ngamma\ndelta"],"mappings":"AAAA;AACA;AACA;AACA"}"#;
 
-const BANNER_JSON: &str = r#"{"counts":{"invalid":0,"shown":1,"suspicious":1},"findings":[{"code":"SM242","key":"mappings","position":{"columns":0,"lines":3},"sections":[],"sentence":"words stand in the generated text after this shift","severity":"suspicious"}]}"#;
+const BANNER_JSON: &str =
+    r#"{"counts":{"invalid":0,"shown":1,"suspicious":1},"findings":[{"code":"SM242","key":"mappings","position":{"columns":0,"lines":3},"sections":[],"sentence":"words stand in the generated text after this shift","severity":"suspicious"}]}"#;
 
 // Words, a map, the text in the file `a.js`, and the status and output of the run.
 static BESIDE: [(&str, &str, &str, u8, &str); 8] = [
@@ -215,13 +221,7 @@ static BESIDE: [(&str, &str, &str, u8, &str); 8] = [
         1,
         "MAP:mappings: SM115 there is no mappings\n1 invalid, 0 suspicious, 1 shown",
     ),
-    (
-        "check --generated b.js",
-        LINED,
-        "x",
-        1,
-        "entity not found",
-    ),
+    ("check --generated b.js", LINED, "x", 1, "entity not found"),
 ];
 
 fn check_beside(

@@ -333,7 +333,13 @@ fn words_ask_for_commands(rt: HostRuntime) -> Result<(), Fail> {
     assert!(rt; ask_for(alloc, "check --generated --json", Some(command))?);
     let path = String::from_str(alloc, "a.js")?;
     let command = Command::CheckBeside(Form::Json, Strictness::Strict, path);
-    assert!(rt; ask_for(alloc, "check --json --strict --generated a.js", Some(command))?);
+    assert!(rt;
+        ask_for(
+            alloc,
+            "check --json --strict --generated a.js",
+            Some(command)
+        )?
+    );
     assert!(rt; ask_for(alloc, "tokens tokens", None)?);
     Ok(())
 }
