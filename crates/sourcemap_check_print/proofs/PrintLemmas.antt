@@ -1,6 +1,7 @@
 -- What a report says of a map.
-use Rattle.std.proofs.Common.{◌≡◌, ◌↔◌, ◌==◌, ℕ, zero, suc, Bool, true, false, List, [], ◌∷◌, length, refl, sym, ap, ◌∙◌}
-use Rattle.std.specs.Prelude.{Option}
+use Rattle.std.proofs.Common.{◌≡◌, ◌↔◌, ◌==◌, ℕ, arith, Bool, true, false, List, [], ◌∷◌, length, refl, sym, ap, ◌∙◌}
+use Rattle.std.specs.Prelude.{Option, nat_lt}
+use Rattle.std.proofs.lemmas.Bool.{ltb-true, ltb-false}
 use Rattle.sourcemap_check.specs.Validity.{IsValid}
 use Rattle.sourcemap_check_report.specs.Report.{first_of_each}
 use Rattle.sourcemap_check_report.specs.declared.report.Finding.{Finding}
@@ -27,11 +28,14 @@ pub verdict_holds : (all : List Finding) (is_valid : Bool) (bytes : List ℕ) (g
     → AreShown is_valid bytes generated found → HasVerdict (verdict_of is_valid (count_of found)) bytes generated
 verdict_holds all false bytes generated found is decided shown =
     λ valid. let no : false ≡ true = is ∙ ap has_none (decided.1 valid) in cc
-verdict_holds all true bytes generated found is decided shown = by_count (count_of found) refl
+verdict_holds all true bytes generated found is decided shown = by_test (nat_lt 0 (count_of found)) refl
   where
     valid : IsValid bytes
     valid = decided.0 (nil_if_none all (sym is))
 
-    by_count : (count : ℕ) → count_of found ≡ count → HasVerdict (verdict_of true count) bytes generated
-    by_count zero e = (valid, record { found = found; are = shown; count_is = e })
-    by_count (suc count) e = (valid, (count, record { found = found; are = shown; count_is = e }))
+    none : (count : ℕ) → nat_lt 0 count ≡ false → count ≡ 0
+    none count is = let least = ltb-false 0 count is in omega arith
+
+    by_test : (b : Bool) → nat_lt 0 (count_of found) ≡ b → HasVerdict (verdict_of true (count_of found)) bytes generated
+    by_test true e = rw e (valid, (found, (shown, ltb-true 0 (count_of found) e)))
+    by_test false e = rw e (valid, (found, (shown, none (count_of found) e)))

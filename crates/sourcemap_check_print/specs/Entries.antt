@@ -23,7 +23,7 @@ use Rattle.sourcemap_check_print.specs.declared.entries.Position.TheVariants.{No
 
 abbrev pub entries : List Finding → Suspicious → List Entry
 entries findings found =
-    map Invalid findings ++ (map Doubtful found.places.first.items ++ map Off found.shifts.items)
+    map Invalid findings ++ map Doubtful found.places.first.items ++ map Off found.shifts.items
 
 abbrev pub code_of : Entry → ℕ
 code_of (Invalid finding) = number_of finding.rule + 101

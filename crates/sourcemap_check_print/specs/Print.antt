@@ -1,5 +1,5 @@
 -- The report of a check, as it is printed.
-use Rattle.std.specs.Prelude.{◌≡◌, ¬◌, ℕ, zero, suc, ◌+◌, ◌<◌, Bool, true, false, List, [], ◌∷◌, fold, length, min, Option}
+use Rattle.std.specs.Prelude.{◌≡◌, ¬◌, ℕ, ◌+◌, ◌<◌, nat_lt, if◌then◌else◌, Bool, true, false, List, [], ◌∷◌, fold, length, min, Option}
 use Rattle.sourcemap_check.specs.Validity.{AreFindings, ArePlaces, IsValid}
 use Rattle.sourcemap_check.specs.declared.tree.Checked.{Checked}
 use Rattle.sourcemap_check_report.specs.Report.{Reports}
@@ -15,7 +15,7 @@ use Rattle.sourcemap_check_print.specs.declared.print.Form.{Form}
 use Rattle.sourcemap_check_print.specs.declared.print.Form.TheVariants.{Lines, Json}
 use Rattle.sourcemap_check_print.specs.declared.print.TheConstants.{MOST}
 use Rattle.sourcemap_check_print.specs.declared.print.Verdict.{Verdict}
-use Rattle.sourcemap_check_print.specs.declared.print.Verdict.TheVariants.{Invalid, Suspicious, Right}
+use Rattle.sourcemap_check_print.specs.declared.print.Verdict.TheVariants.{Invalid, Doubtful, Right}
 
 -- how many findings there are. The number stops at 18446744073709551615
 abbrev pub total : Report → ℕ
@@ -57,16 +57,11 @@ pub record IsReportOf (form : Form) (bytes : List ℕ) (generated : Option (List
 
 abbrev pub verdict_of : (is_valid : Bool) → (count : ℕ) → Verdict
 verdict_of false count = Invalid
-verdict_of true zero = Right
-verdict_of true (suc count) = Suspicious
-
--- so much looks wrong
-pub record HasDoubts (bytes : List ℕ) (generated : Option (List ℕ)) (count : ℕ) : Type 0 where
-  pub found : Suspicious
-  pub are : LooksWrongOf MOST bytes generated found
-  pub count_is : count_of found ≡ count
+verdict_of true count = if nat_lt 0 count then Doubtful else Right
 
 abbrev pub HasVerdict : Verdict → (bytes : List ℕ) → (generated : Option (List ℕ)) → Type 0
 HasVerdict Invalid bytes generated = ¬ IsValid bytes
-HasVerdict Suspicious bytes generated = IsValid bytes × ((count : ℕ) × HasDoubts bytes generated (suc count))
-HasVerdict Right bytes generated = IsValid bytes × HasDoubts bytes generated 0
+HasVerdict Doubtful bytes generated =
+    IsValid bytes × ((found : Suspicious) × LooksWrongOf MOST bytes generated found × (0 < count_of found))
+HasVerdict Right bytes generated =
+    IsValid bytes × ((found : Suspicious) × LooksWrongOf MOST bytes generated found × (count_of found ≡ 0))

@@ -34,7 +34,7 @@ pub enum Verdict {
     /// It breaks a rule.
     Invalid,
     /// It is valid, but something looks wrong.
-    Suspicious,
+    Doubtful,
     /// It is valid, and nothing looks wrong.
     Right,
 }
@@ -114,7 +114,7 @@ fn verdict_of(is_valid: bool, count: u64) -> Verdict
         return Verdict::Invalid;
     }
     if count > 0 {
-        Verdict::Suspicious
+        Verdict::Doubtful
     } else {
         Verdict::Right
     }

@@ -27,7 +27,7 @@ use Rattle.sourcemap_cache.specs.declared.errors.CompileError.TheVariants.{Map, 
 use Rattle.sourcemap_check_print.specs.Print.{HasVerdict, IsReportOf}
 use Rattle.sourcemap_check_print.specs.declared.print.Form.{Form}
 use Rattle.sourcemap_check_print.specs.declared.print.Verdict.{Verdict}
-use Rattle.sourcemap_check_print.specs.declared.print.Verdict.TheVariants.{Invalid, Suspicious, Right}
+use Rattle.sourcemap_check_print.specs.declared.print.Verdict.TheVariants.{Invalid, Doubtful, Right}
 use Rattle.sourcemap_trace.specs.Asked.{compiled_says}
 use Rattle.sourcemap_trace.specs.Positions.{first_of}
 use Rattle.sourcemap_trace.specs.Trace.{meaning_text, trace_from}
@@ -161,8 +161,8 @@ is_applied _ bytes = true
 -- whether a verdict lets a check pass. What looks wrong fails a strict check
 abbrev pub passes : Strictness → Verdict → Bool
 passes strictness Invalid = false
-passes Usual Suspicious = true
-passes Strict Suspicious = false
+passes Usual Doubtful = true
+passes Strict Doubtful = false
 passes strictness Right = true
 
 -- the bytes have a verdict that lets the check pass, or not

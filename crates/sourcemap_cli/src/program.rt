@@ -245,8 +245,8 @@ fn check_status(strictness: Strictness, verdict: Verdict) -> u8
 {
     match (verdict, strictness) {
         (Verdict::Invalid, _) => 1,
-        (Verdict::Suspicious, Strictness::Strict) => 1,
-        (Verdict::Suspicious, Strictness::Usual) => 0,
+        (Verdict::Doubtful, Strictness::Strict) => 1,
+        (Verdict::Doubtful, Strictness::Usual) => 0,
         (Verdict::Right, _) => 0,
     }
 }
