@@ -1,5 +1,6 @@
 -- Words ask for at most one command.
-use Rattle.std.proofs.Common.{◌≡◌, ◌≢◌, ◌⊎◌, inl, inr, Global, String, ℕ, ◌+◌, List, [], ◌∷◌, if◌then◌else◌, bytes_eq, codes, get_or, length, string_bytes, refl, subst, sym, ◌∙◌, ap, arith}
+use Rattle.std.proofs.Common.{◌≡◌, ◌≢◌, ◌⊎◌, inl, inr, Global, String, ℕ, ◌+◌, ◌-◌, List, [], ◌∷◌, if◌then◌else◌, Bool, true, false, Option, Some, None, bytes_eq, codes, get_or, length, string_bytes, unwrap_or, refl, subst, sym, ◌∙◌, ap, arith}
+use Rattle.std.specs.Prelude.{◌&&◌, ◌||◌}
 use Rattle.std.specs.Str.Parse.{digits_value}
 use Rattle.sourcemap_trace.specs.Positions.{first_of}
 use Rattle.sourcemap_trace.specs.declared.positions.Counting.{Counting}
@@ -8,7 +9,7 @@ use Rattle.sourcemap_cache.specs.declared.parts.WithContents.{WithContents}
 use Rattle.sourcemap_cache.specs.declared.parts.WithContents.TheVariants.{Yes, No}
 use Rattle.sourcemap_check_print.specs.declared.print.Form.{Form}
 use Rattle.sourcemap_check_print.specs.declared.print.Form.TheVariants.{Lines, Json}
-use Rattle.sourcemap_cli.specs.Command.{AskFor, IsNumber, IsSameCommand, counted_words, from_1, without_contents}
+use Rattle.sourcemap_cli.specs.Command.{AskFor, IsNumber, IsSameCommand, check_words, counted_words, from_1, without_contents}
 use Rattle.sourcemap_cli.specs.declared.command.Command.{Command}
 use Rattle.sourcemap_cli.specs.declared.command.Command.TheVariants.{Lookup, Tokens, Rewrite, Flatten, Compose, Shift, Trace, Compile, Check, CheckBeside}
 use Rattle.sourcemap_cli.specs.declared.command.Strictness.{Strictness}
@@ -134,10 +135,16 @@ no_compile word other command asked =
 
 pub no_check : (word : List ℕ) → word ≢ codes "--json" → word ≢ codes "--strict" → (command : Command)
     → ¬ AskFor (codes "check" ∷ word ∷ []) command
-no_check word no_json no_strict (Check Json Usual) is =
-    no_json (same_word 1 (codes "check" ∷ word ∷ []) (codes "check" ∷ codes "--json" ∷ []) is)
-no_check word no_json no_strict (Check Lines Strict) is =
-    no_strict (same_word 1 (codes "check" ∷ word ∷ []) (codes "check" ∷ codes "--strict" ∷ []) is)
+no_check word no_json no_strict (Check Lines Usual) is = absurd (let no : 2 ≡ 1 = ap length is in cc)
+no_check word no_json no_strict (Check Json Usual) is = no_json (same_word 1 (codes "check" ∷ word ∷ [])
+    (codes "check" ∷ codes "--json" ∷ []) is)
+no_check word no_json no_strict (Check Lines Strict) is = no_strict (same_word 1 (codes "check" ∷ word ∷ [])
+    (codes "check" ∷ codes "--strict" ∷ []) is)
+no_check word no_json no_strict (Check Json Strict) is = absurd (let no : 2 ≡ 3 = ap length is in cc)
+no_check word no_json no_strict (CheckBeside Lines Usual path) is = absurd (let no : 2 ≡ 3 = ap length is in cc)
+no_check word no_json no_strict (CheckBeside Json Usual path) is = absurd (let no : 2 ≡ 4 = ap length is in cc)
+no_check word no_json no_strict (CheckBeside Lines Strict path) is = absurd (let no : 2 ≡ 4 = ap length is in cc)
+no_check word no_json no_strict (CheckBeside Json Strict path) is = absurd (let no : 2 ≡ 5 = ap length is in cc)
 no_check word no_json no_strict command asked =
     absurd (let no : (9 ≡ (kind_of command).0) × (2 ≡ (kind_of command).1) =
     kind_is (codes "check" ∷ word ∷ []) command asked in cc)
@@ -145,13 +152,21 @@ no_check word no_json no_strict command asked =
 pub no_check_of_two : (first second : List ℕ) → first ≢ codes "--generated"
     → (first ≢ codes "--json") ⊎ (second ≢ codes "--strict")
     → (command : Command) → ¬ AskFor (codes "check" ∷ first ∷ second ∷ []) command
+no_check_of_two first second alone other (Check Lines Usual) is = absurd (let no : 3 ≡ 1 = ap length is in cc)
+no_check_of_two first second alone other (Check Json Usual) is = absurd (let no : 3 ≡ 2 = ap length is in cc)
+no_check_of_two first second alone other (Check Lines Strict) is = absurd (let no : 3 ≡ 2 = ap length is in cc)
 no_check_of_two first second alone (inl other) (Check Json Strict) is =
-    other (same_word 1 (codes "check" ∷ first ∷ second ∷ []) (codes "check" ∷ codes "--json" ∷ codes "--strict" ∷ []) is)
+    other (same_word 1 (codes "check" ∷ first ∷ second ∷ [])
+    (codes "check" ∷ codes "--json" ∷ codes "--strict" ∷ []) is)
 no_check_of_two first second alone (inr other) (Check Json Strict) is =
-    other (same_word 2 (codes "check" ∷ first ∷ second ∷ []) (codes "check" ∷ codes "--json" ∷ codes "--strict" ∷ []) is)
+    other (same_word 2 (codes "check" ∷ first ∷ second ∷ [])
+    (codes "check" ∷ codes "--json" ∷ codes "--strict" ∷ []) is)
 no_check_of_two first second alone other (CheckBeside Lines Usual path) is =
     alone (same_word 1 (codes "check" ∷ first ∷ second ∷ [])
     (codes "check" ∷ codes "--generated" ∷ string_bytes path ∷ []) is)
+no_check_of_two first second alone other (CheckBeside Json Usual path) is = absurd (let no : 3 ≡ 4 = ap length is in cc)
+no_check_of_two first second alone other (CheckBeside Lines Strict path) is = absurd (let no : 3 ≡ 4 = ap length is in cc)
+no_check_of_two first second alone other (CheckBeside Json Strict path) is = absurd (let no : 3 ≡ 5 = ap length is in cc)
 no_check_of_two first second alone other command asked =
     absurd (let no : (9 ≡ (kind_of command).0) × (3 ≡ (kind_of command).1) =
     kind_is (codes "check" ∷ first ∷ second ∷ []) command asked in cc)
@@ -159,6 +174,11 @@ no_check_of_two first second alone other command asked =
 pub no_check_of_three : (first second file : List ℕ)
     → (second ≢ codes "--generated") ⊎ ((first ≢ codes "--json") × (first ≢ codes "--strict"))
     → (command : Command) → ¬ AskFor (codes "check" ∷ first ∷ second ∷ file ∷ []) command
+no_check_of_three first second file other (Check Lines Usual) is = absurd (let no : 4 ≡ 1 = ap length is in cc)
+no_check_of_three first second file other (Check Json Usual) is = absurd (let no : 4 ≡ 2 = ap length is in cc)
+no_check_of_three first second file other (Check Lines Strict) is = absurd (let no : 4 ≡ 2 = ap length is in cc)
+no_check_of_three first second file other (Check Json Strict) is = absurd (let no : 4 ≡ 3 = ap length is in cc)
+no_check_of_three first second file other (CheckBeside Lines Usual path) is = absurd (let no : 4 ≡ 3 = ap length is in cc)
 no_check_of_three first second file (inl other) (CheckBeside Json Usual path) is =
     other (same_word 2 (codes "check" ∷ first ∷ second ∷ file ∷ [])
     (codes "check" ∷ codes "--json" ∷ codes "--generated" ∷ string_bytes path ∷ []) is)
@@ -171,6 +191,7 @@ no_check_of_three first second file (inl other) (CheckBeside Lines Strict path) 
 no_check_of_three first second file (inr other) (CheckBeside Lines Strict path) is =
     other.1 (same_word 1 (codes "check" ∷ first ∷ second ∷ file ∷ [])
     (codes "check" ∷ codes "--strict" ∷ codes "--generated" ∷ string_bytes path ∷ []) is)
+no_check_of_three first second file other (CheckBeside Json Strict path) is = absurd (let no : 4 ≡ 5 = ap length is in cc)
 no_check_of_three first second file other command asked =
     absurd (let no : (9 ≡ (kind_of command).0) × (4 ≡ (kind_of command).1) =
     kind_is (codes "check" ∷ first ∷ second ∷ file ∷ []) command asked in cc)
@@ -178,6 +199,13 @@ no_check_of_three first second file other command asked =
 pub no_check_of_four : (first second third file : List ℕ)
     → (first ≢ codes "--json") ⊎ ((second ≢ codes "--strict") ⊎ (third ≢ codes "--generated"))
     → (command : Command) → ¬ AskFor (codes "check" ∷ first ∷ second ∷ third ∷ file ∷ []) command
+no_check_of_four first second third file other (Check Lines Usual) is = absurd (let no : 5 ≡ 1 = ap length is in cc)
+no_check_of_four first second third file other (Check Json Usual) is = absurd (let no : 5 ≡ 2 = ap length is in cc)
+no_check_of_four first second third file other (Check Lines Strict) is = absurd (let no : 5 ≡ 2 = ap length is in cc)
+no_check_of_four first second third file other (Check Json Strict) is = absurd (let no : 5 ≡ 3 = ap length is in cc)
+no_check_of_four first second third file other (CheckBeside Lines Usual path) is = absurd (let no : 5 ≡ 3 = ap length is in cc)
+no_check_of_four first second third file other (CheckBeside Json Usual path) is = absurd (let no : 5 ≡ 4 = ap length is in cc)
+no_check_of_four first second third file other (CheckBeside Lines Strict path) is = absurd (let no : 5 ≡ 4 = ap length is in cc)
 no_check_of_four first second third file (inl other) (CheckBeside Json Strict path) is =
     other (same_word 1 (codes "check" ∷ first ∷ second ∷ third ∷ file ∷ [])
     (codes "check" ∷ codes "--json" ∷ codes "--strict" ∷ codes "--generated" ∷ string_bytes path ∷ []) is)
@@ -212,11 +240,73 @@ pub trace_asked : (file : List ℕ) (counting : Counting) (path : String Global)
 trace_asked file counting path is other =
     (ap (λ word. counted_words (codes "trace") counting (word ∷ [])) (sym is), λ flag. other (sym is ∙ flag))
 
-other_flags : codes "--json" ≢ codes "--strict"
-other_flags same = let numbers : 106 ≡ 115 = ap (λ word. get_or word 2 0) same in cc
+-- the words of `check` show its form, its strictness and its file
+abbrev shows_json : List (List ℕ) → Bool
+shows_json words = bytes_eq (get_or words 1 []) (codes "--json")
 
-no_generated : codes "--json" ≢ codes "--generated"
-no_generated same = let numbers : 106 ≡ 103 = ap (λ word. get_or word 2 0) same in cc
+abbrev shows_strict : List (List ℕ) → Bool
+shows_strict words =
+    bytes_eq (get_or words 1 []) (codes "--strict")
+    || (bytes_eq (get_or words 1 []) (codes "--json") && bytes_eq (get_or words 2 []) (codes "--strict"))
+
+abbrev shown_file : List (List ℕ) → Option (List ℕ)
+shown_file words =
+    if bytes_eq (get_or words (length words - 2) []) (codes "--generated") then Some (get_or words (length words - 1) [])
+    else None
+
+abbrev file_words : Option (List ℕ) → List (List ℕ)
+file_words None = []
+file_words (Some path) = codes "--generated" ∷ path ∷ []
+
+abbrev is_json : Form → Bool
+is_json Lines = false
+is_json Json = true
+
+abbrev is_strict : Strictness → Bool
+is_strict Usual = false
+is_strict Strict = true
+
+record Shows (words : List (List ℕ)) (form : Form) (strictness : Strictness) (file : Option (List ℕ)) : Type 0 where
+  json : shows_json words ≡ is_json form
+  strict : shows_strict words ≡ is_strict strictness
+  path : shown_file words ≡ file
+
+all_shown : (form : Form) (strictness : Strictness) (file : Option (List ℕ))
+    → Shows (check_words form strictness (file_words file)) form strictness file
+all_shown Lines Usual None = record { json = refl; strict = refl; path = refl }
+all_shown Lines Usual (Some path) = record { json = refl; strict = refl; path = refl }
+all_shown Lines Strict None = record { json = refl; strict = refl; path = refl }
+all_shown Lines Strict (Some path) = record { json = refl; strict = refl; path = refl }
+all_shown Json Usual None = record { json = refl; strict = refl; path = refl }
+all_shown Json Usual (Some path) = record { json = refl; strict = refl; path = refl }
+all_shown Json Strict None = record { json = refl; strict = refl; path = refl }
+all_shown Json Strict (Some path) = record { json = refl; strict = refl; path = refl }
+
+form_once : (a b : Form) → is_json a ≡ is_json b → a ≡ b
+form_once Lines Lines is = refl
+form_once Json Json is = refl
+form_once Lines Json is = absurd cc
+form_once Json Lines is = absurd cc
+
+strictness_once : (a b : Strictness) → is_strict a ≡ is_strict b → a ≡ b
+strictness_once Usual Usual is = refl
+strictness_once Strict Strict is = refl
+strictness_once Usual Strict is = absurd cc
+strictness_once Strict Usual is = absurd cc
+
+check_once : (a b : Form) (s t : Strictness) (f g : Option (List ℕ))
+    → check_words a s (file_words f) ≡ check_words b t (file_words g) → (a ≡ b) × (s ≡ t) × (f ≡ g)
+check_once a b s t f g same =
+    let of_a = all_shown a s f in
+    let of_b = all_shown b t g in (
+      form_once a b (sym of_a.json ∙ ap shows_json same ∙ of_b.json),
+      strictness_once s t (sym of_a.strict ∙ ap shows_strict same ∙ of_b.strict),
+      sym of_a.path ∙ ap shown_file same ∙ of_b.path,
+    )
+
+same_check : (a b : Form) (s t : Strictness) → a ≡ b → s ≡ t → Check a s ≡ Check b t
+same_check a b s t forms strictnesses =
+    ap (λ form. Check form s) forms ∙ ap (λ strictness. Check b strictness) strictnesses
 
 pub command_once : (words : List (List ℕ)) (a b : Command) → AskFor words a → AskFor words b → IsSameCommand a b
 command_once words (Lookup From0 row col) (Lookup From0 row' col') (l, c, is, of_l, of_c) (l', c', is', of_l', of_c') =
@@ -247,53 +337,15 @@ command_once words Rewrite Rewrite p q = refl
 command_once words Flatten Flatten p q = refl
 command_once words (Compile Yes) (Compile Yes) p q = refl
 command_once words (Compile No) (Compile No) p q = refl
-command_once words (Check Lines Usual) (Check Lines Usual) p q = refl
-command_once words (Check Json Usual) (Check Json Usual) p q = refl
-command_once words (Check Lines Strict) (Check Lines Strict) p q = refl
-command_once words (Check Json Strict) (Check Json Strict) p q = refl
-command_once words (Check Json Usual) (Check Lines Strict) p q =
-    absurd (other_flags (same_word 1 (codes "check" ∷ codes "--json" ∷ []) (codes "check" ∷ codes "--strict" ∷ [])
-    (sym p ∙ q)))
-command_once words (Check Lines Strict) (Check Json Usual) p q =
-    absurd (other_flags (same_word 1 (codes "check" ∷ codes "--json" ∷ []) (codes "check" ∷ codes "--strict" ∷ [])
-    (sym q ∙ p)))
-command_once words (CheckBeside Lines Usual path) (CheckBeside Lines Usual other) p q = (
-  refl,
-  refl,
-  same_word 2 (codes "check" ∷ codes "--generated" ∷ string_bytes path ∷ [])
-      (codes "check" ∷ codes "--generated" ∷ string_bytes other ∷ []) (sym p ∙ q),
-)
-command_once words (CheckBeside Json Usual path) (CheckBeside Json Usual other) p q = (
-  refl,
-  refl,
-  same_word 3 (codes "check" ∷ codes "--json" ∷ codes "--generated" ∷ string_bytes path ∷ [])
-      (codes "check" ∷ codes "--json" ∷ codes "--generated" ∷ string_bytes other ∷ []) (sym p ∙ q),
-)
-command_once words (CheckBeside Lines Strict path) (CheckBeside Lines Strict other) p q = (
-  refl,
-  refl,
-  same_word 3 (codes "check" ∷ codes "--strict" ∷ codes "--generated" ∷ string_bytes path ∷ [])
-      (codes "check" ∷ codes "--strict" ∷ codes "--generated" ∷ string_bytes other ∷ []) (sym p ∙ q),
-)
-command_once words (CheckBeside Json Strict path) (CheckBeside Json Strict other) p q = (
-  refl,
-  refl,
-  same_word 4
-      (codes "check" ∷ codes "--json" ∷ codes "--strict" ∷ codes "--generated" ∷ string_bytes path ∷ [])
-      (codes "check" ∷ codes "--json" ∷ codes "--strict" ∷ codes "--generated" ∷ string_bytes other ∷ []) (sym p ∙ q),
-)
-command_once words (CheckBeside Json Usual path) (CheckBeside Lines Strict other) p q =
-    absurd (other_flags (same_word 1 (codes "check" ∷ codes "--json" ∷ codes "--generated" ∷ string_bytes path ∷ [])
-    (codes "check" ∷ codes "--strict" ∷ codes "--generated" ∷ string_bytes other ∷ []) (sym p ∙ q)))
-command_once words (CheckBeside Lines Strict path) (CheckBeside Json Usual other) p q =
-    absurd (other_flags (same_word 1 (codes "check" ∷ codes "--json" ∷ codes "--generated" ∷ string_bytes other ∷ [])
-    (codes "check" ∷ codes "--strict" ∷ codes "--generated" ∷ string_bytes path ∷ []) (sym q ∙ p)))
-command_once words (Check Json Strict) (CheckBeside Lines Usual path) p q =
-    absurd (no_generated (same_word 1 (codes "check" ∷ codes "--json" ∷ codes "--strict" ∷ [])
-    (codes "check" ∷ codes "--generated" ∷ string_bytes path ∷ []) (sym p ∙ q)))
-command_once words (CheckBeside Lines Usual path) (Check Json Strict) p q =
-    absurd (no_generated (same_word 1 (codes "check" ∷ codes "--json" ∷ codes "--strict" ∷ [])
-    (codes "check" ∷ codes "--generated" ∷ string_bytes path ∷ []) (sym q ∙ p)))
+command_once words (Check a s) (Check b t) p q =
+    let once = check_once a b s t None None (sym p ∙ q) in same_check a b s t once.0 once.1
+command_once words (CheckBeside a s path) (CheckBeside b t other) p q =
+    let once = check_once a b s t (Some (string_bytes path)) (Some (string_bytes other)) (sym p ∙ q) in
+    (once.0, once.1, ap (λ file. unwrap_or file []) once.2)
+command_once words (Check a s) (CheckBeside b t path) p q =
+    absurd (let once = check_once a b s t None (Some (string_bytes path)) (sym p ∙ q) in let no = once.2 in cc)
+command_once words (CheckBeside a s path) (Check b t) p q =
+    absurd (let once = check_once a b s t (Some (string_bytes path)) None (sym p ∙ q) in let no = once.2 in cc)
 command_once words a b p q =
     let of_a = kind_is words a p in
     let of_b = kind_is words b q in
