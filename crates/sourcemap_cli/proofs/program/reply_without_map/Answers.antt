@@ -22,7 +22,7 @@ compiled_reply-requires-clause-question c =
     c.in_default.not-CheckBeside
 
 pub compiled_reply-requires-clause-compiled : goal.compiled_reply-requires-clause-compiled
-compiled_reply-requires-clause-compiled c = rw c.as_slice.ensures.value c.requires
+compiled_reply-requires-clause-compiled c = rw c.as_slice-in_default.ensures.value c.requires
 
 pub returns-in_default : goal.returns-in_default
-returns-in_default c = rw c.as_slice.ensures.value at c.compiled_reply.ensures
+returns-in_default c = rw c.as_slice-in_default.ensures.value at c.compiled_reply.ensures
