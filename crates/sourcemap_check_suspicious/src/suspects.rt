@@ -4,7 +4,7 @@ ghost use Rattle.std.specs.Option.{option_copied};
 ghost use Rattle.sourcemap_errors.specs.declared.errors.Error.TheVariants.{OutOfMemory};
 ghost use Rattle.sourcemap_check_suspicious.specs.Reading.{text_map_value};
 ghost use Rattle.sourcemap_check_suspicious.specs.declared.suspects.Suspicion.TheVariants.{Generated, Ranges};
-ghost use Rattle.sourcemap_check_suspicious.specs.Suspects.{Adds, AreSuspects, HasNone, LooksWrong, LooksWrongOf, suspects_of};
+ghost use Rattle.sourcemap_check_suspicious.specs.Suspects.{Adds, AreSuspects, HasNone, LooksWrong, LooksWrongOf, is_range_doubt, suspects_of};
 
 use crate::adding::{add_if, add_items, add_segments, add_tokens};
 use crate::reading::{TextMap, read_text_map};
@@ -104,6 +104,16 @@ fn add_generated(
     add_tokens(found, &map.map, Suspicion::Generated(doubt), &places)
 }
 
+fn is_range_doubt(doubt: RangeDoubt, found: Option<RangeDoubt>) -> bool
+    ensures { result ≡ is_range_doubt doubt found }
+{
+    match (doubt, found) {
+        (RangeDoubt::OtherFormat, Some(RangeDoubt::OtherFormat)) => true,
+        (RangeDoubt::NoFormat, Some(RangeDoubt::NoFormat)) => true,
+        _ => false,
+    }
+}
+
 fn add_ranges(
     alloc: Global,
     found: &mut Suspects,
@@ -116,7 +126,12 @@ fn add_ranges(
     ensures memory { IfErr result (λ e. e ≡ OutOfMemory) }
 {
     let doubts = doubtful_ranges(alloc, map.mappings.as_str(), map.ranges.as_str())?;
-    add_if(found, Suspicion::Ranges(doubt), doubts == Some(doubt), most)
+    add_if(
+        found,
+        Suspicion::Ranges(doubt),
+        is_range_doubt(doubt, doubts),
+        most,
+    )
 }
 
 fn add_all(
