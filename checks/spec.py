@@ -3,7 +3,8 @@
 
     checks/spec.py [PROGRAM]      the built program, crates/sourcemap_tool/out/sourcemap_tool by default
 
-A valid map has no finding and status 0. An invalid one has the codes of codes.tsv and status 1.
+A valid map breaks no rule and has status 0, whatever looks wrong in it. An invalid one has the codes of codes.tsv and
+status 1.
 """
 
 import json
@@ -24,7 +25,7 @@ def wanted_codes():
 
 def run(program, file):
     ended = subprocess.run([program, "check"], stdin=file.open("rb"), capture_output=True, timeout=60)
-    return ended.returncode, set(re.findall(r": (SM\d+) ", ended.stdout.decode()))
+    return ended.returncode, set(re.findall(r": (SM1\d\d) ", ended.stdout.decode()))
 
 
 def main():

@@ -3,8 +3,8 @@
 
     compare/checked.py PROGRAM [RUNS [SEED]]      PROGRAM is the built sourcemap_tool
 
-The model is written from docs/CHECK.md and knows nothing of the program. It answers each finding with its place, in the
-order of the report. Maps with more than 20 findings of one code are cut by the program, and are compared up to there.
+The model is written from docs/CHECK.md and knows nothing of the program. It answers each broken rule with its place, in
+the order of the report; what only looks wrong is not compared. Maps with more than 20 findings of one code are cut by the program, and are compared up to there.
 """
 import collections
 import json
@@ -256,6 +256,8 @@ def reported(program, text):
     """The findings of the JSON report, as the lines give them."""
     ended = subprocess.run([program, 'check', '--json'], input=text.encode(), capture_output=True, timeout=60)
     for finding in json.loads(ended.stdout)['findings']:
+        if finding['severity'] != 'invalid':
+            continue
         path = ''.join(f'sections[{index}].map.' for index in finding['sections'])
         place = finding['position']
         at = f' {place["line"]}:{place["index"]}' if place else ''
@@ -275,12 +277,13 @@ def main():
         ended = subprocess.run([program, 'check'], input=text.encode(), capture_output=True, timeout=60)
         lines = ended.stdout.decode().splitlines()
         got = [' '.join(line.split(' ')[:2 + line.startswith('MAP:') * ('mappings ' in line.split(': SM')[0])])
-               for line in lines[:-1]]
+               for line in lines[:-1] if ': SM1' in line]
         status = 1 if found else 0
         valid += not found
         codes |= {code for code, _ in found}
-        last = f'{len(found)} invalid, {len(due)} shown'
-        if got != due or ended.returncode != status or lines[-1] != last or list(reported(program, text)) != due:
+        last = f'{len(found)} invalid, 0 suspicious, {len(due)} shown' if found else '0 invalid, '
+        is_same = got == due and ended.returncode == status and lines[-1].startswith(last)
+        if not is_same or list(reported(program, text)) != due:
             differences += 1
             if differences < 5:
                 print(text, got, due, ended.returncode, sep='\n', end='\n\n')

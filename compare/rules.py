@@ -8,7 +8,7 @@ from index_maps import LAST, in_order, offset_of, absolute_position
 
 USAGE = ('usage: lookup [--from-1] LINE COL | tokens | rewrite | flatten | compose FILE | shift ROWS'
          ' | trace [--from-1] FILE | compile [--without-contents]'
-         ' | check [--json] [--strict]\n')
+         ' | check [--json] [--strict] [--generated FILE] [--sources DIR]\n')
 FROM_1 = '--from-1'
 WITHOUT_CONTENTS = '--without-contents'
 CHECKS = [['check'], ['check', '--json'], ['check', '--strict'], ['check', '--json', '--strict']]
@@ -526,9 +526,13 @@ def is_valid(data):
 
 
 def outcome_of(words, data, file=b''):
-    """The exit status and the output of a run. The output is None for a report, which checked.py compares."""
+    """The exit status and the output of a run. The output is None for a report, which checked.py compares. None if the
+    rules do not say the status."""
     if words in CHECKS:
-        return 0 if is_valid(data) else 1, None
+        if not is_valid(data):
+            return 1, None
+        # what looks wrong fails a strict check
+        return None if '--strict' in words else (0, None)
     try:
         output = output_of(words, data, file)
     except Refusal as refused:

@@ -324,3 +324,63 @@ export declare class CompiledMap {
    */
   verify(): void;
 }
+
+/** A segment of `mappings`: its line, and its index among the segments of this line. Both count from 0. */
+export interface SegmentPosition {
+  line: number;
+  index: number;
+}
+
+/** A token, by its generated position. Here the line counts from 0 too. */
+export interface TokenPosition {
+  line: number;
+  column: number;
+}
+
+/** By how many lines and columns positions are off throughout. */
+export interface Shift {
+  lines: number;
+  columns: number;
+}
+
+/** A place where a map breaks a rule of the standard, or where something looks wrong. */
+export interface Finding {
+  /** The code of docs/CHECK.md, such as SM132. */
+  code: string;
+  /** `invalid` if a rule is broken; `suspicious` if the map is valid, but something looks wrong. */
+  severity: 'invalid' | 'suspicious';
+  /** The indexes of the sections that lead to its map, the outermost first; empty for the whole map. */
+  sections: number[];
+  /** The key of the map. It is empty if the bytes are no JSON object. */
+  key: string;
+  /** Null if the key says it all. */
+  position: SegmentPosition | TokenPosition | Shift | null;
+  /** What is wrong, in English. */
+  sentence: string;
+}
+
+export interface Report {
+  /** Whether the map is valid by ECMA-426. */
+  valid: boolean;
+  /** How many findings are invalid, in all. */
+  invalid: number;
+  /** How many findings are suspicious, in all. */
+  suspicious: number;
+  /** The first findings of each code. */
+  findings: Finding[];
+}
+
+export interface CheckOptions {
+  /** The generated text, or its UTF-8 bytes. If it is given, a valid map is compared with it. */
+  generated?: string | Uint8Array | null;
+  /** How many findings of each code the report has at most: 20 if it is not given; 0 counts as 1. */
+  most?: number;
+}
+
+/**
+ * Checks whether a map is valid by ECMA-426, the standard of source maps, and looks for what looks
+ * wrong in a valid one. The map is its JSON, as text or as bytes, or the object that JSON describes.
+ * Any text and any bytes give a report: what is no JSON is a finding. Throws UTF8 if the bytes of the
+ * generated text are not UTF-8.
+ */
+export declare function check(map: string | Uint8Array | object, options?: CheckOptions): Report;

@@ -1,15 +1,16 @@
 #!/usr/bin/env python3
 """Frames a second of `python -m sourcemap batch`, the memory of its workers, and where the time goes.
 
-    bindings/python/bench_batch.py MAPS WORK [--frames N] [--maps N] [--workers 1,2,4] [--rounds N]
+    bindings/python/bench_batch.py MAPS WORK [--frames N] [--maps N] [--workers 1,2,4] [--rounds N] [--prepare]
 
 MAPS is a folder with maps, such as those of a corpus: the largest ones are taken, at most 200 (--maps). WORK is a folder
 that is made: it gets the release, a table with 10,000,000 frames (--frames), and the output. A table that is there
-already is used again. The frames are drawn at random: a map, a token of it, and a column up to two behind it. Each number
-of workers takes the table some times (--rounds, 1), and the least time counts. The maps are compiled before.
+already is used again; with --prepare that is all. The frames are drawn at random: a map, a token of it, and a column up
+to two behind it. Each number of workers takes the table some times (--rounds, 1), and the least time counts. Before each
+time the output is removed, and the disk has nothing to write. The maps are compiled before.
 
-The memory of a worker is what it has of its own (Anonymous in /proc/PID/smaps_rollup), the most that was seen ten times a
-second; pages of mapped files are not in it. The profile is of one process and a tenth of the frames.
+The memory of a worker is what it has of its own (RssAnon in /proc/PID/status), the most that was seen ten times a second;
+pages of mapped files are not in it. The profile is of one process and a tenth of the frames.
 """
 import argparse
 import cProfile
@@ -20,6 +21,7 @@ import shutil
 import subprocess
 import sys
 import tempfile
+import threading
 import time
 from pathlib import Path
 
@@ -89,8 +91,8 @@ def look_at(pid):
     while waiting:
         each = waiting.pop()
         try:
-            text = Path(f'/proc/{each}/smaps_rollup').read_text()
-            own = 1024 * int(next(line.split()[1] for line in text.splitlines() if line.startswith('Anonymous:')))
+            text = Path(f'/proc/{each}/status').read_text()
+            own = 1024 * int(next(line.split()[1] for line in text.splitlines() if line.startswith('RssAnon:')))
             fields = Path(f'/proc/{each}/stat').read_text().rpartition(')')[2].split()
             found[each] = own, (int(fields[11]) + int(fields[12])) / TICKS
             for children in Path(f'/proc/{each}/task').glob('*/children'):
@@ -100,21 +102,38 @@ def look_at(pid):
     return found
 
 
-def measure(words):
-    """Runs the program. Returns the seconds, those of the processor, the most own memory of a process, the last line."""
+class Usage(threading.Thread):
+    """Looks at a program ten times a second until it has ended."""
+
+    def __init__(self, program):
+        super().__init__()
+        self.program = program
+        self.most, self.used = 0, {}
+
+    def run(self):
+        while self.program.returncode is None:
+            for each, (own, seconds) in look_at(self.program.pid).items():
+                self.most, self.used[each] = max(self.most, own), seconds
+            time.sleep(0.1)
+
+
+def measure(words, out):
+    """Runs the program. Returns the seconds, those of the processors, the most own memory of a process, the last line."""
+    out.unlink(missing_ok=True)
+    os.sync()
     began = time.monotonic()
-    program = subprocess.Popen([sys.executable, '-m', 'sourcemap', 'batch', *words], stderr=subprocess.PIPE, text=True,
+    program = subprocess.Popen([sys.executable, '-m', 'sourcemap', 'batch', *words, '-o', str(out)], text=True,
+                               stderr=subprocess.PIPE,
                                env={**os.environ, 'PYTHONPATH': str(Path(sourcemap.__file__).parents[1])})
-    most, used = 0, {}
-    while program.poll() is None:
-        for each, (own, seconds) in look_at(program.pid).items():
-            most, used[each] = max(most, own), seconds
-        time.sleep(0.1)
-    seconds = time.monotonic() - began
+    usage = Usage(program)
+    usage.start()
     errors = program.stderr.read()
+    program.wait()
+    seconds = time.monotonic() - began
+    usage.join()
     if program.returncode:
         sys.exit(errors)
-    return seconds, sum(used.values()), most, errors.splitlines()[-1]
+    return seconds, sum(usage.used.values()), usage.most, errors.splitlines()[-1]
 
 
 def profile(frames, release, count):
@@ -143,17 +162,9 @@ def profile(frames, release, count):
     print(f'{100 * (1 - sum(shares.values()) / whole):5.1f} %  else; {answered} frames in {whole:.1f} s, profiled')
 
 
-def main():
-    parser = argparse.ArgumentParser(description=__doc__, formatter_class=argparse.RawDescriptionHelpFormatter)
-    parser.add_argument('maps', type=Path)
-    parser.add_argument('work', type=Path)
-    parser.add_argument('--frames', type=int, default=10_000_000)
-    parser.add_argument('--maps', dest='most', type=int, default=200)
-    parser.add_argument('--workers', default='1,2,4')
-    parser.add_argument('--rounds', type=int, default=1)
-    arguments = parser.parse_args()
-    work = arguments.work
-    frames, folder, cache = work / f'frames-{arguments.frames}.csv', work / 'release', work / 'cache'
+def prepare(arguments):
+    """Makes the table, the release and its compiled maps, and says how large they are."""
+    work, frames, folder, cache = arguments.work, arguments.table, arguments.release, arguments.cache
     if not frames.exists():
         shutil.rmtree(work, ignore_errors=True)
         folder.mkdir(parents=True)
@@ -166,16 +177,39 @@ def main():
     compiled = sum(path.stat().st_size for path in cache.rglob('*.compiled'))
     print(f'{len(maps)} maps of {sum(path.stat().st_size for path in maps) / 1e6:.0f} MB, compiled {compiled / 1e6:.0f} MB; '
           f'{arguments.frames} frames, {frames.stat().st_size / 1e6:.0f} MB')
+    return release
+
+
+def print_table(arguments):
+    out = arguments.work / 'out.csv'
+    words = [str(arguments.table), '--release', str(arguments.release), '--cache', str(arguments.cache), '--workers']
+    print('| Workers | Seconds | Frames a second | Times the first | Seconds of processors | Memory of a worker |\n'
+          '|---|---|---|---|---|---|')
     first = None
-    for workers in map(int, arguments.workers.split(',')):
-        words = [str(frames), '--release', str(folder), '--cache', str(cache), '-o', str(work / 'out.csv'), '--workers',
-                 str(workers)]
-        seconds, used, most, last = min(measure(words) for _ in range(arguments.rounds))
+    for workers in arguments.workers.split(','):
+        seconds, used, most, last = min(measure([*words, workers], out) for _ in range(arguments.rounds))
         first = first or seconds
-        print(f'{workers} workers: {seconds:.1f} s, {arguments.frames / seconds:.0f} frames a second, '
-              f'{first / seconds:.2f} of the first, {used:.1f} s of processors, {most / 1e6:.0f} MB each at most; {last}')
-    print(f'out.csv: {(work / "out.csv").stat().st_size / 1e6:.0f} MB')
-    profile(frames, release, arguments.frames // 10)
+        print(f'| {workers} | {seconds:.1f} | {arguments.frames / seconds:,.0f} | {first / seconds:.2f} | {used:.1f} | '
+              f'{most / 1e6:.0f} MB |', flush=True)
+    print(f'{last}\nout.csv: {out.stat().st_size / 1e6:.0f} MB')
+
+
+def main():
+    parser = argparse.ArgumentParser(description=__doc__, formatter_class=argparse.RawDescriptionHelpFormatter)
+    parser.add_argument('maps', type=Path)
+    parser.add_argument('work', type=Path)
+    parser.add_argument('--frames', type=int, default=10_000_000)
+    parser.add_argument('--maps', dest='most', type=int, default=200)
+    parser.add_argument('--workers', default='1,2,4')
+    parser.add_argument('--rounds', type=int, default=1)
+    parser.add_argument('--prepare', action='store_true')
+    arguments = parser.parse_args()
+    arguments.table = arguments.work / f'frames-{arguments.frames}.csv'
+    arguments.release, arguments.cache = arguments.work / 'release', arguments.work / 'cache'
+    release = prepare(arguments)
+    if not arguments.prepare:
+        print_table(arguments)
+        profile(arguments.table, release, arguments.frames // 10)
 
 
 if __name__ == '__main__':

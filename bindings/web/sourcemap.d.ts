@@ -52,8 +52,12 @@ export interface InvalidOriginalMapping {
   name: null;
 }
 
-/** What a compiled map is loaded from. Bytes are copied. */
-export type CompiledMapInput = string | URL | Request | Response | Blob | ArrayBuffer | ArrayBufferView;
+/**
+ * What a compiled map is loaded from. Bytes are copied, those that are read as they come: pass a `Response`
+ * rather than its `arrayBuffer()`, which takes as much memory again.
+ */
+export type CompiledMapInput =
+  string | URL | Request | Response | ReadableStream<Uint8Array> | Blob | ArrayBuffer | ArrayBufferView;
 
 /**
  * A compiled map, in the memory of a WebAssembly module that all maps share. Close it when it is no
@@ -76,7 +80,8 @@ export declare class CompiledMap {
 
   /**
    * Opens a compiled map. Throws COMPILED_TRUNCATED, COMPILED_MAGIC, COMPILED_VERSION or
-   * COMPILED_EXTENT for bytes that are none, IO for a file that cannot be read.
+   * COMPILED_EXTENT for bytes that are none, IO for a file that cannot be read. The error of a stream that
+   * was passed is thrown as it is.
    */
   static load(from: CompiledMapInput): Promise<CompiledMap>;
 

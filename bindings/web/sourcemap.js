@@ -58,13 +58,20 @@ const MEMORY64 = new Uint8Array([0, 0x61, 0x73, 0x6d, 1, 0, 0, 0, 5, 3, 1, 4, 0]
 
 const PAGE = 65536;
 const GRAIN = 16;
-/** How many positions are looked up in one call. */
-const BATCH = 2048;
+/** What a part that grows has to spare, so that streams that come at once do not move one another at each piece. */
+const SPARE = 2 ** 18;
+/** How many positions are looked up in one call: they and their tokens stay in the nearest cache. */
+const BATCH = 512;
 /** The words of the scratch: a slot for one result and one for another text, then positions, then tokens. */
 const SLOT_WORDS = 8;
 const POSITIONS_AT = SLOT_WORDS;
 const TOKENS_AT = POSITIONS_AT + POSITION_WORDS * BATCH;
 const SCRATCH_WORDS = TOKENS_AT + TOKEN_WORDS * BATCH;
+
+/** The bytes of a view of any kind. */
+function bytesIn(view) {
+  return new Uint8Array(view.buffer, view.byteOffset, view.byteLength);
+}
 
 function rounded(size, grain) {
   return Math.ceil(size / grain) * grain;
@@ -195,6 +202,44 @@ class Heap {
     }
   }
 
+  /** Makes a part larger, which may move its first bytes. If there is no memory, the part is given back. */
+  #widen(part, used, length) {
+    this.give(part);
+    const wider = this.take(length);
+    if (wider.at !== part.at) this.bytes.copyWithin(wider.at, part.at, part.at + used);
+    return wider;
+  }
+
+  /** Gives back what a part does not need for this many bytes. */
+  #trim({ at, size }, length) {
+    const kept = Math.max(rounded(length, GRAIN), GRAIN);
+    if (kept < size) this.give({ at: at + kept, size: size - kept });
+    return { at, size: kept };
+  }
+
+  /** Takes a part for bytes that come in pieces. Returns it, and how many bytes there were. */
+  async receive({ expected, pieces }) {
+    let part = this.take(expected);
+    let length = 0;
+    try {
+      for await (const piece of pieces) {
+        if (!ArrayBuffer.isView(piece)) throw new TypeError('a piece of the stream is no Uint8Array');
+        const end = length + piece.byteLength;
+        if (end > part.size) {
+          const narrow = part;
+          part = null;
+          part = this.#widen(narrow, length, end + SPARE);
+        }
+        this.bytes.set(bytesIn(piece), part.at + length);
+        length = end;
+      }
+    } catch (error) {
+      if (part !== null) this.give(part);
+      throw error;
+    }
+    return { part: this.#trim(part, length), length };
+  }
+
   /**
    * Another instance takes over the maps: after a trap, which would be a defect of the module, its stack is lost.
    * Returns what is to be thrown.
@@ -234,12 +279,25 @@ async function compiledModule() {
   }
 }
 
+/** All bytes of an input. */
+async function bytesOf(from) {
+  const { pieces } = await inputOf(from);
+  const all = [];
+  for await (const piece of pieces) all.push(piece);
+  return new Blob(all).arrayBuffer();
+}
+
 async function startHeap() {
   const module = await compiledModule();
   const names = new Set(WebAssembly.Module.exports(module).map(({ name }) => name));
   const missing = ['memory', '__heap_base', ...CALLS].find((name) => !names.has(name));
   if (missing !== undefined) throw new SourceMapError(`the module has no ${missing}`, 'NO_MODULE');
   return new Heap(module);
+}
+
+/** Asks only until the module is loaded: to ask takes longer than to open a small map. */
+function checkSupport() {
+  if (heap === null && !CompiledMap.isSupported()) throw new SourceMapError(NO_MEMORY64, 'NO_MEMORY64');
 }
 
 function theHeap() {
@@ -251,7 +309,7 @@ function theHeap() {
 }
 
 /*
- * Bytes
+ * Inputs: how many bytes are expected, and the pieces that they come in
  */
 
 /** Whether a value is of a class that need not exist here. */
@@ -268,28 +326,59 @@ function pathOf(from) {
   return [fs, from.startsWith('file:') ? new URL(from) : from];
 }
 
+function whole(bytes) {
+  return { expected: bytes.byteLength, pieces: [bytes] };
+}
+
+/** The pieces of a stream. Its own iterator takes longer to see the end. */
+async function* piecesOf(stream) {
+  const reader = stream.getReader();
+  try {
+    for (let next = await reader.read(); !next.done; next = await reader.read()) yield next.value;
+  } finally {
+    // of a stream that is not read to its end, nobody wants the rest
+    reader.cancel().catch(() => {});
+  }
+}
+
 async function fetched(from) {
   const file = pathOf(from);
-  if (file !== null) return file[0].readFile(file[1]);
+  if (file !== null) return whole(await file[0].readFile(file[1]));
   const response = isA(from, 'Response') ? from : await fetch(from);
   if (!response.ok) throw new Error(`status ${response.status} ${response.statusText}`.trim());
-  return new Uint8Array(await response.arrayBuffer());
+  // a body that was compressed is longer
+  const pieces = response.body === null ? [] : piecesOf(response.body);
+  return { expected: Number(response.headers.get('content-length')) || 0, pieces };
 }
 
 function isNamed(from) {
   return typeof from === 'string' || from instanceof URL || isA(from, 'Request') || isA(from, 'Response');
 }
 
-async function bytesOf(from) {
-  if (from instanceof ArrayBuffer || isA(from, 'SharedArrayBuffer')) return new Uint8Array(from);
-  if (ArrayBuffer.isView(from)) return new Uint8Array(from.buffer, from.byteOffset, from.byteLength);
-  if (isA(from, 'Blob')) return new Uint8Array(await from.arrayBuffer());
-  if (!isNamed(from)) throw new TypeError('a compiled map is a URL, a Response, a Blob, or bytes');
+function unread(from, cause) {
+  const name = isA(from, 'Request') || isA(from, 'Response') ? from.url : from;
+  return new SourceMapError(`cannot read ${name}: ${cause.message}`, 'IO', { cause });
+}
+
+async function* reading(from, pieces) {
   try {
-    return await fetched(from);
+    yield* pieces;
   } catch (cause) {
-    const name = isA(from, 'Request') || isA(from, 'Response') ? from.url : from;
-    throw new SourceMapError(`cannot read ${name}: ${cause.message}`, 'IO', { cause });
+    throw unread(from, cause);
+  }
+}
+
+async function inputOf(from) {
+  if (from instanceof ArrayBuffer || isA(from, 'SharedArrayBuffer')) return whole(new Uint8Array(from));
+  if (ArrayBuffer.isView(from)) return whole(from);
+  if (isA(from, 'Blob')) return { expected: from.size, pieces: piecesOf(from.stream()) };
+  if (isA(from, 'ReadableStream')) return { expected: 0, pieces: piecesOf(from) };
+  if (!isNamed(from)) throw new TypeError('a compiled map is a URL, a Response, a stream, a Blob, or bytes');
+  try {
+    const { expected, pieces } = await fetched(from);
+    return { expected, pieces: reading(from, pieces) };
+  } catch (cause) {
+    throw unread(from, cause);
   }
 }
 
@@ -354,18 +443,17 @@ export class CompiledMap {
   }
 
   static async load(from) {
-    if (!CompiledMap.isSupported()) throw new SourceMapError(NO_MEMORY64, 'NO_MEMORY64');
-    const [opened, bytes] = await Promise.all([theHeap(), bytesOf(from)]);
-    return new CompiledMap(opened, bytes);
+    checkSupport();
+    const [opened, input] = await Promise.all([theHeap(), inputOf(from)]);
+    return new CompiledMap(opened, await opened.receive(input));
   }
 
-  constructor(opened, bytes) {
+  constructor(opened, received) {
     if (!(opened instanceof Heap)) throw new TypeError('use CompiledMap.load');
     this.#heap = opened;
-    this.#part = opened.take(bytes.length);
-    opened.bytes.set(bytes, this.#part.at);
-    this.#at = BigInt(this.#part.at);
-    this.#length = BigInt(bytes.length);
+    this.#part = received.part;
+    this.#at = BigInt(received.part.at);
+    this.#length = BigInt(received.length);
     try {
       this.#check('sm_compiled_check');
     } catch (error) {
@@ -641,7 +729,7 @@ export class CompiledMap {
 
 export async function parseSegment(segment) {
   if (typeof segment !== 'string') throw new TypeError('a segment must be a string');
-  if (!CompiledMap.isSupported()) throw new SourceMapError(NO_MEMORY64, 'NO_MEMORY64');
+  checkSupport();
   const opened = await theHeap();
   return opened.numbersOf(new TextEncoder().encode(segment));
 }
@@ -649,12 +737,18 @@ export async function parseSegment(segment) {
 /** Writes the answers of tokens in the scratch: of each that is on the line of its position. */
 function writeAnswers(words, count, answers, first) {
   for (let i = 0, at = TOKENS_AT, to = first; i < count; i += 1, at += TOKEN_WORDS, to += ANSWER_WORDS) {
-    const isThere = (words[at + FOUND] & 0xff) !== 0 && words[at + LINE] === words[POSITIONS_AT + 2 * i]
-      && words[at + SOURCE] !== NONE;
-    answers[to] = isThere ? words[at + SOURCE] : NONE;
-    answers[to + 1] = isThere ? words[at + ORIGINAL_LINE] + 1 : 0;
-    answers[to + 2] = isThere ? words[at + ORIGINAL_COLUMN] : 0;
-    answers[to + 3] = isThere ? words[at + NAME] : NONE;
+    const source = words[at + SOURCE];
+    if ((words[at + FOUND] & 0xff) !== 0 && words[at + LINE] === words[POSITIONS_AT + 2 * i] && source !== NONE) {
+      answers[to] = source;
+      answers[to + 1] = words[at + ORIGINAL_LINE] + 1;
+      answers[to + 2] = words[at + ORIGINAL_COLUMN];
+      answers[to + 3] = words[at + NAME];
+    } else {
+      answers[to] = NONE;
+      answers[to + 1] = 0;
+      answers[to + 2] = 0;
+      answers[to + 3] = NONE;
+    }
   }
 }
 

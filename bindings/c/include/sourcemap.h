@@ -129,6 +129,17 @@ typedef uint32_t sm_code;
 #define SM_KIND_SPLIT 7u
 #define SM_KIND_BYTES 8u
 #define SM_KIND_SECTIONS 9u
+#define SM_KIND_REPORT 10u
+
+/* How grave a finding of sm_check() is. */
+#define SM_INVALID 0u               /* the bytes break a rule of ECMA-426 */
+#define SM_SUSPICIOUS 1u            /* the map is valid, but something looks wrong */
+
+/* What the position of a finding is. */
+#define SM_PLACE_KEY 0u             /* there is none but the key */
+#define SM_PLACE_SEGMENT 1u         /* `line` and `index` of a segment in the text of the key */
+#define SM_PLACE_TOKEN 2u           /* a token, by its generated line in `line` and column in `index` */
+#define SM_PLACE_SHIFT 3u           /* positions are off by `lines` and `columns` throughout */
 
 /*
 ** TYPES
@@ -149,6 +160,7 @@ typedef sm_handle sm_view;    /* a text with the table of its lines */
 typedef sm_handle sm_bundle;  /* a RAM bundle */
 typedef sm_handle sm_split;   /* what makes the maps of the modules of a RAM bundle */
 typedef sm_handle sm_bytes;   /* a text or a compiled map that a call made */
+typedef sm_handle sm_report;  /* what a check found */
 
 #ifdef __cplusplus
 #define SM_EMPTY {}
@@ -239,6 +251,27 @@ typedef struct sm_section_start {
     bool has_map;
     bool has_url;
 } sm_section_start;
+
+/* A finding: a place where a rule is broken, or where something looks wrong. `code` is
+** the number in docs/CHECK.md, for example 132 for SM132. `severity` is one of SM_INVALID
+** and SM_SUSPICIOUS, and `place` one of SM_PLACE_.... Fields that do not count for that
+** place are 0. All count from 0. */
+typedef struct sm_finding {
+    uint32_t code;
+    uint32_t severity;
+    uint32_t place;
+    int32_t lines;
+    int32_t columns;
+    size_t line;
+    size_t index;
+} sm_finding;
+
+/* How many findings there are: of each severity in all, and in the report. */
+typedef struct sm_report_counts {
+    uint64_t invalid;
+    uint64_t suspicious;
+    size_t findings;
+} sm_report_counts;
 
 /*
 ** OPEN, SHARE AND CLOSE
@@ -950,6 +983,46 @@ sm_code sm_compiled_contents(const uint8_t *bytes, size_t length, uint32_t id, s
 
 /* The name of the generated file. Returns the codes of sm_compiled_source(). */
 sm_code sm_compiled_file(const uint8_t *bytes, size_t length, sm_text *text);
+
+/*
+** CHECKS
+**
+** A check reads any bytes, and reports each place where they break a rule of ECMA-426, the
+** standard of source maps: docs/CHECK.md has the rules, and the order of findings. A report
+** is read finding by finding. No call on a report allocates.
+*/
+
+/* Fills `report` with what is found in the bytes, which are not kept. The report has at
+** most `most` findings of each code, the first ones, and counts all; 0 counts as 1. Only in
+** a valid map is looked for what looks wrong. If `has_generated` is true, `generated` is the
+** generated text, and a valid map is compared with it too; else it is not read. Returns SM_OK, also if the bytes are no map; SM_UTF8 if `has_generated` is true and
+** the generated text is not UTF-8. */
+sm_code sm_check(sm_report *report, const uint8_t *bytes, size_t length, bool has_generated,
+                 const uint8_t *generated, size_t generated_length, uint32_t most, sm_error *error);
+
+/* Writes how many findings there are. `invalid` is 0 exactly if the bytes are a valid map.
+** Counts stop at 2^64 - 1. SM_WRONG_KIND if the handle holds no report; then `counts` is
+** as it was. */
+sm_code sm_report_count(sm_report *report, sm_report_counts *counts);
+
+/* Writes the finding of this index, from 0. SM_ABSENT if there are no more findings,
+** SM_WRONG_KIND if the handle holds no report; then `finding` is as it was. */
+sm_code sm_report_finding(sm_report *report, uint32_t index, sm_finding *finding);
+
+/* Writes the indexes of the sections that lead to the map that a finding is in, the
+** outermost first, to `sections`, but at most the first `capacity`. Writes to `count` how
+** many they are: 0 for the whole map. The rest of `sections` is as it was. SM_ABSENT and
+** SM_WRONG_KIND as sm_report_finding(); then `sections` and `count` are as they were. */
+sm_code sm_report_sections(sm_report *report, uint32_t index, size_t *sections, size_t capacity, size_t *count);
+
+/* The key of the map that a finding is on, for example `mappings` or
+** `sections[1].offset.line`; empty if the bytes are no JSON object. The text is borrowed
+** from `report`. Returns the codes of sm_report_finding(). */
+sm_code sm_report_key(sm_report *report, uint32_t index, sm_text *text);
+
+/* A sentence in English that says how the rule is broken, or what looks wrong, without the
+** place. The text is borrowed from `report`. Returns the codes of sm_report_finding(). */
+sm_code sm_report_sentence(sm_report *report, uint32_t index, sm_text *text);
 
 #ifdef __cplusplus
 }

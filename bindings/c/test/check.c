@@ -111,6 +111,28 @@ static void describe_text(sm_code code, sm_text found, char *text, size_t size)
         snprintf(text, size, "code %lu", (unsigned long)code);
 }
 
+/* Each finding by code, sections, key, position and sentence. */
+static void describe_report(sm_handle *report, char *text, size_t size)
+{
+    sm_finding found = { 0 };
+    sm_text key = SM_TEXT_EMPTY, sentence = SM_TEXT_EMPTY;
+    size_t sections[8] = { 0 }, count = 0, at, end = 0;
+    uint32_t index;
+    text[0] = 0;
+    for (index = 0; end < size && sm_report_finding(report, index, &found) == SM_OK; index++) {
+        end += (size_t)snprintf(text + end, size - end, "SM%lu %lu ", (unsigned long)found.code, (unsigned long)found.severity);
+        sm_report_sections(report, index, sections, 8, &count);
+        for (at = 0; at < count && at < 8 && end < size; at++)
+            end += (size_t)snprintf(text + end, size - end, "%lu.", (unsigned long)sections[at]);
+        sm_report_key(report, index, &key);
+        sm_report_sentence(report, index, &sentence);
+        if (end < size)
+            end += (size_t)snprintf(text + end, size - end, "%.*s %lu:%lu %.*s\n", (int)key.length, (const char *)key.at,
+                                    (unsigned long)found.line, (unsigned long)found.index, (int)sentence.length,
+                                    (const char *)sentence.at);
+    }
+}
+
 void describe(sm_handle *handle, char *text, size_t size)
 {
     sm_text found = SM_TEXT_EMPTY;
@@ -139,6 +161,9 @@ void describe(sm_handle *handle, char *text, size_t size)
         break;
     case SM_KIND_SECTIONS:
         snprintf(text, size, "sections");
+        break;
+    case SM_KIND_REPORT:
+        describe_report(handle, text, size);
         break;
     default:
         snprintf(text, size, "%s", sm_kind(handle) == SM_KIND_EMPTY ? "nothing" : "an unknown kind");

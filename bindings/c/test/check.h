@@ -35,8 +35,8 @@ void check_token(sm_token got, sm_token wanted, const char *what, const char *fi
 sm_token token_of(uint32_t line, uint32_t column, uint32_t original_line, uint32_t original_column, uint32_t source,
                   uint32_t name, bool is_range);
 
-/* Prints what a handle holds: a map as its JSON, a text as it is, of the rest the kind and a count. At most `size`
-** bytes with the zero byte. */
+/* Prints what a handle holds: a map as its JSON, a text as it is, a report by its findings, of the rest the kind and a
+** count. At most `size` bytes with the zero byte. */
 void describe(sm_handle *handle, char *text, size_t size);
 
 /* Prints the counts, and returns the exit status. */

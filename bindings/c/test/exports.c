@@ -98,6 +98,16 @@ WRITE(bundle_count, size_t, modules, sm_bundle_count(handle, &modules))
 ASK(bundle_startup, sm_bundle_startup(handle, &text, &error))
 ASK(bundle_module, sm_bundle_module(handle, 0, &text, &error))
 FILL(split_open, split, sm_split_open(&split, handle, &error))
+WRITE(report_count, sm_report_counts, counts, sm_report_count(handle, &counts))
+WRITE(report_finding, sm_finding, finding, sm_report_finding(handle, 0, &finding))
+ASK(report_key, sm_report_key(handle, 0, &text))
+ASK(report_sentence, sm_report_sentence(handle, 0, &text))
+
+static sm_code report_sections(sm_handle *handle)
+{
+    size_t sections[1] = { 0 }, count = 0;
+    return sm_report_sections(handle, 0, sections, 1, &count);
+}
 
 static sm_code ignore_list(sm_handle *handle)
 {
@@ -299,6 +309,11 @@ const struct export_row EXPORTS[] = {
     { "sm_split_open", split_open, KIND(SM_KIND_INDEX), false },
     { "sm_split_map", split_map, KIND(SM_KIND_SPLIT), false },
     { "sm_split_map, its bundle", split_map_bundle, KIND(SM_KIND_BUNDLE), false },
+    { "sm_report_count", report_count, KIND(SM_KIND_REPORT), false },
+    { "sm_report_finding", report_finding, KIND(SM_KIND_REPORT), false },
+    { "sm_report_sections", report_sections, KIND(SM_KIND_REPORT), false },
+    { "sm_report_key", report_key, KIND(SM_KIND_REPORT), false },
+    { "sm_report_sentence", report_sentence, KIND(SM_KIND_REPORT), false },
 };
 const size_t EXPORTS_COUNT = sizeof EXPORTS / sizeof EXPORTS[0];
 
@@ -343,6 +358,9 @@ void fill(sm_handle *handle, uint32_t kind)
         break;
     case SM_KIND_SECTIONS:
         CHECK_NUMBER(sm_sections_new(handle, &error), SM_OK);
+        break;
+    case SM_KIND_REPORT:
+        CHECK_NUMBER(sm_check(handle, BYTES(INVALID_MAP), false, NO_BYTES, 0, 20, &error), SM_OK);
         break;
     }
     CHECK_NUMBER(sm_kind(handle), kind);

@@ -12,6 +12,11 @@
 #define README_MAP \
     "{\"mappings\":\"" README_MAPPINGS "\",\"names\":[\"x\",\"alert\"],\"sources\":[\"coolstuff.js\"],\"version\":3}"
 
+/* A text that has all its generated positions. */
+#define README_TEXT "varx=1,f =  x;  ;;alert(x)"
+
+#define README_MAP_FINDINGS "SM214 1 sources[0] 0:0 the map has no contents for the source\n"
+
 /* Every part that a regular map can have. Its tokens: 0:0 from 0:0 of source 0, a range token 0:4 from 1:2 of
 ** source 1 with name 0, and 1:2 without a source. */
 #define FULL_MAP \
@@ -52,6 +57,13 @@
 #define BUNDLE_MAP \
     "{\"sections\":[{\"map\":{\"mappings\":\";;;;;AAAA,EAAE;AAAA\",\"names\":[],\"sources\":[\"a.js\"],\"version\":3}," \
     "\"offset\":{\"column\":0,\"line\":0},\"url\":null}],\"version\":3,\"x_facebook_offsets\":[5]}"
+
+/* Its section has a map with a segment that ends within a number. */
+#define INVALID_MAP \
+    "{\"version\":3,\"sections\":[{\"offset\":{\"line\":0,\"column\":0}," \
+    "\"map\":{\"version\":3,\"sources\":[],\"mappings\":\";g\"}}]}"
+/* as describe() prints what is found */
+#define INVALID_MAP_FINDINGS "SM132 0 0.mappings 1:0 the segment ends within a number\n"
 
 /* One module, `xyz`, and the startup code `ab`. */
 #define BUNDLE \

@@ -35,6 +35,7 @@ int main(int count, char **words)
     test_debug_id_texts();
     test_bundles();
     test_compiled();
+    test_checks();
     test_compiled_by_threads();
     test_wrong_kinds();
     test_threads(false);

@@ -55,7 +55,7 @@ void test_wrong_kinds(void)
     size_t row;
     uint32_t kind;
     for (row = 0; row < EXPORTS_COUNT; row++)
-        for (kind = SM_KIND_EMPTY; kind <= SM_KIND_SECTIONS; kind++)
+        for (kind = SM_KIND_EMPTY; kind <= SM_KIND_REPORT; kind++)
             check_pair(&EXPORTS[row], kind);
     test_outputs();
 }

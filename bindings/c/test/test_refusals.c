@@ -91,7 +91,7 @@ static uint64_t answers_of_all(void)
     size_t row;
     for (row = 0; row < EXPORTS_COUNT; row++) {
         uint32_t kind;
-        for (kind = SM_KIND_REGULAR; kind <= SM_KIND_SECTIONS; kind++) {
+        for (kind = SM_KIND_REGULAR; kind <= SM_KIND_REPORT; kind++) {
             sm_handle handle = SM_EMPTY;
             if (!(EXPORTS[row].kinds & KIND(kind)))
                 continue;
@@ -265,6 +265,9 @@ CALL(split_open, sm_split_open(&h->out, &h->other, error))
 CALL(split_map, sm_split_map(&h->subject, &h->other, 0, &h->out, error))
 CALL(missing_split_map, sm_split_map(&h->subject, &h->other, 1, &h->out, error))
 CALL(invalid_split_map, sm_split_map(&h->subject, &h->other, 2, &h->out, error))
+CALL(check_map, sm_check(&h->out, BYTES(INVALID_MAP), false, BYTES("\xff"), 20, error))
+CALL(check_with_text, sm_check(&h->out, BYTES(README_MAP), true, BYTES(README_TEXT), 20, error))
+CALL(check_with_no_text, sm_check(&h->out, BYTES(README_MAP), true, BYTES("\xff"), 20, error))
 
 /* A call that borrows a text, and fails: the text is as it was. */
 #define BORROW(name, expression)                            \
@@ -412,6 +415,9 @@ static const struct refusal_row ROWS[] = {
     { "map of a module", prepare_split, split_map, SM_OK, NULL, MODULE_MAP },
     { "map of a missing module", prepare_odd_split, missing_split_map, SM_ABSENT, NULL, NULL },
     { "map of an invalid module", prepare_odd_split, invalid_split_map, SM_INVALID_BUNDLE_ENTRY, NULL, NULL },
+    { "check", prepare_none, check_map, SM_OK, NULL, INVALID_MAP_FINDINGS },
+    { "check a valid map", prepare_none, check_with_text, SM_OK, NULL, README_MAP_FINDINGS },
+    { "check with bytes that are no text", prepare_none, check_with_no_text, SM_UTF8, NULL, NULL },
 };
 
 struct descriptions {
@@ -679,7 +685,8 @@ static void test_without_memory(void)
         "sm_ignore_list_from", "sm_tokens", "sm_lookup", "sm_lookup_many", "sm_lookup_span", "sm_lookup_index",
         "sm_lookup_source", "sm_lookup_name", "sm_hermes_function_name", "sm_scope_for", "sm_bytes_text",
         "sm_section_start_of", "sm_section_url", "sm_module_offsets", "sm_module_path", "sm_module_path_count",
-        "sm_builder_source", "sm_view_text", "sm_view_count", "sm_view_line", "sm_view_slice", "sm_bundle_count"
+        "sm_builder_source", "sm_view_text", "sm_view_count", "sm_view_line", "sm_view_slice", "sm_bundle_count",
+        "sm_report_count", "sm_report_finding", "sm_report_sections", "sm_report_key", "sm_report_sentence"
     };
     size_t row, name;
     uint32_t kind;
@@ -687,7 +694,7 @@ static void test_without_memory(void)
         for (name = 0; name < sizeof FREE / sizeof FREE[0]; name++) {
             if (strcmp(EXPORTS[row].name, FREE[name]) != 0)
                 continue;
-            for (kind = SM_KIND_EMPTY; kind <= SM_KIND_SECTIONS; kind++) {
+            for (kind = SM_KIND_EMPTY; kind <= SM_KIND_REPORT; kind++) {
                 sm_handle handle = SM_EMPTY;
                 sm_code code, without;
                 fill(&handle, kind);

@@ -17,6 +17,7 @@ void test_segments(void);
 void test_debug_id_texts(void);
 void test_bundles(void);
 void test_compiled(void);
+void test_checks(void);
 /* Eight threads look into the bytes of one compiled map. */
 void test_compiled_by_threads(void);
 void test_wrong_kinds(void);

@@ -3,6 +3,7 @@
 const { native, SourceMapError } = require('./native.js');
 const { TraceMap, FlattenMap, mappingsOf, lookupOf, tokensOf, checkTraceMap } = require('./trace-map.js');
 const { CompiledMap, compile } = require('./compiled-map.js');
+const { check } = require('./check.js');
 const { NONE } = require('./mappings.js');
 const {
   LEAST_UPPER_BOUND,
@@ -186,4 +187,5 @@ module.exports = {
   encodedMap,
   presortedDecodedMap,
   compile,
+  check,
 };

@@ -23,4 +23,5 @@ export const {
   encodedMap,
   presortedDecodedMap,
   compile,
+  check,
 } = sourcemap;

@@ -100,14 +100,18 @@ class TraceMap {
   }
 }
 
-/** The map for the library to flatten: in each section sources are resolved and mappings are text. */
-function flattenable(map, mapUrl) {
+/**
+ * The map for the library to flatten: in each section sources are resolved and mappings are
+ * text. Contents are added to a list, and stand as their numbers in it, so that none is
+ * parsed as JSON a second time.
+ */
+function flattenable(map, mapUrl, contents) {
   const fields = parse(map);
   if (fields.sections) {
     const sections = fields.sections.map(({ offset, url, map: inner }) => ({
       offset,
       url,
-      map: inner && flattenable(inner, mapUrl),
+      map: inner && flattenable(inner, mapUrl, contents),
     }));
     return { version: 3, sections };
   }
@@ -118,12 +122,18 @@ function flattenable(map, mapUrl) {
   return {
     version: 3,
     sources: sources.map(resolver(mapUrl, sourceRoot)),
-    sourcesContent,
+    sourcesContent: numbered(sourcesContent, contents),
     names,
     ignoreList: ignoreListOf(fields),
     mappings,
     rangeMappings,
   };
+}
+
+/** What is no list, or no text in it, stays, for the library to refuse. */
+function numbered(texts, list) {
+  if (!Array.isArray(texts)) return texts;
+  return texts.map((text) => (typeof text === 'string' ? `${list.push(text) - 1}` : text));
 }
 
 /** Opens a map of any kind, with or without `new`. The library flattens an index map. */
@@ -132,13 +142,14 @@ function FlattenMap(map, mapUrl) {
   checkMap(map, mapUrl);
   const fields = parse(map);
   if (!fields.sections) return new TraceMap(fields, mapUrl);
-  const handle = native.open(JSON.stringify(flattenable(fields, mapUrl)));
+  const contents = [];
+  const handle = native.open(JSON.stringify(flattenable(fields, mapUrl, contents)));
   const flat = {
     version: 3,
     file: fields.file,
     names: native.names(handle),
     sources: native.sources(handle),
-    sourcesContent: native.contents(handle),
+    sourcesContent: native.contents(handle).map((number) => number && contents[number]),
     ignoreList: native.ignoreList(handle),
   };
   return new TraceMap(flat, undefined, handle);

@@ -800,6 +800,118 @@ static napi_value compiled_scope(napi_env env, napi_callback_info info) {
 }
 
 /*
+** CHECKS
+*/
+
+static napi_status set_number(napi_env env, napi_value array, uint32_t at, double number) {
+    napi_value value;
+    napi_status status = napi_create_double(env, number, &value);
+    return status == napi_ok ? napi_set_element(env, array, at, value) : status;
+}
+
+static napi_status set_text(napi_env env, napi_value array, uint32_t at, const sm_text *text) {
+    napi_value value;
+    napi_status status = napi_create_string_utf8(env, (const char *)text->at, text->length, &value);
+    return status == napi_ok ? napi_set_element(env, array, at, value) : status;
+}
+
+/* Returns an array of the sections that lead to the map of a finding. */
+static napi_value sections_of(napi_env env, sm_report *report, uint32_t index) {
+    size_t none[1] = {0}, count = 0;
+    napi_value array;
+    sm_report_sections(report, index, none, 0, &count);
+    size_t *sections = calloc(count + 1, sizeof *sections);
+    if (!sections) {
+        return throw_out_of_memory(env);
+    }
+    sm_report_sections(report, index, sections, count, &count);
+    napi_status status = napi_create_array_with_length(env, count, &array);
+    for (size_t i = 0; i < count && status == napi_ok; i++) {
+        status = set_number(env, array, (uint32_t)i, (double)sections[i]);
+    }
+    free(sections);
+    TRY(status);
+    return array;
+}
+
+/* Returns the finding of this index, an array: code, severity, place, line, index, lines,
+** columns, sections, key, sentence. */
+static napi_value finding_of(napi_env env, sm_report *report, uint32_t index) {
+    napi_value array;
+    sm_finding found = {0};
+    sm_text key = SM_TEXT_EMPTY, sentence = SM_TEXT_EMPTY;
+    sm_report_finding(report, index, &found);
+    sm_report_key(report, index, &key);
+    sm_report_sentence(report, index, &sentence);
+    const double numbers[] = {found.code,         found.severity, found.place,  (double)found.line,
+                              (double)found.index, found.lines,    found.columns};
+    const uint32_t count = sizeof numbers / sizeof numbers[0];
+    TRY(napi_create_array(env, &array));
+    for (uint32_t i = 0; i < count; i++) {
+        TRY(set_number(env, array, i, numbers[i]));
+    }
+    napi_value sections = sections_of(env, report, index);
+    if (!sections) {
+        return NULL;
+    }
+    TRY(napi_set_element(env, array, count, sections));
+    TRY(set_text(env, array, count + 1, &key));
+    TRY(set_text(env, array, count + 2, &sentence));
+    return array;
+}
+
+/* Returns what a report says, an array: how many findings are invalid, how many are
+** suspicious, and the array of findings. */
+static napi_value read_report(napi_env env, sm_report *report) {
+    napi_value array, findings;
+    sm_report_counts counts = {0};
+    sm_report_count(report, &counts);
+    TRY(napi_create_array(env, &array));
+    TRY(set_number(env, array, 0, (double)counts.invalid));
+    TRY(set_number(env, array, 1, (double)counts.suspicious));
+    TRY(napi_create_array(env, &findings));
+    for (uint32_t index = 0; index < counts.findings; index++) {
+        napi_handle_scope scope;
+        TRY(napi_open_handle_scope(env, &scope));
+        napi_value finding = finding_of(env, report, index);
+        if (!finding) {
+            return NULL;
+        }
+        TRY(napi_set_element(env, findings, index, finding));
+        TRY(napi_close_handle_scope(env, scope));
+    }
+    TRY(napi_set_element(env, array, 2, findings));
+    return array;
+}
+
+/* check(bytes, generated, most): what is found in the bytes of a map, as read_report()
+** returns it. `generated` is the bytes of the generated text, or null. */
+static napi_value check_bytes(napi_env env, napi_callback_info info) {
+    size_t count = 3;
+    napi_value arguments[3];
+    napi_valuetype type;
+    byte_array bytes, generated = {(const uint8_t *)"", 0};
+    uint32_t most = 0;
+    sm_report report = SM_EMPTY;
+    sm_error error = {0};
+    TRY(napi_get_cb_info(env, info, &count, arguments, NULL, NULL));
+    TRY(take_bytes(env, arguments[0], &bytes));
+    TRY(napi_typeof(env, arguments[1], &type));
+    if (type != napi_null) {
+        TRY(take_bytes(env, arguments[1], &generated));
+    }
+    TRY(napi_get_value_uint32(env, arguments[2], &most));
+    sm_code code = sm_check(&report, bytes.at, bytes.length, type != napi_null, generated.at, generated.length, most,
+                            &error);
+    if (code != SM_OK) {
+        return throw_error(env, &error);
+    }
+    napi_value found = read_report(env, &report);
+    sm_close(&report);
+    return found;
+}
+
+/*
 ** THE MODULE
 */
 
@@ -872,6 +984,7 @@ NAPI_MODULE_INIT() {
         {"compiledLookup", compiled_lookup},
         {"compiledLookupMany", compiled_lookup_many},
         {"compiledScope", compiled_scope},
+        {"check", check_bytes},
     };
     if (sm_interface() != SM_INTERFACE) {
         napi_throw_error(env, NULL, "the linked library has another version of the interface");

@@ -63,6 +63,13 @@ describe('an index map', () => {
     ]);
   });
 
+  test('keeps the contents of its sources', () => {
+    const first = regular('a.js', { sources: ['a.js', 'b.js', 'c.js'], sourcesContent: ['', null, 'text "of" c\n'], mappings: 'AAAA,CCAA,CCAA' });
+    const flat = AnyMap(index(section(0, 0, first), section(5, 0, index(section(0, 0, regular('d.js', { sourcesContent: ['1'] }))))));
+    assert.deepEqual(flat.sources, ['a.js', 'b.js', 'c.js', 'd.js']);
+    assert.deepEqual(flat.sourcesContent, ['', null, 'text "of" c\n', '1']);
+  });
+
   test('may have sections of every form', () => {
     const decoded = { ...regular('a.js'), mappings: [[[0, 0, 0, 0, 0]]] };
     const nested = index(section(0, 0, JSON.stringify(regular('c.js'))), section(1, 0, decoded));

@@ -66,8 +66,8 @@ test('has the calls of the package that it replaces', async (t) => {
 
 const TYPES = `
 import { TraceMap, AnyMap, FlattenMap, SourceMapError, LEAST_UPPER_BOUND } from 'furzehearth-sourcemap';
-import { CompiledMap, compile, originalPositionFor, originalPositionsFor, encodedMap, decodedMap, allGeneratedPositionsFor } from 'furzehearth-sourcemap';
-import type { Mapping, SourceMap, SectionedSourceMapXInput, EncodedSourceMapXInput, DecodedSourceMapXInput } from 'furzehearth-sourcemap';
+import { CompiledMap, check, compile, originalPositionFor, originalPositionsFor, encodedMap, decodedMap, allGeneratedPositionsFor } from 'furzehearth-sourcemap';
+import type { Finding, Report, Mapping, SourceMap, SectionedSourceMapXInput, EncodedSourceMapXInput, DecodedSourceMapXInput } from 'furzehearth-sourcemap';
 const map = new TraceMap({ version: 3, sources: ['a'], names: [], mappings: 'AAAA' } as const, null);
 const found = originalPositionFor(map, { line: 1, column: 0, bias: LEAST_UPPER_BOUND });
 if (found.line !== null) { const line: number = found.line; const source: string | null = found.source; }
@@ -88,6 +88,13 @@ const texts: (string | null)[] = [compiled.file, compiled.debugId, compiled.sour
 const answers: Uint32Array = compiled.originalPositionsFor(new Uint32Array(2));
 const position = compiled.originalPositionFor({ line: 1, column: 0 });
 if (position.line !== null) { const line: number = position.line + texts.length + answers.length; }
+const report: Report = check(encodedMap(map), { generated: new Uint8Array(0), most: 3 });
+const finding: Finding | undefined = check(new Uint8Array(0)).findings[0] ?? report.findings[0];
+if (finding && finding.severity === 'invalid' && finding.position && 'index' in finding.position) { const index: number = finding.position.index; }
+// @ts-expect-error: a report has findings
+check('').length;
+// @ts-expect-error: a number is no map
+check(3);
 // @ts-expect-error: a compiled map finds no token after the position
 compiled.originalPositionFor({ line: 1, column: 0, bias: LEAST_UPPER_BOUND });
 try { new TraceMap('') } catch (error) { if (error instanceof SourceMapError && error.code === 'BAD_JSON') { error.number } }

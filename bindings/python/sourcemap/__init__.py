@@ -19,6 +19,7 @@ A `str` with one half of a surrogate pair has no UTF-8. A call that passes such 
 from . import batch, dask, errors
 from ._builder import Builder, NewToken
 from ._bundle import Bundle, Module, Split
+from ._checks import Finding, Report, SegmentPosition, Shift, TokenPosition, check
 from ._compiled import CompiledMap
 from ._library import NONE
 from ._map import Map, Section
@@ -28,7 +29,8 @@ from .errors import SourceMapError
 from .release import Match, Release
 
 __all__ = [
-    'NONE', 'Answers', 'Builder', 'Bundle', 'CompiledMap', 'Map', 'Match', 'Module', 'NewToken', 'Reference', 'Release',
-    'Section', 'SourceMapError', 'Split', 'Token', 'View', 'batch', 'dask', 'errors', 'is_source_map',
-    'locate_reference', 'relative_path', 'resolve', 'resolve_path',
+    'NONE', 'Answers', 'Builder', 'Bundle', 'CompiledMap', 'Finding', 'Map', 'Match', 'Module', 'NewToken', 'Reference',
+    'Release', 'Report', 'Section', 'SegmentPosition', 'Shift', 'SourceMapError', 'Split', 'Token', 'TokenPosition',
+    'View', 'batch', 'check', 'dask', 'errors', 'is_source_map', 'locate_reference', 'relative_path', 'resolve',
+    'resolve_path',
 ]

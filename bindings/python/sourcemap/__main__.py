@@ -1,12 +1,14 @@
-"""The package as a program: `python -m sourcemap lookup|tokens|stack|page|batch`."""
+"""The package as a program: `python -m sourcemap lookup|tokens|check|stack|page|batch`."""
 from __future__ import annotations
 
 import argparse
 import os
 import sys
+from pathlib import Path
 from typing import List, Optional
 
 from . import Map, SourceMapError, batch, page, stack
+from . import check as check_bytes
 from ._generated import reason_of
 
 
@@ -30,6 +32,18 @@ def tokens(arguments: argparse.Namespace) -> int:
     return 0
 
 
+def check(arguments: argparse.Namespace) -> int:
+    """Prints a line for each finding, as compilers print them, and a line with counts. The status is 1 if the map is not
+    valid, or with `--strict` if anything was found."""
+    data = sys.stdin.buffer.read() if arguments.map == '-' else Path(arguments.map).read_bytes()
+    generated = None if arguments.generated is None else Path(arguments.generated).read_bytes()
+    report = check_bytes(data, generated, most=arguments.most)
+    for finding in report.findings:
+        print(f'{arguments.map}:{finding}')
+    print(f'{report.invalid} invalid, {report.suspicious} suspicious, {len(report.findings)} shown')
+    return int(not report.is_valid or (arguments.strict and report.suspicious > 0))
+
+
 def parser() -> argparse.ArgumentParser:
     """The parser of the commands and their arguments."""
     program = argparse.ArgumentParser(prog='python -m sourcemap', description='Ask a JavaScript source map.')
@@ -44,6 +58,13 @@ def parser() -> argparse.ArgumentParser:
     word = words.add_parser('tokens', help='print a line for each token')
     word.add_argument('map', help='the map; - is standard input')
     word.set_defaults(run=tokens)
+
+    word = words.add_parser('check', help='print where a map breaks the standard, and what looks wrong in it')
+    word.add_argument('map', help='the map; - is standard input')
+    word.add_argument('--generated', metavar='FILE', help='the generated text, which is compared with the map')
+    word.add_argument('--most', type=int, default=20, metavar='N', help='how many findings of each code to print (20)')
+    word.add_argument('--strict', action='store_true', help='end with status 1 also if something looks wrong')
+    word.set_defaults(run=check)
 
     word = words.add_parser('stack', help='print a JavaScript stack trace with its original positions')
     stack.add_arguments(word)

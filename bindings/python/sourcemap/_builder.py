@@ -19,6 +19,10 @@ class NewToken(NamedTuple):
     """A token for `Builder.add_tokens`, with its source and its name by id.
 
     For a token without a source leave out `line`, `column` and `name_id`: they are not written.
+
+    >>> import sourcemap
+    >>> sourcemap.NewToken(0, 5).source_id, sourcemap.NewToken(0, 5, 1, 2, source_id=0).line
+    (None, 1)
     """
 
     generated_line: int
@@ -54,11 +58,23 @@ class Builder(HandleOwner):
             self._run(library.builder_set_debug_id, True, byref(debug_id_of(debug_id)))
 
     def add_source(self, text: str) -> int:
-        """The id of a source, which is added if it is new."""
+        """The id of a source, which is added if it is new.
+
+        >>> import sourcemap
+        >>> builder = sourcemap.Builder()
+        >>> [builder.add_source(text) for text in ('a.js', 'b.js', 'a.js')]
+        [0, 1, 0]
+        """
         return self._id(library.builder_add_source, text)
 
     def add_name(self, text: str) -> int:
-        """The id of a name, which is added if it is new."""
+        """The id of a name, which is added if it is new.
+
+        >>> import sourcemap
+        >>> builder = sourcemap.Builder()
+        >>> [builder.add_name(text) for text in ('run', 'main', 'run')]
+        [0, 1, 0]
+        """
         return self._id(library.builder_add_name, text)
 
     def _id(self, call: library.Call, text: str) -> int:
@@ -67,7 +83,14 @@ class Builder(HandleOwner):
         return id.value
 
     def source(self, source_id: int) -> Optional[str]:
-        """The text of a source, not resolved against `source_root`; None if there is no such source."""
+        """The text of a source, not resolved against `source_root`; None if there is no such source.
+
+        >>> import sourcemap
+        >>> builder = sourcemap.Builder(source_root='/src')
+        >>> id = builder.add_source('a.js')
+        >>> builder.source(id), builder.source(7)
+        ('a.js', None)
+        """
         return self._text(library.builder_source, uint32('source_id', source_id))
 
     def set_source(self, source_id: int, text: str) -> None:
@@ -101,11 +124,25 @@ class Builder(HandleOwner):
         self._run(library.builder_strip_prefixes, array_of(texts), len(texts))
 
     def set_contents(self, source_id: int, text: Optional[str]) -> None:
-        """Sets the contents of a source; None removes them. `Absent` if there is no such source."""
+        """Sets the contents of a source; None removes them. `Absent` if there is no such source.
+
+        >>> import sourcemap
+        >>> builder = sourcemap.Builder()
+        >>> builder.set_contents(builder.add_source('a.js'), 'main()')
+        >>> list(builder.finish().contents)
+        ['main()']
+        """
         self._run(library.builder_set_contents, uint32('source_id', source_id), *optional(text))
 
     def ignore_source(self, source_id: int) -> None:
-        """Puts a source on the ignore list. `Absent` if there is no such source."""
+        """Puts a source on the ignore list. `Absent` if there is no such source.
+
+        >>> import sourcemap
+        >>> builder = sourcemap.Builder()
+        >>> builder.ignore_source(builder.add_source('vendor.js'))
+        >>> builder.finish().ignore_list
+        (0,)
+        """
         self._run(library.builder_ignore_source, uint32('source_id', source_id))
 
     def add(self, generated_line: int, generated_column: int, *, source: Optional[str] = None,
@@ -152,7 +189,13 @@ class Builder(HandleOwner):
                 raise errors.of_error(error)
 
     def finish(self) -> Map:
-        """The map that was built. This closes the builder."""
+        """The map that was built. This closes the builder.
+
+        >>> import sourcemap
+        >>> builder = sourcemap.Builder('out.js')
+        >>> builder.finish().file, builder.closed
+        ('out.js', True)
+        """
         made = Map._empty()
         self._run(library.builder_finish, made._at)
         return made._refresh()

@@ -34,7 +34,14 @@ class Bundle(HandleOwner, Sequence[Optional[bytes]]):
 
     @classmethod
     def load(cls: Type[AnyBundle], path: Union[str, 'os.PathLike[str]']) -> AnyBundle:
-        """Reads a bundle from a file."""
+        """Reads a bundle from a file.
+
+        >>> import pathlib, sourcemap
+        >>> path = pathlib.Path('main.jsbundle')
+        >>> _ = path.write_bytes(bytes.fromhex('e5d10bfb 00000000 02000000 6162'))
+        >>> sourcemap.Bundle.load(path).startup
+        b'ab'
+        """
         with open(path, 'rb') as file:
             return cls(file.read())
 
@@ -117,7 +124,14 @@ class Module(NamedTuple):
 class Split(HandleOwner, Sequence[Optional[Module]]):
     """The modules of a bundle with their maps, as a sequence, which `Bundle.split` makes. An item is one module by its
     number. It is None if the module is missing, or if the index map has null instead of its line. If the module is
-    invalid, reading its item raises `InvalidRamBundleEntry`."""
+    invalid, reading its item raises `InvalidRamBundleEntry`.
+
+    >>> import sourcemap
+    >>> bundle = sourcemap.Bundle(bytes.fromhex('e5d10bfb ffffffff 00000000'))
+    >>> modules = bundle.split(sourcemap.Map.loads('{"version":3,"x_facebook_offsets":[],"sections":[]}'))
+    >>> len(modules)
+    4294967295
+    """
 
     _bundle: Bundle
 

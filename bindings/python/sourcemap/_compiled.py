@@ -206,12 +206,26 @@ class CompiledMap:
 
     @property
     def file(self) -> Optional[str]:
-        """The name of the generated file; None if the map names none."""
+        """The name of the generated file; None if the map names none.
+
+        >>> import sourcemap
+        >>> map = sourcemap.Map.load('bundle.js.map')
+        >>> map.file = 'bundle.js'
+        >>> sourcemap.CompiledMap.from_bytes(map.compile()).file
+        'bundle.js'
+        """
         return self._get().text(library.compiled_file)
 
     @property
     def debug_id(self) -> Optional[uuid.UUID]:
-        """The debug id; None if there is none."""
+        """The debug id; None if there is none.
+
+        >>> import sourcemap, uuid
+        >>> map = sourcemap.Map.load('bundle.js.map')
+        >>> map.debug_id = uuid.UUID(int=42)
+        >>> sourcemap.CompiledMap.from_bytes(map.compile()).debug_id == map.debug_id
+        True
+        """
         id = library.DebugId()
         is_there = self._get().check(library.compiled_debug_id, byref(id))
         return uuid.UUID(bytes=bytes(id.bytes)) if is_there else None
@@ -230,13 +244,26 @@ class CompiledMap:
 
     @property
     def names(self) -> Sequence[Optional[str]]:
-        """The names by id. Each is read when it is used. None stands for a name that a damaged file does not have."""
+        """The names by id. Each is read when it is used. None stands for a name that a damaged file does not have.
+
+        >>> import sourcemap
+        >>> map = sourcemap.Map.load('bundle.js.map')
+        >>> list(sourcemap.CompiledMap.from_bytes(map.compile()).names)
+        ['x', 'alert']
+        """
         return self._texts('names', library.compiled_name)
 
     @property
     def contents(self) -> Sequence[Optional[str]]:
         """The contents of each source, by its id; None if the map was compiled without them. Each is read when it is
-        used."""
+        used.
+
+        >>> import sourcemap
+        >>> map = sourcemap.Map.load('bundle.js.map')
+        >>> map.set_contents(0, 'alert(1)')
+        >>> list(sourcemap.CompiledMap.from_bytes(map.compile()).contents)
+        ['alert(1)']
+        """
         return self._texts('sources', library.compiled_contents)
 
     # Lookups

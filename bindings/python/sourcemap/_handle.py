@@ -44,7 +44,7 @@ def pointer_to(data: Data) -> Tuple[Any, int]:
     return data, len(data)
 
 
-def optional(text: Optional[str]) -> Tuple[bool, Any, int]:
+def optional(text: Optional[Data]) -> Tuple[bool, Any, int]:
     """A text that may be missing: whether it is present, its bytes, and how many there are."""
     return (text is not None, *pointer_to('' if text is None else text))
 

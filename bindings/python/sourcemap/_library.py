@@ -8,7 +8,7 @@ from __future__ import annotations
 import ctypes
 import ctypes.util
 import os
-from ctypes import c_bool, c_size_t, c_uint32, c_uint64, c_uint8, c_void_p
+from ctypes import c_bool, c_int32, c_size_t, c_uint32, c_uint64, c_uint8, c_void_p
 from pathlib import Path
 from typing import Any, Callable, cast
 
@@ -23,6 +23,8 @@ NONE = 0xFFFFFFFF
 
 OK, OUT_OF_MEMORY, ABSENT, WRONG_KIND, PAST_LIMIT = 0, 20, 32, 33, 34
 KIND_EMPTY, KIND_REGULAR, KIND_INDEX, KIND_HERMES = 0, 1, 2, 3
+INVALID, SUSPICIOUS = 0, 1
+PLACE_KEY, PLACE_SEGMENT, PLACE_TOKEN, PLACE_SHIFT = 0, 1, 2, 3
 
 
 class Handle(ctypes.Structure):
@@ -58,6 +60,15 @@ class DebugId(ctypes.Structure):
 
 class SectionStart(ctypes.Structure):
     _fields_ = [('line', c_uint32), ('column', c_uint32), ('has_map', c_bool), ('has_url', c_bool)]
+
+
+class Finding(ctypes.Structure):
+    _fields_ = [('code', c_uint32), ('severity', c_uint32), ('place', c_uint32), ('lines', c_int32),
+                ('columns', c_int32), ('line', c_size_t), ('index', c_size_t)]
+
+
+class ReportCounts(ctypes.Structure):
+    _fields_ = [('invalid', c_uint64), ('suspicious', c_uint64), ('findings', c_size_t)]
 
 
 def _library_path() -> str:
@@ -211,3 +222,10 @@ bundle_startup = _call(_short, 'sm_bundle_startup', CODE, P, P, P)
 bundle_module = _call(_short, 'sm_bundle_module', CODE, P, c_size_t, P, P)
 split_open = _call(_long, 'sm_split_open', CODE, P, P, P)
 split_map = _call(_long, 'sm_split_map', CODE, P, P, c_size_t, P, P)
+
+check = _call(_long, 'sm_check', CODE, P, P, c_size_t, c_bool, P, c_size_t, c_uint32, P)
+report_count = _call(_short, 'sm_report_count', CODE, P, P)
+report_finding = _call(_short, 'sm_report_finding', CODE, P, c_uint32, P)
+report_sections = _call(_short, 'sm_report_sections', CODE, P, c_uint32, P, c_size_t, P)
+report_key = _call(_short, 'sm_report_key', CODE, P, c_uint32, P)
+report_sentence = _call(_short, 'sm_report_sentence', CODE, P, c_uint32, P)

@@ -102,7 +102,12 @@ class Map(HandleOwner):
 
     @classmethod
     def load(cls: Type[AnyMap], path: Union[str, 'os.PathLike[str]']) -> AnyMap:
-        """Reads a map of any kind from a file. Raises `OSError` if the file can't be read, or an error of `loads`."""
+        """Reads a map of any kind from a file. Raises `OSError` if the file can't be read, or an error of `loads`.
+
+        >>> import sourcemap
+        >>> sourcemap.Map.load('bundle.js.map').kind
+        'regular'
+        """
         with open(path, 'rb') as file:
             return cls(file.read())
 
@@ -684,7 +689,14 @@ class Map(HandleOwner):
 
     def ignore_source(self, id: int) -> None:
         """Puts the source of this id on the ignore list. `Absent` if there is no such source; `WrongKind` of an index
-        map."""
+        map.
+
+        >>> import sourcemap
+        >>> map = sourcemap.Map.load('bundle.js.map')
+        >>> map.ignore_source(0)
+        >>> map.ignore_list
+        (0,)
+        """
         self._change(library.ignore_source, uint32('id', id))
 
     def remove_names(self) -> None:
@@ -719,7 +731,14 @@ class Map(HandleOwner):
         return self._write(library.write)
 
     def dump(self, path: Union[str, 'os.PathLike[str]']) -> None:
-        """Writes the map as JSON to a file."""
+        """Writes the map as JSON to a file.
+
+        >>> import sourcemap
+        >>> map = sourcemap.Map.load('bundle.js.map')
+        >>> map.dump('copy.js.map')
+        >>> map.equals(sourcemap.Map.load('copy.js.map'))
+        True
+        """
         text = self.dumps()
         with open(path, 'wb') as file:
             file.write(text)

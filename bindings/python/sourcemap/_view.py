@@ -28,7 +28,12 @@ class View(HandleOwner, Sequence[str]):
 
     @property
     def text(self) -> str:
-        """The whole text."""
+        """The whole text.
+
+        >>> import sourcemap
+        >>> sourcemap.View('a()').text
+        'a()'
+        """
         return self._text(library.view_text) or ''
 
     def __len__(self) -> int:
@@ -71,7 +76,12 @@ class View(HandleOwner, Sequence[str]):
 
 class Reference(NamedTuple):
     """The reference in a generated text to its map: the URL as written there, and whether its comment begins with
-    `//@`."""
+    `//@`.
+
+    >>> import sourcemap
+    >>> sourcemap.locate_reference('//@ sourceMappingURL=a.map')
+    Reference(url='a.map', is_legacy=True)
+    """
 
     url: str
     is_legacy: bool

@@ -30,6 +30,13 @@ class SourceMapError(Exception):
 
     `code` is its number in `sourcemap.h`, and `str(error)` is its text. Some errors have a `number`, such as the id of
     a source that does not exist: their classes say what it is. It is None for the others.
+
+    >>> import sourcemap
+    >>> try:
+    ...     sourcemap.Map.loads('{"sources":[],"mappings":"ACAA"}')
+    ... except sourcemap.SourceMapError as error:
+    ...     print(type(error).__name__, error.number)
+    BadSourceReference 1
     """
 
     code: ClassVar[int] = 0

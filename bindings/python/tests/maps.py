@@ -2,7 +2,11 @@
 import json
 from pathlib import Path
 
+from sourcemap import page
+
 EXAMPLES = Path(__file__).resolve().parents[3] / 'examples'
+# the file that pages are made from, or None where it is not built
+VIEWER = next((folder / page.VIEWER for folder in page.FOLDERS if (folder / page.VIEWER).is_file()), None)
 README = ('{"version":3,"sources":["coolstuff.js"],"names":["x","alert"],'
           '"mappings":"AAAA,GAAIA,GAAI,EACR,IAAIA,GAAK,EAAG,CACVC,MAAM"}')
 

@@ -5,8 +5,9 @@ from pathlib import Path
 
 from .header import HEADER, declared_functions
 
-HANDLES = {'sm_handle', 'sm_map', 'sm_builder', 'sm_sections', 'sm_view', 'sm_bundle', 'sm_split', 'sm_bytes'}
-BEGIN_AS_ZEROS = {'sm_error', 'sm_counts', 'sm_debug_id', 'sm_section_start'}
+HANDLES = {'sm_handle', 'sm_map', 'sm_builder', 'sm_sections', 'sm_view', 'sm_bundle', 'sm_split', 'sm_bytes',
+           'sm_report'}
+BEGIN_AS_ZEROS = {'sm_error', 'sm_counts', 'sm_debug_id', 'sm_section_start', 'sm_finding', 'sm_report_counts'}
 
 
 def build(folder):

@@ -30,7 +30,8 @@ import uuid
 from typing import Iterator, List, Optional, Tuple
 
 import sourcemap
-from sourcemap import Answers, Builder, Bundle, CompiledMap, Map, Module, Reference, Section, SourceMapError, Token, View, errors
+from sourcemap import Answers, Builder, Bundle, CompiledMap, Finding, Map, Module, Reference, Report, Section
+from sourcemap import SegmentPosition, SourceMapError, Token, View, errors
 
 def frames(path: str) -> Iterator[Tuple[Optional[str], Optional[int]]]:
     with Map.load(path) as map:
@@ -64,6 +65,11 @@ def modules(bundle: Bundle, index: Map) -> List[str]:
     found: List[Optional[Module]] = list(bundle.split(index))
     return [module.name + module.text for module in found if module is not None]
 
+def findings(data: bytes, text: str) -> List[int]:
+    report: Report = sourcemap.check(data, text, most=3)
+    found: Tuple[Finding, ...] = report.findings
+    return [each.position.line for each in found if isinstance(each.position, SegmentPosition)]
+
 view: View = View('a')
 reference: Optional[Reference] = sourcemap.locate_reference(b'')
 try:
@@ -84,6 +90,8 @@ map.scope_for(0, 1)
 sourcemap.Bundle(b'').split('x')
 sourcemap.CompiledMap(b'').lookup('0', 5)
 sourcemap.CompiledMap.from_bytes('text')
+sourcemap.check(1)
+sourcemap.check(b'', b'', 3)
 '''
 
 

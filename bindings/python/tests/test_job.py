@@ -4,6 +4,7 @@ from __future__ import annotations
 
 import contextlib
 import csv
+import errno
 import glob
 import gzip
 import io
@@ -32,7 +33,7 @@ except ImportError:
 
 from sourcemap import batch
 from sourcemap.__main__ import main
-from sourcemap._tables import pieces
+from sourcemap._tables import csv_rows, pieces
 from sourcemap._tables.pieces import Table
 
 from . import builds
@@ -135,6 +136,15 @@ class SameAnswers(Jobs):
         self.assertEqual(self.output_of(zipped, '--partition', 20_000, out='out.csv.gz'), first)
         printed = subprocess.run(self.words(frames, '--workers', 1), cwd=FOLDER, env=ENVIRONMENT, capture_output=True)
         self.assertEqual(printed.stdout, wanted)
+        # a file that can only be appended to
+        path = builds.put(self.top, 'all.csv', b'old\n')
+        with open(path, 'ab') as file:
+            subprocess.run(self.words(frames, '--partition', 20_000, '--workers', 1), cwd=FOLDER, env=ENVIRONMENT,
+                           stdout=file, stderr=subprocess.DEVNULL, check=True)
+        self.assertEqual(path.read_bytes(), b'old\n' + wanted)
+        with mock.patch('os.sendfile', side_effect=OSError(errno.ENOTSOCK, 'as other systems say')) as sent:
+            self.assertEqual(self.output_of(frames, '--partition', 20_000), wanted)
+            self.assertGreater(sent.call_count, 3)
 
     def test_json_lines(self) -> None:
         rows, answers = self.build(3000)
@@ -251,6 +261,17 @@ def last_row_end(text: bytes) -> int:
     return end
 
 
+class Fields(unittest.TestCase):
+    def test_many_at_once(self) -> None:
+        """As each text by itself, whichever of them need quotes or have zero bytes."""
+        drawn = random.Random(13)
+        for letters in [b'abc', b'ab",\r\n', b'a",\0'] * 1000:
+            texts = [bytes(drawn.choices(letters, k=drawn.randrange(4))) for _ in range(drawn.randrange(6))]
+            for in_quotes in False, True:
+                self.assertEqual(csv_rows._fields(texts, b',', in_quotes),
+                                 [pieces.quoted(text, in_quotes) + b',' for text in texts])
+
+
 class Pieces(Folder):
     def cut(self, text: str, size: int, name: str = 'f.csv') -> List[bytes]:
         with Table(self.put(name, text), size, self.top) as table:
@@ -351,8 +372,7 @@ class Errors(Jobs):
 
         self.check(frames, 'File too large', '--workers', 1, preexec_fn=limit)
         self.check(frames, 'File too large', '--workers', 1, '--partition', 10_000, preexec_fn=limit)
-        if find_spec('distributed'):
-            self.check(frames, 'File too large', '--workers', 2, '--partition', 200_000, preexec_fn=limit)
+        self.check(frames, 'File too large', '--workers', 2, '--partition', 200_000, preexec_fn=limit)
 
     def test_full_device(self) -> None:
         self.put('app.js.map', README)
@@ -372,9 +392,8 @@ class Errors(Jobs):
         frames = self.table('f.csv', [HEAD, *builds.rows(built, 20_000)])
         self.check(frames, 'No space left on device', '--partition', 50_000, out='disk/out.csv')
         self.assertEqual(os.listdir(disk), ['out.csv'])
-        if find_spec('distributed'):
-            self.check(frames, 'No space left on device', '--workers', 2, '--partition', 50_000, out='disk/out.csv')
-            self.assertEqual(os.listdir(disk), ['out.csv'])
+        self.check(frames, 'No space left on device', '--workers', 2, '--partition', 50_000, out='disk/out.csv')
+        self.assertEqual(os.listdir(disk), ['out.csv'])
         # the cache: nothing is left that another run would find
         small = self.top / 'small'
         small.mkdir()
@@ -430,8 +449,7 @@ class BadMaps(Jobs):
         self.assertIn('sourcemap: /both.js: it is ambiguous, since these fit equally well: client/both.js.map, '
                       'server/both.js.map', lines)
         self.check_counts(lines[-1], answers)
-        if find_spec('distributed'):
-            self.assertEqual(self.output_of(frames, '--workers', 3, '--partition', 4000), answered(rows, answers))
+        self.assertEqual(self.output_of(frames, '--workers', 3, '--partition', 4000), answered(rows, answers))
 
     def check_counts(self, line: str, answers: Sequence[Sequence[Optional[str]]]) -> None:
         found = COUNTS.fullmatch(line)
@@ -452,13 +470,29 @@ class DamagedCache(Jobs):
             lambda data: data[:-1], lambda data: data[:len(data) // 2], lambda data: b'', lambda data: data[::-1],
             lambda data: data[:len(data) // 2] + data[len(data) // 2 + 1:] + b'\0',
             lambda data: data[:-9] + bytes([data[-9] ^ 1]) + data[-8:]]
-        for workers in [1, 3] if find_spec('distributed') else [1]:
+        for workers in 1, 3:
             for path, damage in zip(made, damages):
                 path.write_bytes(damage(made[path]))
             list(made)[-1].unlink()
             self.assertEqual(self.output_of(frames, '--workers', workers, '--partition', 20_000), wanted)
             found = {path: path.read_bytes() for path in sorted((self.top / 'cache').glob('*/*.compiled'))}
             self.assertEqual(found, made)
+
+
+class WithoutDask(Jobs):
+    def test_only_a_cluster_needs_it(self) -> None:
+        code = ('import sys; sys.modules.update(dict.fromkeys(["dask", "distributed"])); from sourcemap.__main__ import main; '
+                'sys.exit(main(sys.argv[1:]))')
+        self.put('app.js.map', README)
+        frames = self.table('f.csv', [['file', 'line', 'column'], *[['app.js', '1', '6']] * 100])
+        wanted = self.output_of(frames)
+        out = builds.put(self.top, 'out.csv', b'old')
+        for more, status in [('--workers', '2'), 0], [('--dask', 'tcp://127.0.0.1:1'), 1]:
+            words = [sys.executable, '-c', code, *self.words(frames, '-o', out, '--partition', 300, *more)[3:]]
+            run = subprocess.run(words, cwd=FOLDER, env=ENVIRONMENT, capture_output=True, text=True)
+            self.assertEqual((run.returncode, out.read_bytes()), (status, wanted), run.stderr)
+            self.assertEqual(self.leftovers(), [])
+        self.assertRegex(run.stderr, 'sourcemap: distributed is needed and cannot be imported .*python3-distributed')
 
 
 class Bar(Jobs):
@@ -513,7 +547,6 @@ def workers_of(pid: int) -> List[int]:
     return [each for each, fields in found if fields and is_forked(each) and is_forked(int(fields[1]))]
 
 
-@needs_distributed
 @unittest.skipUnless(sys.platform == 'linux', 'processes are found in /proc')
 class Processes(Jobs):
     """Workers that are killed, and a program that is interrupted."""
@@ -604,6 +637,7 @@ class Processes(Jobs):
             self.check_ended(workers)
         self.assertEqual(old.read_bytes(), b'old')
 
+    @needs_distributed
     def test_cluster_at_an_address(self) -> None:
         """The program is interrupted: its workers go on. They are killed while they are asked again. The cluster waits for
         them longer than 15 seconds, after which it would give them up."""

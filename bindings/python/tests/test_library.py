@@ -20,7 +20,8 @@ TYPES = {'bool': ctypes.c_bool, 'size_t': ctypes.c_size_t, 'uint32_t': ctypes.c_
          'void': None}
 STRUCTS = {'sm_handle': _library.Handle, 'sm_text': _library.Text, 'sm_error': _library.Error,
            'sm_token': _library.Token, 'sm_found': _library.Found, 'sm_counts': _library.Counts,
-           'sm_debug_id': _library.DebugId, 'sm_section_start': _library.SectionStart}
+           'sm_debug_id': _library.DebugId, 'sm_section_start': _library.SectionStart, 'sm_finding': _library.Finding,
+           'sm_report_counts': _library.ReportCounts}
 
 
 def header_functions():
@@ -69,7 +70,8 @@ class Declared(unittest.TestCase):
     def test_codes_and_kinds(self):
         text = HEADER.read_text()
         for name in 'OK', 'OUT_OF_MEMORY', 'ABSENT', 'WRONG_KIND', 'KIND_EMPTY', 'KIND_REGULAR', 'KIND_INDEX', \
-                'KIND_HERMES', 'INTERFACE':
+                'KIND_HERMES', 'INTERFACE', 'INVALID', 'SUSPICIOUS', 'PLACE_KEY', 'PLACE_SEGMENT', 'PLACE_TOKEN', \
+                'PLACE_SHIFT':
             value, = re.findall(rf'#define SM_{name} (\d+)u', text)
             self.assertEqual(getattr(_library, name), int(value))
 

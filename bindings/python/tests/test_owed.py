@@ -13,7 +13,7 @@ from sourcemap import _library
 from . import owed
 from .test_library import FOLDER
 
-TESTS = ['map', 'lookups', 'compiled', 'index', 'objects', 'texts', 'rows', 'errors']
+TESTS = ['map', 'lookups', 'compiled', 'checks', 'index', 'objects', 'texts', 'rows', 'errors']
 BEGIN = '''
 import ctypes, sourcemap, threading
 from sourcemap import _library as library

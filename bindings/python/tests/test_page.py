@@ -18,10 +18,10 @@ from sourcemap import CompiledMap, Map, Token, page
 
 from . import builds, example
 from .browser import Browser, find_browser
+from .maps import VIEWER
 
 FOLDER = Path(__file__).resolve().parents[1]
 BROWSER = find_browser()
-VIEWER = next((folder / page.VIEWER for folder in page.FOLDERS if (folder / page.VIEWER).is_file()), None)
 
 # Two sources, one without contents, and texts that HTML, JSON or a reader might take for something else. Tokens, as
 # GENERATED -> SOURCE LINE:COLUMN: 0:0 -> 0 0:0, named; 0:12 -> 0 1:1, the emoji; 0:15 has no source; 1:0 -> 1 4:2;

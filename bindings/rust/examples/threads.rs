@@ -12,12 +12,12 @@ use std::fs;
 use std::hash::{Hash, Hasher};
 use std::sync::{Arc, Barrier};
 use std::thread::{self, JoinHandle};
-use std::time::{Duration, Instant};
+use std::time::Instant;
 
 use sourcemap::{decode_slice, DecodedMap, SourceMap, SourceMapIndex, SourceView, Token};
 
 /// How many lookups are timed for each thread.
-const LOOKUPS: u32 = 400_000;
+const LOOKUPS: usize = 400_000;
 
 fn read_token(token: Token<'_>, seen: &mut DefaultHasher) {
     token.to_tuple().hash(seen);
@@ -110,11 +110,11 @@ fn all_read(map: &DecodedMap, rounds: usize) -> u64 {
 fn in_threads<T: Send + 'static>(
     map: &Arc<DecodedMap>,
     threads: usize,
-    run: impl Fn(&DecodedMap) -> T + Copy + Send + 'static,
+    run: impl Fn(&DecodedMap) -> T + Clone + Send + 'static,
 ) -> Vec<T> {
     let start = Arc::new(Barrier::new(threads));
     let spawn = |_| {
-        let (map, start) = (Arc::clone(map), Arc::clone(&start));
+        let (map, start, run) = (Arc::clone(map), Arc::clone(&start), run.clone());
         thread::spawn(move || {
             start.wait();
             run(&map)
@@ -127,23 +127,35 @@ fn in_threads<T: Send + 'static>(
         .collect()
 }
 
-/// Looks up scattered positions of the first lines.
-fn look_up(map: &DecodedMap) -> Duration {
-    let start = Instant::now();
-    let found = (0..LOOKUPS)
-        .map(|at| at.wrapping_mul(2_654_435_761))
-        .filter(|at| {
-            let token = map.lookup_token(at >> 20, at & 0xffff);
+/// The positions of the tokens, in no order: a thread's last answer says nothing of the next.
+fn scattered_positions(map: &DecodedMap) -> Result<Arc<[(u32, u32)]>, sourcemap::Error> {
+    let of_regular = |map: &SourceMap| map.tokens().map(|token| token.get_dst()).collect();
+    let mut positions: Vec<_> = match map {
+        DecodedMap::Regular(map) => of_regular(map),
+        DecodedMap::Hermes(map) => of_regular(map),
+        DecodedMap::Index(map) => of_regular(&map.flatten()?),
+    };
+    positions.sort_by_key(|&(line, column)| (line ^ column).wrapping_mul(2_654_435_761));
+    Ok(positions.into())
+}
+
+fn look_up(map: &DecodedMap, positions: &[(u32, u32)]) {
+    let found = positions
+        .iter()
+        .cycle()
+        .take(LOOKUPS)
+        .filter(|&&(line, column)| {
+            let token = map.lookup_token(line, column);
             token.is_some_and(|token| token.get_src_line() != !0)
         });
     std::hint::black_box(found.count());
-    start.elapsed()
 }
 
-fn nanoseconds(map: &Arc<DecodedMap>, threads: usize) -> f64 {
+fn nanoseconds(map: &Arc<DecodedMap>, positions: &Arc<[(u32, u32)]>, threads: usize) -> f64 {
+    let positions = Arc::clone(positions);
     let start = Instant::now();
-    in_threads(map, threads, look_up);
-    start.elapsed().as_nanos() as f64 / f64::from(LOOKUPS) / threads as f64
+    in_threads(map, threads, move |map| look_up(map, &positions));
+    start.elapsed().as_nanos() as f64 / LOOKUPS as f64 / threads as f64
 }
 
 fn main() -> Result<(), Box<dyn Error>> {
@@ -162,7 +174,11 @@ fn main() -> Result<(), Box<dyn Error>> {
     }
     println!("{threads} threads read the same");
     if rounds > 1 {
-        let (one, all) = (nanoseconds(&map, 1), nanoseconds(&map, threads));
+        let positions = scattered_positions(&map)?;
+        let (one, all) = (
+            nanoseconds(&map, &positions, 1),
+            nanoseconds(&map, &positions, threads),
+        );
         println!(
             "ns a lookup: {one:.1} by one thread, {all:.1} by {threads}, ratio {:.2}",
             one / all

@@ -18,12 +18,13 @@
 //! Maps, builders, views and bundles are `Send` and `Sync`; so are tokens and iterators. A
 //! [`CompiledMap`] has no handle, so what follows does not concern it.
 //! An `Arc<DecodedMap>` serves a pool of threads. A call takes a handle of the library
-//! that no other call has. Where calls meet, the value gets a further handle: at most
-//! one for each call at a time, which copies nothing and stays until the value is changed
-//! or dropped. So calls do not wait for one another, but in three cases. What is read at
-//! first use, such as the sections of an index map, is read by one thread, and others that
-//! need it wait. While one thread makes a handle, another that needs a new one waits. If
-//! memory runs out, calls that meet may wait.
+//! that no other call has; a lookup that one of the thread's last answers still answers takes
+//! none. Where calls meet, the value gets a further handle: at most one for each call at a
+//! time, which copies nothing and stays until the value is changed or dropped. So calls do
+//! not wait for one another, but in three cases. What is read at first use, such as a section
+//! of an index map, is read by one thread, and others that need it wait. While one thread
+//! makes a handle, another that needs a new one waits. If memory runs out, calls that meet
+//! may wait.
 //!
 //! A clone of a map, a view or an indexed RAM bundle shares what it holds, and copies
 //! nothing. There are two exceptions: the [`SourceMap`] in a [`SourceMapHermes`], whose
@@ -42,6 +43,7 @@
 #![warn(missing_docs)]
 
 pub use crate::builder::SourceMapBuilder;
+pub use crate::check::{check, CheckOptions, Finding, FindingPosition, Report, Severity};
 pub use crate::compiled::{CompiledMap, CompiledMapError, CompiledToken, WithContents};
 pub use crate::debug_id::{DebugId, ParseDebugIdError};
 pub use crate::decoder::{decode, decode_data_url, decode_slice};
@@ -59,6 +61,7 @@ pub use crate::types::{
 pub use crate::utils::make_relative_path;
 
 mod builder;
+mod check;
 mod compiled;
 mod debug_id;
 mod decoder;

@@ -6,6 +6,7 @@ import { tmpdir } from 'node:os';
 import path from 'node:path';
 import { test } from 'node:test';
 import { fileURLToPath, pathToFileURL } from 'node:url';
+import { gzipSync } from 'node:zlib';
 import { CompiledMap, NONE, SourceMapError, parseSegment } from '../out/sourcemap.js';
 import { ALL, make } from './made.js';
 
@@ -171,7 +172,10 @@ test('a walk over a map out of order ends', async () => {
 test('opens all kinds of inputs', async (t) => {
   const folder = mkdtempSync(path.join(tmpdir(), 'web-'));
   const server = createServer((request, response) => {
-    response.writeHead(request.url === '/all' ? 200 : 404).end(request.url === '/all' ? ALL : 'no');
+    if (request.url === '/all') response.writeHead(200).end(ALL);
+    else if (request.url === '/gzip') response.writeHead(200, { 'content-encoding': 'gzip' }).end(gzipSync(ALL));
+    else if (request.url === '/broken') response.writeHead(200, { 'content-length': ALL.length }).write(ALL.subarray(0, 99), () => response.destroy());
+    else response.writeHead(404).end('no');
   });
   await new Promise((done) => { server.listen(0, '127.0.0.1', done); });
   t.after(() => { server.close(); rmSync(folder, { recursive: true }); });
@@ -182,16 +186,64 @@ test('opens all kinds of inputs', async (t) => {
   const shared = new SharedArrayBuffer(ALL.length);
   new Uint8Array(shared).set(ALL);
   const inputs = [ALL, ALL.buffer, Buffer.from(ALL), padded.subarray(5, 5 + ALL.length), new DataView(ALL.buffer), shared,
-    new Blob([ALL]), new Response(ALL), file, pathToFileURL(file), pathToFileURL(file).href, `${url}/all`,
-    new URL(`${url}/all`), new Request(`${url}/all`)];
+    new Blob([ALL]), new Blob([ALL]).stream(), new Response(ALL), file, pathToFileURL(file), pathToFileURL(file).href,
+    `${url}/all`, new URL(`${url}/all`), new Request(`${url}/all`), `${url}/gzip`];
   for (const input of inputs) {
     const map = await CompiledMap.load(input);
     assert.equal(map.file, 'out.js');
     map.close();
   }
   await refuses('IO', () => CompiledMap.load(`${url}/none`));
+  await refuses('IO', () => CompiledMap.load(`${url}/broken`));
   await refuses('IO', () => CompiledMap.load(path.join(folder, 'none')));
   for (const input of [undefined, null, 7, {}, [1]]) await assert.rejects(CompiledMap.load(input), TypeError);
+});
+
+/** A stream of bytes in pieces of this length. Between two of them, other streams go on. */
+function inPieces(bytes, length, error = null) {
+  let at = 0;
+  return new ReadableStream({
+    async pull(controller) {
+      await new Promise(setImmediate);
+      if (at < bytes.length) controller.enqueue(bytes.slice(at, at + length));
+      else if (error === null) controller.close();
+      else controller.error(error);
+      at += length;
+    },
+  });
+}
+
+test('streams that come at once are put together', async () => {
+  const sizes = [0, 10, 3000, 40000, 200000, 700000];
+  const open = async (size, input) => [size, await CompiledMap.load(input(named(`source ${size}`, size)))];
+  const response = (said) => (bytes) => new Response(inPieces(bytes, 5000), { headers: { 'content-length': said(bytes.length) } });
+  const inputs = [(bytes) => inPieces(bytes, 1 + (bytes.length >> 8)), response((length) => length), response((length) => length >> 1),
+    response((length) => 3 * length), response(() => 'much')];
+  const maps = await Promise.all(inputs.flatMap((input) => sizes.map((size) => open(size, input))));
+  for (const [size, map] of maps) {
+    map.verify();
+    assert.equal(map.originalPositionFor({ line: 1, column: 0 }).source, `source ${size}`);
+    assert.equal(map.sourceContent(0), 'x'.repeat(size));
+  }
+  for (const [, map] of maps) map.close();
+});
+
+test('a stream that fails is refused', async () => {
+  const long = named('a', 3000000);
+  const broken = new Response(inPieces(long, 100000, new Error('gone')));
+  await refuses('IO', () => CompiledMap.load(broken));
+  await assert.rejects(CompiledMap.load(inPieces(long, 100000, new RangeError('gone'))), RangeError);
+  await assert.rejects(CompiledMap.load(new ReadableStream({ start: (stream) => stream.enqueue('a text') })), TypeError);
+  await refuses('COMPILED_MAGIC', () => CompiledMap.load(inPieces(new Uint8Array(3000000), 100000)));
+  await refuses('COMPILED_TRUNCATED', () => CompiledMap.load(new ReadableStream({ start: (stream) => stream.close() })));
+  await refuses('COMPILED_TRUNCATED', () => CompiledMap.load(new Response(null)));
+  const read = new Response(named('a'));
+  await read.arrayBuffer();
+  await refuses('IO', () => CompiledMap.load(read));
+  let reason = null;
+  const wrong = { pull: (stream) => stream.enqueue('a text'), cancel: () => { reason = 'cancelled'; } };
+  await assert.rejects(CompiledMap.load(new ReadableStream(wrong)), TypeError);
+  assert.equal(reason, 'cancelled');
 });
 
 test('refuses what is no compiled map', async () => {
@@ -291,19 +343,33 @@ test('memory that was given back is used again', async () => {
     first.close();
     for (let i = 0; i < 50; i += 1) (await CompiledMap.load(bytes)).close();
     const again = size();
+    const pieces = () => Array.from({ length: Math.ceil(bytes.length / 60000) }, (_, i) => bytes.slice(60000 * i, 60000 * (i + 1)));
+    const stream = (error) => new ReadableStream({
+      start(stream) {
+        pieces().forEach((piece) => stream.enqueue(piece));
+        if (error) stream.enqueue('no bytes');
+        else stream.close();
+      },
+    });
+    for (let i = 0; i < 9; i += 1) await CompiledMap.load(stream(true)).catch(() => {});
+    const failed = size();
+    (await CompiledMap.load(stream(false))).close();
+    const streamed = size();
     const maps = [];
-    for (let i = 0; i < 4; i += 1) maps.push(await CompiledMap.load(bytes));
+    for (let i = 0; i < 4; i += 1) maps.push(await CompiledMap.load(i % 2 ? bytes : stream(false)));
     const four = size();
     [0, 2, 1, 3].forEach((i) => maps[i].close());
     (await CompiledMap.load(make({ sources: ['a'], contents: ['x'.repeat(11000000)] }))).close();
-    console.log(JSON.stringify({ length: bytes.length, instances: memories.length, one, again, four, joined: size() }));`;
+    console.log(JSON.stringify({ length: bytes.length, instances: memories.length, one, again, failed, streamed, four, joined: size() }));`;
   const output = execFileSync(process.execPath, [...process.execArgv.filter((word) => word.includes('memory64')),
     '--input-type=module', '-e', script], { encoding: 'utf8' });
-  const { length, instances, one, again, four, joined } = JSON.parse(output);
+  const { length, instances, one, again, failed, streamed, four, joined } = JSON.parse(output);
   assert.equal(instances, 1);
   // the file and at most 1 MB
   assert.ok(one <= length + 2 ** 20, `${one} for ${length}`);
   assert.equal(again, one);
+  assert.ok(failed <= length + 2 ** 20, `${failed} for ${length} in pieces`);
+  assert.equal(streamed, failed);
   assert.ok(four <= 4 * length + 2 ** 20, `${four} for four of ${length}`);
   assert.equal(joined, four);
 });

@@ -532,6 +532,7 @@ async function begin() {
   const page = new Page();
   const data = JSON.parse(byId('data').textContent);
   byId('data').remove();
+  page.taking += 1;
   try {
     CompiledMap.useModule(bytesOf(byId('module').textContent));
     if (data !== null) {
@@ -544,6 +545,7 @@ async function begin() {
   } catch (error) {
     page.say(error.message);
   }
+  page.taking -= 1;
   page.settle();
 }
 

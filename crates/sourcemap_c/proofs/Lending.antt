@@ -42,12 +42,14 @@ use Rattle.std.specs.Prelude.{Option, option_copied}
 use Rattle.sourcemap_index.specs.contracts.family.DecodedMap as family
 use Rattle.sourcemap_index_model.specs.MapTree.{MapTree}
 use Rattle.sourcemap_source_views.specs.contracts.sourceview.SourceView as sourceview
+use Rattle.sourcemap_c_handles.specs.contracts.report.CheckReport as report_type
+use Rattle.sourcemap_c_handles.specs.declared.report.CheckReport.{CheckReport}
 use Rattle.sourcemap_c_handles.specs.Handles.{EndsAsBefore, held_in}
 use Rattle.sourcemap_c_handles.specs.contracts.handle.Handle.{the_row as S}
 use Rattle.sourcemap_c_handles.specs.contracts.held.Held as held_type
 use Rattle.sourcemap_c_handles.specs.declared.handle.Handle.{Handle}
 use Rattle.sourcemap_c_handles.specs.declared.held.Held.{Held}
-use Rattle.sourcemap_c.specs.Kinds.{tree_in, tree_of, view_in}
+use Rattle.sourcemap_c.specs.Kinds.{report_in, tree_in, tree_of, view_in}
 
 -- A getter takes a handle and returns an optional reference to an `Item`. The contract of the getter says that `seen`
 -- of the result equals `held` of the handle.
@@ -58,12 +60,15 @@ pub record Getter : Type 2 where
   pub seen : Option (Bor Item.Denot) → Seen
   pub held : Handle → Seen
 
--- `map_in`, `view_in` and `Handle::get`
+-- `map_in`, `view_in`, `report_in` and `Handle::get`
 abbrev pub maps : Getter
 maps = record { Item = family.the_row; one = tt; Seen = Option MapTree; seen = tree_of; held = λ h. tree_in (held_in h) }
 
 abbrev pub views : Getter
 views = record { Item = sourceview.the_row; one = tt; Seen = Option (List ℕ); seen = option_copied; held = λ h. view_in (held_in h) }
+
+abbrev pub reports : Getter
+reports = record { Item = report_type.the_row; one = tt; Seen = Option CheckReport; seen = option_copied; held = λ h. report_in (held_in h) }
 
 abbrev pub handles : Getter
 handles = record { Item = held_type.the_row; one = tt; Seen = Option Held; seen = option_copied; held = held_in }

@@ -9,9 +9,10 @@ use Rattle.sourcemap_index.specs.Family.{map_tree}
 use Rattle.sourcemap_index.specs.declared.family.DecodedMap.{DecodedMap}
 use Rattle.sourcemap_builder.specs.Builder.{BuilderValue}
 use Rattle.sourcemap_bundles.specs.Modules.{BundleValue}
+use Rattle.sourcemap_c_handles.specs.declared.report.CheckReport.{CheckReport}
 use Rattle.sourcemap_c.specs.declared.kinds.Kind.{Kind}
 use Rattle.sourcemap_c_handles.specs.declared.held.Held.{Held}
-use Rattle.sourcemap_c_handles.specs.declared.held.Held.TheVariants.{Map, Builder, View, Bundle, Split, Bytes, Sections}
+use Rattle.sourcemap_c_handles.specs.declared.held.Held.TheVariants.{Map, Builder, View, Bundle, Split, Bytes, Sections, Report}
 
 -- the map in a handle, as a tree; `None` if the handle holds no map
 abbrev pub tree_in : Option Held → Option MapTree
@@ -33,6 +34,10 @@ view_in _ = None
 abbrev pub bytes_in : Option Held → Option (List ℕ)
 bytes_in (Some (Bytes bytes)) = Some bytes.items
 bytes_in _ = None
+
+abbrev pub report_in : Option Held → Option CheckReport
+report_in (Some (Report report)) = Some report
+report_in _ = None
 
 -- what several handles may share: a map, a text or a RAM bundle
 pub data Shareable : Type 0 where
@@ -73,6 +78,7 @@ kind_of (Some (Bundle _)) = Kind.Bundle
 kind_of (Some (Split _)) = Kind.Split
 kind_of (Some (Bytes _)) = Kind.Bytes
 kind_of (Some (Sections _)) = Kind.Sections
+kind_of (Some (Report _)) = Kind.Report
 
 -- the number of a kind in the C header: `SM_KIND_..`
 abbrev pub number_of : Kind → ℕ
@@ -86,3 +92,4 @@ number_of Kind.Bundle = 6
 number_of Kind.Split = 7
 number_of Kind.Bytes = 8
 number_of Kind.Sections = 9
+number_of Kind.Report = 10

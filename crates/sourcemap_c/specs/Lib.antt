@@ -21,3 +21,4 @@ pub mod Segments
 pub mod Equality
 pub mod Hermes
 pub mod TokenTexts
+pub mod Checks

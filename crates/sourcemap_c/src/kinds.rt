@@ -26,6 +26,7 @@ pub(crate) enum Kind {
     Split = 7,
     Bytes = 8,
     Sections = 9,
+    Report = 10,
 }
 
 impl Kind {
@@ -49,6 +50,7 @@ pub(crate) fn kind_of(held: Option<&Held>) -> Kind
         Some(Held::Split(_)) => Kind::Split,
         Some(Held::Bytes(_)) => Kind::Bytes,
         Some(Held::Sections(_)) => Kind::Sections,
+        Some(Held::Report(_)) => Kind::Report,
     }
 }
 

@@ -6,6 +6,7 @@ pub mod assembling;
 pub mod building;
 pub mod bundles;
 pub mod changing;
+pub mod checks;
 mod codes;
 pub mod compiled;
 pub mod compiling;

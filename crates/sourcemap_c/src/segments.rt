@@ -49,7 +49,8 @@ fn parse_bytes(alloc: Global, segment: &[u8]) -> Result<Vec<i64>>
     parse_vlq_segment(alloc, text_in(segment)?)
 }
 
-fn overwrite(numbers: &mut [i64], parsed: &[i64])
+/// Writes numbers to an array, as many as fit.
+pub(crate) fn overwrite<T: Copy>(numbers: &mut [T], parsed: &[T])
     ensures { numbers.new ≡ overwritten parsed.now numbers.old }
 {
     let fitting = parsed.len().min(numbers.len());

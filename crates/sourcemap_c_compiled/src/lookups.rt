@@ -9,7 +9,7 @@ ghost use Rattle.sourcemap_c_compiled.specs.Lookups.{ReturnsToken, found_of};
 
 use crate::codes::{ABSENT, OK, code_of};
 use crate::texts::put_text;
-use sourcemap_c_handles::layout::{Found, MapToken, Position};
+use sourcemap_c_handles::layout::{Found, Position};
 use sourcemap_compiled::map::CompiledMap;
 use sourcemap_compiled::token::CompiledToken;
 
@@ -48,23 +48,27 @@ fn put_found(token: Option<CompiledToken<'_>>, found: &mut Found) -> u32
 {
     match token {
         Some(token) => {
-            *found = found_of(&token);
+            write_found(&token, found);
             OK
         }
         None => ABSENT,
     }
 }
 
-fn found_of(token: &CompiledToken<'_>) -> Found
-    ensures { result ≡ found_of (Some (token_value token.now)) }
+// Writes each field by itself: to move a whole struct costs more, since its padding is moved too.
+#[inline(always)]
+fn write_found(token: &CompiledToken<'_>, found: &mut Found)
+    ensures { found.new ≡ found_of (Some (token_value token.now)) }
 {
-    Found {
-        token: MapToken {
-            original_column: token.get_src_col(),
-            ..MapToken::of_raw(token.get_raw_token())
-        },
-        found: true,
-    }
+    let raw = token.get_raw_token();
+    found.token.line = raw.dst_line;
+    found.token.column = raw.dst_col;
+    found.token.original_line = raw.src_line;
+    found.token.original_column = token.get_src_col();
+    found.token.source = raw.src_id;
+    found.token.name = raw.name_id;
+    found.token.is_range = raw.is_range;
+    found.found = true;
 }
 
 /// Looks up each generated position `positions[i]`, and writes its closest token to `found[i]`.
@@ -88,17 +92,18 @@ fn look_up_each(map: &CompiledMap<'_>, positions: &[Position], found: &mut [Foun
 {
     let count = positions.len().min(found.len());
     for i in 0..count {
-        found[i] = answer(map, positions[i]);
+        answer(map, positions[i], &mut found[i]);
     }
     count
 }
 
-fn answer(map: &CompiledMap<'_>, position: Position) -> Found
-    ensures { IsAnswer (bytes_of map.now) position result }
+#[inline(always)]
+fn answer(map: &CompiledMap<'_>, position: Position, found: &mut Found)
+    ensures { IsAnswer (bytes_of map.now) position found.new }
 {
     match map.lookup_token(position.line, position.column) {
-        Some(token) => found_of(&token),
-        None => Found::none(),
+        Some(token) => write_found(&token, found),
+        None => *found = Found::none(),
     }
 }
 

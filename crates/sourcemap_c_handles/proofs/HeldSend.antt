@@ -16,6 +16,7 @@ use Rattle.sourcemap_builder.proofs.builder.SourceMapBuilder.TheSendSync as buil
 use Rattle.sourcemap_bundle_split.proofs.split.BundleSplitter.TheSendSync as splitter
 use Rattle.sourcemap_bundles.proofs.ram_bundle.RamBundle.TheSendSync as bundle
 use Rattle.sourcemap_bundles.specs.contracts.ram_bundle.RamBundle
+use Rattle.sourcemap_c_handles.specs.contracts.report.CheckReport
 use Rattle.sourcemap_headers.proofs.debug_id.DebugId.TheSendSync as id
 use Rattle.sourcemap_index.proofs.family.DecodedMap.TheLaws.TheKnot as knot
 use Rattle.sourcemap_index.specs.contracts.family.DecodedMap
@@ -46,8 +47,11 @@ section_send = search (regular.the_send, id.the_send, MapsCrossing.crosses, Cros
 sections_send : IsSend (Vec.the_row SourceMapSection.the_row Global.the_row TheImpl.ghosts)
 sections_send = vecs.the_send SourceMapSection.the_row Global.the_row TheImpl.ghosts section_send heap.the_send frees.the_frees
 
+report_send : IsSend (CheckReport.the_field).row
+report_send = search (Crossing.crosses, sendable) depth 60 fits 20000
+
 field_send : IsSend (Held.the_field).row
-field_send = enum_send (enums.shape Held.the_type) ((shared_send, tt), ((builder.the_send, tt), ((view_send, tt), ((bundle_send, tt), ((splitter.the_field_send, tt), ((search (Crossing.crosses, sendable), tt), ((sections_send, tt), tt)))))))
+field_send = enum_send (enums.shape Held.the_type) ((shared_send, tt), ((builder.the_send, tt), ((view_send, tt), ((bundle_send, tt), ((splitter.the_field_send, tt), ((search (Crossing.crosses, sendable), tt), ((sections_send, tt), ((report_send, tt), tt))))))))
 
 pub held_send : IsSend Held.the_row
 held_send = recorded_send (Held.the_field).row _ _ (Held.the_type).to_one field_send

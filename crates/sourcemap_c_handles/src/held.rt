@@ -1,4 +1,5 @@
 //! The values that a handle can hold.
+use crate::report::CheckReport;
 use sourcemap_builder::builder::SourceMapBuilder;
 use sourcemap_bundle_split::split::BundleSplitter;
 use sourcemap_bundles::ram_bundle::RamBundle;
@@ -23,4 +24,6 @@ pub enum Held {
     Bytes(Vec<u8>),
     /// The sections of an index map that is being made.
     Sections(Vec<SourceMapSection>),
+    /// What a check found.
+    Report(CheckReport),
 }

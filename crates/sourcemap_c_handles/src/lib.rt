@@ -6,6 +6,7 @@ pub mod handle;
 pub mod held;
 pub mod layout;
 pub mod no_files;
+pub mod report;
 pub(crate) mod sealed;
 
 pub use handle::Handle;

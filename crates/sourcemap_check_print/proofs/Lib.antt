@@ -1,3 +1,3 @@
+pub mod FindingsLemmas
 pub mod PlacesLemmas
-pub mod PrintLemmas
 pub mod TextLemmas

@@ -3,11 +3,13 @@ use Rattle.std.specs.Prelude.{ℕ, zero, suc, List, [], ◌∷◌, ◌++◌, cod
 use Rattle.std.specs.Fmt.{decimal}
 use Rattle.std.specs.Option.{option_map_or}
 use Rattle.sourcemap_check.specs.declared.tree.MapPlace.{MapPlace}
-use Rattle.sourcemap_check_report.specs.declared.report.Finding.{Finding}
 use Rattle.sourcemap_check_report.specs.declared.rules.Rule.{Rule}
 use Rattle.sourcemap_check_report.specs.declared.rules.Rule.TheVariants.{NotJson, NotObject, Map, OutOfOrder, Overlap}
 use Rattle.sourcemap_check_report.specs.declared.rules.Rule.TheVariants.{Section, Segment}
+use Rattle.sourcemap_check_print.specs.Suspicions.{suspect_key}
 use Rattle.sourcemap_check_print.specs.Words.{map_key, section_key}
+use Rattle.sourcemap_check_print.specs.declared.entries.Entry.{Entry}
+use Rattle.sourcemap_check_print.specs.declared.entries.Entry.TheVariants.{Invalid, Doubtful, Off}
 
 -- the indexes of the sections that lead to the map with this number, the outermost first: those that lead to the map
 -- that has its section, and this section. At most `left`
@@ -35,6 +37,14 @@ rule_key Overlap index = section_key_text index (codes ".offset")
 rule_key (Section rule) index = section_key_text index (section_key rule)
 rule_key (Segment rule) index = codes "mappings"
 
--- the key that a finding is on
-abbrev pub key_text : Finding → List ℕ
-key_text finding = rule_key finding.rule finding.index
+-- the key that an entry is on
+abbrev pub key_text : Entry → List ℕ
+key_text (Invalid finding) = rule_key finding.rule finding.index
+key_text (Doubtful suspect) = suspect_key suspect
+key_text (Off shifted) = codes "mappings"
+
+-- the number of the map that an entry is in. Only the whole map is looked at for what looks wrong
+abbrev pub map_of : Entry → ℕ
+map_of (Invalid finding) = finding.map
+map_of (Doubtful suspect) = 0
+map_of (Off shifted) = 0

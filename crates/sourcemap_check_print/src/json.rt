@@ -1,14 +1,13 @@
 //! The report of a check as a JSON object. No text in it has a byte that JSON escapes.
 ghost use Rattle.std.specs.Prelude.{◌≡◌, ◌++◌, IsOkUnless, MatchResult, OnOk, decimal, flat_map, codes, string_bytes};
 ghost use Rattle.sourcemap_errors.specs.declared.errors.Error.TheVariants.{OutOfMemory};
-ghost use Rattle.sourcemap_check_print.specs.Json.{code_json, counts_json, finding_json, json_text, position_json, rule_json, separated};
+ghost use Rattle.sourcemap_check_print.specs.Json.{code_json, counts_json, end_json, entry_json, json_text, position_json, separated};
+ghost use Rattle.sourcemap_check_print.specs.declared.entries.Position.TheVariants.{Shift};
 
-use crate::lines::total;
-use crate::places::{push, push_key, push_number, sections_of};
-use crate::words::sentence;
-use sourcemap_check::tree::{Checked, MapPlace};
-use sourcemap_check_report::report::Finding;
-use sourcemap_check_report::rules::{Rule, number_of};
+use crate::entries::{Entry, Position, code_of, position_of, sentence_of, severity_of};
+use crate::findings::Counts;
+use crate::places::{push, push_key, push_number, push_signed, sections_of};
+use sourcemap_check::tree::MapPlace;
 use sourcemap_errors::errors::Result;
 use std::alloc::Global;
 
@@ -38,141 +37,158 @@ fn push_later_sections(text: &mut String, sections: &[usize]) -> Result<()>
     Ok(())
 }
 
-fn push_position(text: &mut String, finding: &Finding) -> Result<()>
+fn push_position(text: &mut String, position: Position) -> Result<()>
     ensures text { OnOk result (string_bytes text.new
-        ≡ string_bytes text.old ++ position_json finding.now.rule finding.now.line finding.now.index) }
+        ≡ string_bytes text.old ++ position_json position) }
     ensures memory { IsOkUnless result OutOfMemory }
 {
-    let line = finding.line;
-    let index = finding.index;
-    match finding.rule {
-        Rule::Segment(_) => {
+    match position {
+        Position::Nowhere => push(text, "null"),
+        Position::Segment(line, index) => {
             write!(text, "{{\"index\":{index},\"line\":{line}}}")?;
             Ok(())
         }
-        _ => {
-            text.push_str("null")?;
+        Position::Token(line, column) => {
+            write!(text, "{{\"column\":{column},\"line\":{line}}}")?;
             Ok(())
         }
+        Position::Shift(lines, columns) => push_shift(text, lines, columns),
     }
 }
 
-fn push_rule(text: &mut String, rule: Rule) -> Result<()>
-    ensures text { OnOk result (string_bytes text.new ≡ string_bytes text.old ++ rule_json rule) }
+fn push_shift(text: &mut String, lines: i32, columns: i32) -> Result<()>
+    ensures text { OnOk result (string_bytes text.new
+        ≡ string_bytes text.old ++ position_json (Shift lines columns)) }
     ensures memory { IsOkUnless result OutOfMemory }
 {
-    push(text, "],\"sentence\":\"")?;
-    push(text, sentence(rule))?;
-    push(text, "\",\"severity\":\"invalid\"}")?;
+    push(text, "{\"columns\":")?;
+    push_signed(text, columns)?;
+    push(text, ",\"lines\":")?;
+    push_signed(text, lines)?;
+    push(text, "}")?;
     Ok(())
 }
 
-fn push_code(text: &mut String, rule: Rule) -> Result<()>
-    ensures text { OnOk result (string_bytes text.new ≡ string_bytes text.old ++ code_json rule) }
+fn push_end(text: &mut String, entry: &Entry) -> Result<()>
+    ensures text { OnOk result (string_bytes text.new ≡ string_bytes text.old ++ end_json entry.now) }
     ensures memory { IsOkUnless result OutOfMemory }
 {
-    let code = number_of(rule) + 101;
+    push(text, "],\"sentence\":\"")?;
+    push(text, sentence_of(entry))?;
+    push(text, "\",\"severity\":\"")?;
+    push(text, severity_of(entry))?;
+    push(text, "\"}")?;
+    Ok(())
+}
+
+fn push_code(text: &mut String, entry: &Entry) -> Result<()>
+    ensures text { OnOk result (string_bytes text.new ≡ string_bytes text.old ++ code_json entry.now) }
+    ensures memory { IsOkUnless result OutOfMemory }
+{
+    let code = code_of(entry);
     push(text, "{\"code\":\"SM")?;
     push_number(text, code as u64)?;
     push(text, "\",\"key\":\"")?;
     Ok(())
 }
 
-fn push_finding(
-    alloc: Global,
-    text: &mut String,
-    maps: &[MapPlace],
-    finding: &Finding,
-) -> Result<()>
+fn push_entry(alloc: Global, text: &mut String, maps: &[MapPlace], entry: &Entry) -> Result<()>
     ensures text { OnOk result (string_bytes text.new
-        ≡ string_bytes text.old ++ finding_json maps.now finding.now) }
+        ≡ string_bytes text.old ++ entry_json maps.now entry.now) }
     ensures memory { IsOkUnless result OutOfMemory }
 {
-    let sections = sections_of(alloc, maps, finding.map)?;
-    push_code(text, finding.rule)?;
-    push_key(text, finding)?;
+    let sections = sections_of(alloc, maps, entry)?;
+    push_code(text, entry)?;
+    push_key(text, entry)?;
     push(text, "\",\"position\":")?;
-    push_position(text, finding)?;
+    push_position(text, position_of(entry))?;
     push(text, ",\"sections\":[")?;
     push_sections(text, sections.as_slice())?;
-    push_rule(text, finding.rule)?;
+    push_end(text, entry)?;
     Ok(())
 }
 
-fn push_later_finding(
+fn push_later_entry(
     alloc: Global,
     text: &mut String,
     maps: &[MapPlace],
-    finding: &Finding,
+    entry: &Entry,
 ) -> Result<()>
     ensures text { OnOk result (string_bytes text.new ≡ string_bytes text.old
-        ++ (codes "," ++ finding_json maps.now finding.now)) }
+        ++ (codes "," ++ entry_json maps.now entry.now)) }
     ensures memory { IsOkUnless result OutOfMemory }
 {
     push(text, ",")?;
-    push_finding(alloc, text, maps, finding)?;
+    push_entry(alloc, text, maps, entry)?;
     Ok(())
 }
 
-fn push_later_findings(
+fn push_later_entries(
     alloc: Global,
     text: &mut String,
     maps: &[MapPlace],
-    findings: &[Finding],
+    entries: &[Entry],
 ) -> Result<()>
     ensures text { OnOk result (string_bytes text.new ≡ string_bytes text.old
-        ++ flat_map (λ finding. codes "," ++ finding_json maps.now finding) findings.now) }
+        ++ flat_map (λ entry. codes "," ++ entry_json maps.now entry) entries.now) }
     ensures memory { IsOkUnless result OutOfMemory }
 {
-    for finding in findings {
-        push_later_finding(alloc, text, maps, finding)?;
+    for entry in entries {
+        push_later_entry(alloc, text, maps, entry)?;
     }
     Ok(())
 }
 
-fn push_findings(
+fn push_entries(
     alloc: Global,
     text: &mut String,
     maps: &[MapPlace],
-    findings: &[Finding],
+    entries: &[Entry],
 ) -> Result<()>
     ensures text { OnOk result (string_bytes text.new ≡ string_bytes text.old
-        ++ separated (finding_json maps.now) findings.now) }
+        ++ separated (entry_json maps.now) entries.now) }
     ensures memory { IsOkUnless result OutOfMemory }
 {
-    match findings.split_first() {
+    match entries.split_first() {
         Some((first, later)) => {
-            push_finding(alloc, text, maps, first)?;
-            push_later_findings(alloc, text, maps, later)?;
+            push_entry(alloc, text, maps, first)?;
+            push_later_entries(alloc, text, maps, later)?;
             Ok(())
         }
         None => Ok(()),
     }
 }
 
-fn push_counts(text: &mut String, total: u64, kept: usize) -> Result<()>
+fn push_counts(text: &mut String, counts: Counts, shown: usize) -> Result<()>
     ensures text { OnOk result (string_bytes text.new
-        ≡ string_bytes text.old ++ counts_json total kept) }
+        ≡ string_bytes text.old ++ counts_json counts shown) }
     ensures memory { IsOkUnless result OutOfMemory }
 {
     push(text, "{\"counts\":{\"invalid\":")?;
-    push_number(text, total)?;
+    push_number(text, counts.invalid)?;
     push(text, ",\"shown\":")?;
-    push_number(text, kept as u64)?;
+    push_number(text, shown as u64)?;
+    push(text, ",\"suspicious\":")?;
+    push_number(text, counts.suspicious)?;
     push(text, "},\"findings\":[")?;
     Ok(())
 }
 
-/// Returns the JSON text of the report, compact and with sorted keys, and a newline. The only error
+/// Returns the JSON text of a report, compact and with sorted keys, and a newline. The only error
 /// is `OutOfMemory`.
-pub(crate) fn json_text(alloc: Global, checked: &Checked) -> Result<String>
-    ensures { MatchResult result (λ text. string_bytes text ≡ json_text checked.now)
+pub(crate) fn json_text(
+    alloc: Global,
+    maps: &[MapPlace],
+    entries: &[Entry],
+    counts: Counts,
+) -> Result<String>
+    ensures { MatchResult result
+        (λ text. string_bytes text ≡ json_text maps.now entries.now counts)
         (λ e. e ≡ OutOfMemory) }
 {
     let mut text = String::new(alloc);
-    let findings = checked.report.findings.as_slice();
-    push_counts(&mut text, total(&checked.report), findings.len())?;
-    push_findings(alloc, &mut text, checked.maps.as_slice(), findings)?;
+    push_counts(&mut text, counts, entries.len())?;
+    push_entries(alloc, &mut text, maps, entries)?;
     push(&mut text, "]}\n")?;
     Ok(text)
 }

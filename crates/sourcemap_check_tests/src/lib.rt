@@ -14,6 +14,8 @@ mod rules;
 #[cfg(test)]
 mod shifts;
 #[cfg(test)]
+mod suspects;
+#[cfg(test)]
 mod texts;
 
 use sourcemap_check::check::{Options, check};

@@ -1,18 +1,18 @@
 -- Words ask for at most one command.
-use Rattle.std.proofs.Common.{◌≡◌, ◌≢◌, ◌⊎◌, inl, inr, Global, String, ℕ, ◌+◌, List, [], ◌∷◌, ◌-◌, if◌then◌else◌, Bool, true, false, bytes_eq, codes, get_or, length, string_bytes, refl, subst, sym, ◌∙◌, ap, arith}
+use Rattle.std.proofs.Common.{◌≡◌, ◌≢◌, ◌⊎◌, inl, inr, Global, String, ℕ, ◌+◌, ◌<◌, ◌≤◌, List, [], ◌∷◌, if◌then◌else◌, Bool, true, false, Option, Some, None, bytes_eq, codes, drop, get_or, length, map, string_bytes, refl, subst, sym, ◌∙◌, ap, arith}
+use Rattle.std.specs.Prelude.{◌&&◌, ◌||◌}
 use Rattle.std.specs.Str.Parse.{digits_value}
 use Rattle.sourcemap_trace.specs.Positions.{first_of}
 use Rattle.sourcemap_trace.specs.declared.positions.Counting.{Counting}
 use Rattle.sourcemap_trace.specs.declared.positions.Counting.TheVariants.{From0, From1}
 use Rattle.sourcemap_cache.specs.declared.parts.WithContents.{WithContents}
 use Rattle.sourcemap_cache.specs.declared.parts.WithContents.TheVariants.{Yes, No}
-use Rattle.sourcemap_check_print.specs.declared.print.Form.{Form}
-use Rattle.sourcemap_check_print.specs.declared.print.Form.TheVariants.{Lines, Json}
-use Rattle.sourcemap_cli.specs.Command.{AskFor, IsNumber, IsSameCommand, check_words, counted_words, from_1, without_contents}
+use Rattle.sourcemap_cli.specs.Command.{AskFor, IsNumber, IsSameCommand, counted_words, from_1, without_contents}
 use Rattle.sourcemap_cli.specs.declared.command.Command.{Command}
 use Rattle.sourcemap_cli.specs.declared.command.Command.TheVariants.{Lookup, Tokens, Rewrite, Flatten, Compose, Shift, Trace, Compile, Check}
-use Rattle.sourcemap_cli.specs.declared.command.Strictness.{Strictness}
-use Rattle.sourcemap_cli.specs.declared.command.Strictness.TheVariants.{Usual, Strict}
+use Rattle.sourcemap_cli.specs.Checking.{words_of}
+use Rattle.sourcemap_cli.specs.declared.checking.Checking.{Checking}
+use Rattle.sourcemap_cli.proofs.CheckingLemmas.{checking_once}
 
 -- equal words give the same number
 number_once : (first : ℕ) (a b : List ℕ) (m n : ℕ) → a ≡ b → IsNumber first a m → IsNumber first b n → m ≡ n
@@ -42,13 +42,6 @@ abbrev compile_count : WithContents → ℕ
 compile_count Yes = 1
 compile_count No = 2
 
--- the number of words of `check`
-abbrev check_count : Form → Strictness → ℕ
-check_count Lines Usual = 1
-check_count Json Usual = 2
-check_count Lines Strict = 2
-check_count Json Strict = 3
-
 abbrev kind_of : Command → ℕ × ℕ
 kind_of (Lookup counting _ _) = (1, with_flag counting 3)
 kind_of Tokens = (2, 1)
@@ -58,7 +51,7 @@ kind_of (Compose _) = (5, 2)
 kind_of (Shift _) = (6, 2)
 kind_of (Trace counting _) = (7, with_flag counting 2)
 kind_of (Compile contents) = (8, compile_count contents)
-kind_of (Check form strictness) = (9, check_count form strictness)
+kind_of (Check checking) = (9, length (codes "check" ∷ words_of checking))
 
 words_of_kind : (words : List (List ℕ)) (c : Command) → AskFor words c → kind_of_words words ≡ kind_of c
 words_of_kind words (Lookup From0 line col) (l, c, is, at_line, at_col) = ap kind_of_words is
@@ -72,16 +65,18 @@ words_of_kind words (Trace From0 path) (is, other) = ap kind_of_words is
 words_of_kind words (Trace From1 path) (is, other) = ap kind_of_words is
 words_of_kind words (Compile Yes) is = ap kind_of_words is
 words_of_kind words (Compile No) is = ap kind_of_words is
-words_of_kind words (Check Lines Usual) is = ap kind_of_words is
-words_of_kind words (Check Json Usual) is = ap kind_of_words is
-words_of_kind words (Check Lines Strict) is = ap kind_of_words is
-words_of_kind words (Check Json Strict) is = ap kind_of_words is
+words_of_kind words (Check checking) is = ap kind_of_words is
 
 -- as `words_of_kind`, for each of the two numbers
 kind_is : (words : List (List ℕ)) (c : Command) → AskFor words c
     → (verb_number (get_or words 0 []) ≡ (kind_of c).0) × (length words ≡ (kind_of c).1)
 kind_is words c asked =
     (ap (λ kind. kind.0) (words_of_kind words c asked), ap (λ kind. kind.1) (words_of_kind words c asked))
+
+-- the verb of words that ask for a check
+verb_of_check : (words : List (List ℕ)) (checking : Checking) → AskFor words (Check checking)
+    → verb_number (get_or words 0 []) ≡ 9
+verb_of_check words checking is = ap (λ ws. verb_number (get_or ws 0 [])) is
 
 -- the word at an index of equal words
 same_word : (i : ℕ) (a b : List (List ℕ)) → a ≡ b → get_or a i [] ≡ get_or b i []
@@ -115,6 +110,8 @@ pub no_shift : (rows : List ℕ) → ((n : ℕ) → ¬ IsNumber 0 rows n) → (c
 no_shift rows none (Shift n) (r, is, number) =
     none n
     (subst (λ w. IsNumber 0 w n) (sym (same_word 1 (codes "shift" ∷ rows ∷ []) (codes "shift" ∷ r ∷ []) is)) number)
+no_shift rows none (Check checking) is =
+    absurd (let no : 6 ≡ 9 = verb_of_check (codes "shift" ∷ rows ∷ []) checking is in cc)
 no_shift rows none command asked =
     absurd (let no : (6 ≡ (kind_of command).0) × (2 ≡ (kind_of command).1) =
     kind_is (codes "shift" ∷ rows ∷ []) command asked in cc)
@@ -127,29 +124,13 @@ no_compile word other command asked =
     absurd (let no : (8 ≡ (kind_of command).0) × (2 ≡ (kind_of command).1) =
     kind_is (codes "compile" ∷ word ∷ []) command asked in cc)
 
-pub no_check : (word : List ℕ) → word ≢ codes "--json" → word ≢ codes "--strict" → (command : Command)
-    → ¬ AskFor (codes "check" ∷ word ∷ []) command
-no_check word no_json no_strict (Check Json Usual) is =
-    no_json (same_word 1 (codes "check" ∷ word ∷ []) (codes "check" ∷ codes "--json" ∷ []) is)
-no_check word no_json no_strict (Check Lines Strict) is =
-    no_strict (same_word 1 (codes "check" ∷ word ∷ []) (codes "check" ∷ codes "--strict" ∷ []) is)
-no_check word no_json no_strict command asked =
-    absurd (let no : (9 ≡ (kind_of command).0) × (2 ≡ (kind_of command).1) =
-    kind_is (codes "check" ∷ word ∷ []) command asked in cc)
-
-pub no_strict_json : (first second : List ℕ) → (first ≢ codes "--json") ⊎ (second ≢ codes "--strict")
-    → (command : Command) → ¬ AskFor (codes "check" ∷ first ∷ second ∷ []) command
-no_strict_json first second (inl other) (Check Json Strict) is =
-    other (same_word 1 (codes "check" ∷ first ∷ second ∷ []) (codes "check" ∷ codes "--json" ∷ codes "--strict" ∷ []) is)
-no_strict_json first second (inr other) (Check Json Strict) is =
-    other (same_word 2 (codes "check" ∷ first ∷ second ∷ []) (codes "check" ∷ codes "--json" ∷ codes "--strict" ∷ []) is)
-no_strict_json first second other (Check Lines Usual) is =
-    absurd (let no : 3 ≡ 1 = ap length is in cc)
-no_strict_json first second other (Check Lines Strict) is =
-    absurd (let no : 3 ≡ 2 = ap length is in cc)
-no_strict_json first second other command asked =
-    absurd (let no : (9 ≡ (kind_of command).0) × (3 ≡ (kind_of command).1) =
-    kind_is (codes "check" ∷ first ∷ second ∷ []) command asked in cc)
+-- words that begin with `check` ask for a check or for nothing
+pub no_check : (options : List (List ℕ)) → ((checking : Checking) → ¬ (options ≡ words_of checking)) → (command : Command)
+    → ¬ AskFor (codes "check" ∷ options) command
+no_check options none (Check checking) is = none checking (ap (drop 1) is)
+no_check options none command asked =
+    absurd (let no : (9 ≡ (kind_of command).0) × (length (codes "check" ∷ options) ≡ (kind_of command).1) =
+    kind_is (codes "check" ∷ options) command asked in cc)
 
 -- `--from-1` is no file of `trace`
 pub no_trace : (file : List ℕ) (counting : Counting) → file ≡ from_1 → (command : Command)
@@ -159,6 +140,10 @@ no_trace file From0 flag (Trace From0 path) (is, other) =
 no_trace file From1 flag (Trace From1 path) (is, other) =
     other (sym (same_word 2 (codes "trace" ∷ from_1 ∷ file ∷ []) (codes "trace" ∷ from_1 ∷ string_bytes path ∷ []) is)
     ∙ flag)
+no_trace file From0 flag (Check checking) is =
+    absurd (let no : 7 ≡ 9 = verb_of_check (codes "trace" ∷ file ∷ []) checking is in cc)
+no_trace file From1 flag (Check checking) is =
+    absurd (let no : 7 ≡ 9 = verb_of_check (codes "trace" ∷ from_1 ∷ file ∷ []) checking is in cc)
 no_trace file From0 flag command asked =
     absurd (let no : (7 ≡ (kind_of command).0) × (2 ≡ (kind_of command).1) =
     kind_is (codes "trace" ∷ file ∷ []) command asked in cc)
@@ -171,52 +156,6 @@ pub trace_asked : (file : List ℕ) (counting : Counting) (path : String Global)
     → AskFor (counted_words (codes "trace") counting (file ∷ [])) (Trace counting path)
 trace_asked file counting path is other =
     (ap (λ word. counted_words (codes "trace") counting (word ∷ [])) (sym is), λ flag. other (sym is ∙ flag))
-
--- the words of `check` show its form and its strictness
-abbrev shows_json : List (List ℕ) → Bool
-shows_json words = bytes_eq (get_or words 1 []) (codes "--json")
-
-abbrev shows_strict : List (List ℕ) → Bool
-shows_strict words = bytes_eq (get_or words (length words - 1) []) (codes "--strict")
-
-abbrev is_json : Form → Bool
-is_json Lines = false
-is_json Json = true
-
-abbrev is_strict : Strictness → Bool
-is_strict Usual = false
-is_strict Strict = true
-
-json_shown : (form : Form) (strictness : Strictness) → shows_json (check_words form strictness) ≡ is_json form
-json_shown Lines Usual = refl
-json_shown Json Usual = refl
-json_shown Lines Strict = refl
-json_shown Json Strict = refl
-
-strict_shown : (form : Form) (strictness : Strictness)
-    → shows_strict (check_words form strictness) ≡ is_strict strictness
-strict_shown Lines Usual = refl
-strict_shown Json Usual = refl
-strict_shown Lines Strict = refl
-strict_shown Json Strict = refl
-
-form_once : (a b : Form) → is_json a ≡ is_json b → a ≡ b
-form_once Lines Lines is = refl
-form_once Json Json is = refl
-form_once Lines Json is = absurd cc
-form_once Json Lines is = absurd cc
-
-strictness_once : (a b : Strictness) → is_strict a ≡ is_strict b → a ≡ b
-strictness_once Usual Usual is = refl
-strictness_once Strict Strict is = refl
-strictness_once Usual Strict is = absurd cc
-strictness_once Strict Usual is = absurd cc
-
-check_once : (a b : Form) (s t : Strictness) → check_words a s ≡ check_words b t → Check a s ≡ Check b t
-check_once a b s t same =
-    let forms = form_once a b (sym (json_shown a s) ∙ ap shows_json same ∙ json_shown b t) in
-    let strictnesses = strictness_once s t (sym (strict_shown a s) ∙ ap shows_strict same ∙ strict_shown b t) in
-    ap (λ form. Check form s) forms ∙ ap (λ strictness. Check b strictness) strictnesses
 
 pub command_once : (words : List (List ℕ)) (a b : Command) → AskFor words a → AskFor words b → IsSameCommand a b
 command_once words (Lookup From0 row col) (Lookup From0 row' col') (l, c, is, of_l, of_c) (l', c', is', of_l', of_c') =
@@ -247,9 +186,26 @@ command_once words Rewrite Rewrite p q = refl
 command_once words Flatten Flatten p q = refl
 command_once words (Compile Yes) (Compile Yes) p q = refl
 command_once words (Compile No) (Compile No) p q = refl
-command_once words (Check a s) (Check b t) p q = check_once a b s t (sym p ∙ q)
+command_once words (Check a) (Check b) p q = checking_once a b (ap (drop 1) (sym p ∙ q))
 command_once words a b p q =
     let of_a = kind_is words a p in
     let of_b = kind_is words b q in
     absurd (let verbs : (kind_of a).0 ≡ (kind_of b).0 = sym of_a.0 ∙ of_b.0 in
     let counts : (kind_of a).1 ≡ (kind_of b).1 = sym of_a.1 ∙ of_b.1 in cc)
+
+-- four words and their texts
+pub four_texts : (words : List (String Global)) (a b c d : String Global) (p q r s : List ℕ) → 4 ≤ length words
+    → length words < 5 → a ≡ get_or words 0 a → b ≡ get_or words 1 b → c ≡ get_or words 2 c → d ≡ get_or words 3 d
+    → p ≡ string_bytes a → q ≡ string_bytes b → r ≡ string_bytes c → s ≡ string_bytes d
+    → p ∷ q ∷ r ∷ s ∷ [] ≡ map string_bytes words
+four_texts [] a b c d p q r s few many at_a at_b at_c at_d is_p is_q is_r is_s = absurd (omega arith)
+four_texts (v ∷ []) a b c d p q r s few many at_a at_b at_c at_d is_p is_q is_r is_s = absurd (omega arith)
+four_texts (v ∷ w ∷ []) a b c d p q r s few many at_a at_b at_c at_d is_p is_q is_r is_s = absurd (omega arith)
+four_texts (v ∷ w ∷ x ∷ []) a b c d p q r s few many at_a at_b at_c at_d is_p is_q is_r is_s = absurd (omega arith)
+four_texts (v ∷ w ∷ x ∷ y ∷ []) a b c d p q r s few many at_a at_b at_c at_d is_p is_q is_r is_s =
+    ap (λ text. text ∷ q ∷ r ∷ s ∷ []) (is_p ∙ ap string_bytes at_a)
+    ∙ ap (λ text. string_bytes v ∷ text ∷ r ∷ s ∷ []) (is_q ∙ ap string_bytes at_b)
+    ∙ ap (λ text. string_bytes v ∷ string_bytes w ∷ text ∷ s ∷ []) (is_r ∙ ap string_bytes at_c)
+    ∙ ap (λ text. string_bytes v ∷ string_bytes w ∷ string_bytes x ∷ text ∷ []) (is_s ∙ ap string_bytes at_d)
+four_texts (v ∷ w ∷ x ∷ y ∷ z ∷ words) a b c d p q r s few many at_a at_b at_c at_d is_p is_q is_r is_s =
+    absurd (omega arith)

@@ -1,3 +1,5 @@
+pub mod CheckingLemmas
+pub mod ChecksLemmas
 pub mod CommandLemmas
 pub mod CompiledLemmas
 pub mod MapsLemmas

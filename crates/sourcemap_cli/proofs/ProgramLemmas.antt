@@ -1,5 +1,5 @@
 -- If the results of calls are as specified, so is the reply. If the reply is as specified, so is the output of a run.
-use Rattle.std.proofs.Common.{◌≡◌, ◌≢◌, ◌↔◌, ◌⊎◌, inl, inr, refl, sym, ap, subst, ◌∙◌, ℕ, List, [], ◌++◌, codes, Bool, true, false, IsTrue, if◌then◌else◌, Option, Some, None, option_map, Result, Ok, Err, IfSome, IsOkAnd, MatchOption, MatchResult, IfOk, string_bytes, String, Global, Vec}
+use Rattle.std.proofs.Common.{◌≡◌, ◌≢◌, ◌⊎◌, inl, inr, refl, sym, ap, subst, ◌∙◌, ℕ, List, [], ◌++◌, codes, Bool, true, false, if◌then◌else◌, Option, Some, None, is_some, option_map, Result, Ok, Err, IfSome, IsOkAnd, MatchOption, MatchResult, IfOk, string_bytes, String, Global, Vec}
 use Rattle.std.specs.IoError.{error_kind}
 use Rattle.std.specs.declared.io.Error.{Error as IoError}
 use Rattle.std.specs.declared.io.ErrorKind.TheVariants.{OutOfMemory as NoMemory}
@@ -26,17 +26,16 @@ use Rattle.sourcemap_cache.specs.Compile.{CompileAnswer}
 use Rattle.sourcemap_cache.specs.declared.errors.CompileError.{CompileError}
 use Rattle.sourcemap_cache.specs.declared.errors.CompileError.TheVariants.{Map, TooLarge}
 use Rattle.sourcemap_cache.specs.declared.parts.WithContents.{WithContents}
-use Rattle.sourcemap_check.specs.Validity.{IsValid}
-use Rattle.sourcemap_check_print.specs.Print.{IsReportOf}
-use Rattle.sourcemap_check_print.specs.declared.print.Form.{Form}
+use Rattle.sourcemap_check_suspicious.specs.Suspects.{Files}
+use Rattle.sourcemap_cli.specs.Checks.{IsReportReply, ReadsFiles, ReadsGenerated, passes}
+use Rattle.sourcemap_cli.specs.declared.checking.Checking.{Checking}
 use Rattle.sourcemap_trace.specs.Asked.{compiled_says}
 use Rattle.sourcemap_cli.specs.Command.{AskFor, IsOfMaps, IsQuestion, IsSameCommand, TakesAdjustment}
 use Rattle.sourcemap_cli.specs.Compiled.{IsFaultOf, compiled_line}
 use Rattle.sourcemap_cli.specs.Lines.{newline}
-use Rattle.sourcemap_cli.specs.Program.{AreApplied, AskForNone, IsCheckReply, ReturnsBy, ReturnsElse, ReturnsOnBytes, Ending, answered, rejected, misused, Ends, EndsOn, is_applied, IsCompileReply, IsRefusedReply, RepliesOn, FileDecodes, MayBeRead, MayEnd, IsCutShort, IsReply, IsReplyOf, IsReplyTo, IsPrinted, IsRefusal, IsWriteError, IsLookupLine, IsJsonLine, IsNotIndex, PrintsMap, Runs, Returns, ReturnsWithFile, ShiftAnswer, WithFile, adjusted_by, file_read, found_text, rewritten_leaf, traced}
+use Rattle.sourcemap_cli.specs.Program.{AreApplied, AskForNone, ReturnsBy, ReturnsElse, ReturnsOnBytes, Ending, answered, rejected, misused, Ends, EndsOn, is_applied, IsCompileReply, IsRefusedReply, RepliesOn, FileDecodes, MayBeRead, MayEnd, IsCutShort, IsReply, IsReplyOf, IsReplyTo, IsPrinted, IsRefusal, IsWriteError, IsLookupLine, IsJsonLine, IsNotIndex, PrintsMap, Runs, Returns, ReturnsWithFile, ShiftAnswer, WithFile, adjusted_by, file_read, found_text, rewritten_leaf, traced}
 use Rattle.sourcemap_cli.specs.declared.command.Command.{Command}
 use Rattle.sourcemap_cli.specs.declared.command.Command.TheVariants.{Check, Compile, Compose, Flatten, Lookup, Rewrite, Shift, Tokens, Trace}
-use Rattle.sourcemap_cli.specs.declared.command.Strictness.{Strictness}
 use Rattle.sourcemap_cli.specs.declared.program.Reply.{Reply}
 use Rattle.sourcemap_errors.proofs.AnswerLemmas.{UnlessMemory-weaker, UnlessMemory-from}
 use Rattle.sourcemap_index.proofs.DecodeLemmas.{bytes_decode_once}
@@ -319,35 +318,57 @@ no_question command no_lookup no_trace h = h
 
 -- a command that is not applied to a decoded map compiles, checks or asks
 pub questions_left : (command : Command) (bytes : List ℕ) → is_applied command bytes ≡ false
-    → ((contents : WithContents) → command ≢ Compile contents)
-    → ((form : Form) (strictness : Strictness) → command ≢ Check form strictness) → IsQuestion command
+    → ((contents : WithContents) → command ≢ Compile contents) → ((checking : Checking) → command ≢ Check checking)
+    → IsQuestion command
 questions_left (Lookup counting line col) bytes is no_compile no_check = tt
 questions_left (Trace counting path) bytes is no_compile no_check = tt
 questions_left (Compile contents) bytes is no_compile no_check = absurd (no_compile contents refl)
-questions_left (Check form strictness) bytes is no_compile no_check = absurd (no_check form strictness refl)
+questions_left (Check checking) bytes is no_compile no_check = absurd (no_check checking refl)
 questions_left command bytes is no_compile no_check = absurd cc
 
--- the status of a report is that of the map
-pub check_replies : (form : Form) (bytes : List ℕ) (is_valid : Bool) (reply : Reply)
-    → IsReportOf form bytes reply.output.items → ((IsTrue is_valid) ↔ (IsValid bytes))
-    → reply.status ≡ (if is_valid then 0 else 1) → IsCheckReply form bytes reply
-check_replies form bytes true reply report decided status =
-    record { report = report; valid = inl (decided.0 refl, status) }
-check_replies form bytes false reply report decided status =
-    record { report = report; valid = inr (λ valid. let no = decided.1 valid in cc, status) }
-
--- a report is printed, with the status of the map
-pub reply_of_check : (form : Form) (strictness : Strictness) (bytes : List ℕ) (file : Result (List ℕ) Error)
-    (r : Result Reply Error) → MatchResult r (IsCheckReply form bytes) (λ e. e ≡ OutOfMemory)
-    → MatchResult r (RepliesOn (Check form strictness) bytes file) (λ e. e ≡ OutOfMemory)
-reply_of_check form strictness bytes file (Err e) is = is
-reply_of_check form strictness bytes file (Ok reply) is = by_status is.valid
+-- the reply for a report is that of `check`
+pub reply_of_check : (checking : Checking) (bytes : List ℕ) (generated : Option (List ℕ)) (files : Files)
+    (file : Result (List ℕ) Error) (r : Result Reply Error)
+    → ReadsGenerated (is_some checking.generated) file (Ok generated)
+    → ReadsFiles (is_some checking.sources) bytes (Ok files)
+    → MatchResult r (IsReportReply checking.form checking.strictness bytes generated files) (λ e. e ≡ OutOfMemory)
+    → MatchResult r (RepliesOn (Check checking) bytes file) (λ e. e ≡ OutOfMemory)
+reply_of_check checking bytes generated files file (Err e) reads finds is = is
+reply_of_check checking bytes generated files file (Ok reply) reads finds is =
+    by_status (passes checking.strictness is.verdict) refl
   where
-    by_status : (IsValid bytes × (reply.status ≡ 0)) ⊎ ((¬ IsValid bytes) × (reply.status ≡ 1))
-        → RepliesOn (Check form strictness) bytes file reply
-    by_status (inl (valid, status)) = (answered (Ok reply.output.items), (valid, is.report), (refl, status))
-    by_status (inr (invalid, status)) =
-        (rejected reply.output.items, (refl, (invalid, is.report)), (refl, status))
+    by_status : (passing : Bool) → passes checking.strictness is.verdict ≡ passing
+        → RepliesOn (Check checking) bytes file reply
+    by_status true passing =
+        let status : reply.status ≡ 0 = is.status_is ∙ ap (λ b. if b then 0 else 1) passing in (
+          answered (Ok reply.output.items),
+          inl (generated, reads, inl (files, finds, ((is.verdict, is.has_verdict, passing), is.report))),
+          (refl, status),
+        )
+    by_status false failing =
+        let status : reply.status ≡ 1 = is.status_is ∙ ap (λ b. if b then 0 else 1) failing in (
+          rejected reply.output.items,
+          (refl, (generated, reads, (files, finds, ((is.verdict, is.has_verdict, failing), is.report)))),
+          (refl, status),
+        )
+
+-- or it reports that the files of sources were not read
+pub reply_of_no_files : (checking : Checking) (bytes : List ℕ) (generated : Option (List ℕ)) (file : Result (List ℕ) Error)
+    (e : Error) (r : Result Reply Error) → ReadsGenerated (is_some checking.generated) file (Ok generated)
+    → ReadsFiles (is_some checking.sources) bytes (Err e) → MatchResult r (IsReplyOf (Err e)) (λ e. e ≡ OutOfMemory)
+    → MatchResult r (RepliesOn (Check checking) bytes file) (λ e. e ≡ OutOfMemory)
+reply_of_no_files checking bytes generated file e (Err f) reads fails is = is
+reply_of_no_files checking bytes generated file e (Ok reply) reads fails is =
+    (answered (Err e), inl (generated, reads, inr fails), is.1)
+
+-- or that the generated text was not
+pub reply_of_no_text : (checking : Checking) (bytes : List ℕ) (file : Result (List ℕ) Error) (e : Error)
+    (r : Result Reply Error) → UnlessMemory e (ReadsGenerated (is_some checking.generated) file (Err e))
+    → MatchResult r (IsReplyOf (Err e)) (λ e. e ≡ OutOfMemory)
+    → MatchResult r (RepliesOn (Check checking) bytes file) (λ e. e ≡ OutOfMemory)
+reply_of_no_text checking bytes file e (Err f) h is = is
+reply_of_no_text checking bytes file e (Ok reply) h is =
+    (answered (Err e), inr (with_memory e (ReadsGenerated (is_some checking.generated) file (Err e)) is.0 h), is.1)
 
 -- a damaged compiled map is refused
 pub reply_of_fault : (command : Command) (bytes : List ℕ) (file : Result (List ℕ) Error) (e : CompiledMapError)
@@ -517,7 +538,7 @@ returns_alike (Shift rows) (leaf l) other a b ordered p q = equal_alike a b (p �
 returns_alike (Shift rows) (index parts ss) other a b ordered p q = shift_alike rows parts (section_list ss) a b p q
 returns_alike (Trace counting path) t other a b ordered p q = absurd p
 returns_alike (Compile contents) t other a b ordered p q = equal_alike a b (p ∙ sym q)
-returns_alike (Check form strictness) t other a b ordered p q = equal_alike a b (p ∙ sym q)
+returns_alike (Check checking) t other a b ordered p q = equal_alike a b (p ∙ sym q)
 
 reply_alike : (a b : Result (List ℕ) Error) → PrintAlike a b → (reply : Reply) → IsReply (answered a) reply
     → IsReply (answered b) reply
@@ -571,6 +592,7 @@ same_command : (c d : Command) (bytes : List ℕ) (file a : Result (List ℕ) Er
 same_command (Compose path) (Compose other) bytes file a same h = h
 same_command (Trace counting path) (Trace counting' other) bytes file a (same, paths) h =
     subst (λ x. ReturnsOnBytes (Trace x path) bytes file a) same h
+same_command (Check checking) (Check other) bytes file a same h = h
 same_command c d bytes file a same h = subst (λ x. ReturnsOnBytes x bytes file a) same h
 
 -- a command that is applied to a decoded map has its output for the map

@@ -6,12 +6,9 @@ use Rattle.sourcemap_trace.specs.declared.positions.Counting.{Counting}
 use Rattle.sourcemap_trace.specs.declared.positions.Counting.TheVariants.{From0, From1}
 use Rattle.sourcemap_cache.specs.declared.parts.WithContents.{WithContents}
 use Rattle.sourcemap_cache.specs.declared.parts.WithContents.TheVariants.{Yes, No}
-use Rattle.sourcemap_check_print.specs.declared.print.Form.{Form}
-use Rattle.sourcemap_check_print.specs.declared.print.Form.TheVariants.{Lines, Json}
+use Rattle.sourcemap_cli.specs.Checking.{IsSameChecking, words_of}
 use Rattle.sourcemap_cli.specs.declared.command.Command.{Command}
 use Rattle.sourcemap_cli.specs.declared.command.Command.TheVariants.{Lookup, Tokens, Rewrite, Flatten, Compose, Shift, Trace, Compile, Check}
-use Rattle.sourcemap_cli.specs.declared.command.Strictness.{Strictness}
-use Rattle.sourcemap_cli.specs.declared.command.Strictness.TheVariants.{Usual, Strict}
 
 -- the word consists of one or more decimal digits, and its value is `first + n`, with `n` at most 4294967295
 abbrev pub IsNumber : (first : ℕ) → List ℕ → ℕ → Type 0
@@ -35,13 +32,6 @@ abbrev pub compile_words : WithContents → List (List ℕ)
 compile_words Yes = codes "compile" ∷ []
 compile_words No = codes "compile" ∷ without_contents ∷ []
 
--- the words that check a map
-abbrev pub check_words : Form → Strictness → List (List ℕ)
-check_words Lines Usual = codes "check" ∷ []
-check_words Json Usual = codes "check" ∷ codes "--json" ∷ []
-check_words Lines Strict = codes "check" ∷ codes "--strict" ∷ []
-check_words Json Strict = codes "check" ∷ codes "--json" ∷ codes "--strict" ∷ []
-
 -- these arguments of the program ask for this command. FILE of `trace` is not `--from-1`
 abbrev pub AskFor : List (List ℕ) → Command → Type 0
 AskFor words (Lookup counting line col) = (l c : List ℕ)
@@ -55,13 +45,14 @@ AskFor words (Shift rows) = (r : List ℕ) × (words ≡ codes "shift" ∷ r ∷
 AskFor words (Trace counting path) = (words ≡ counted_words (codes "trace") counting (string_bytes path ∷ []))
     × (string_bytes path ≢ from_1)
 AskFor words (Compile contents) = words ≡ compile_words contents
-AskFor words (Check form strictness) = words ≡ check_words form strictness
+AskFor words (Check checking) = words ≡ codes "check" ∷ words_of checking
 
 -- two commands are equal; the buffers of their paths may differ in capacity
 abbrev pub IsSameCommand : Command → Command → Type 0
 IsSameCommand (Compose path) (Compose other) = string_bytes path ≡ string_bytes other
 IsSameCommand (Trace counting path) (Trace counting' other) =
     (counting ≡ counting') × (string_bytes path ≡ string_bytes other)
+IsSameCommand (Check checking) (Check other) = IsSameChecking checking other
 IsSameCommand a b = a ≡ b
 
 -- `compose` takes a second map, and no other command does

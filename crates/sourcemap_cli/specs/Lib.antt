@@ -1,3 +1,5 @@
+pub mod Checking
+pub mod Checks
 pub mod Command
 pub mod Compiled
 pub mod Lines

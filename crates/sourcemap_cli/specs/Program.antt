@@ -1,5 +1,5 @@
 -- The output and the exit status of a run.
-use Rattle.std.specs.Prelude.{◌≡◌, ◌≢◌, ℕ, List, [], ◌++◌, codes, flat_map, if◌then◌else◌, Option, Some, None, option_map, Result, Ok, Err, IsOkAnd, Bool, true, false, not, String, Vec, string_bytes, ◌⊎◌}
+use Rattle.std.specs.Prelude.{◌≡◌, ◌≢◌, ℕ, List, [], ◌++◌, codes, flat_map, if◌then◌else◌, Option, Some, None, option_map, Result, Ok, Err, IsOkAnd, Bool, true, false, not, String, Vec, string_bytes, ◌⊎◌, is_some}
 use Rattle.std.specs.Fmt.{decimal}
 use Rattle.std.specs.Io.KnownBytes.{Appends}
 use Rattle.sourcemap.specs.Adjust.{adjusted}
@@ -23,24 +23,25 @@ use Rattle.sourcemap_compiled.specs.Soundness.{IsSound}
 use Rattle.sourcemap_cache.specs.Errors.{error_text as compile_error_text}
 use Rattle.sourcemap_cache.specs.declared.errors.CompileError.{CompileError}
 use Rattle.sourcemap_cache.specs.declared.errors.CompileError.TheVariants.{Map, TooLarge}
-use Rattle.sourcemap_check.specs.Validity.{IsValid}
 use Rattle.sourcemap_check_print.specs.Print.{IsReportOf}
-use Rattle.sourcemap_check_print.specs.declared.print.Form.{Form}
+use Rattle.sourcemap_check_suspicious.specs.Suspects.{Files}
 use Rattle.sourcemap_trace.specs.Asked.{compiled_says}
 use Rattle.sourcemap_trace.specs.Positions.{first_of}
 use Rattle.sourcemap_trace.specs.Trace.{meaning_text, trace_from}
+use Rattle.sourcemap_cli.specs.Checks.{Judges, ReadsFiles, ReadsGenerated}
 use Rattle.sourcemap_cli.specs.Command.{AskFor}
 use Rattle.sourcemap_cli.specs.Compiled.{CompilesTo, IsRefusedCompiled, IsTooLarge, compiled_line, is_compiled}
 use Rattle.sourcemap_cli.specs.Lines.{IsLineOf, newline}
 use Rattle.sourcemap_cli.specs.declared.command.Command.{Command}
 use Rattle.sourcemap_cli.specs.declared.command.Command.TheVariants.{Lookup, Tokens, Rewrite, Flatten, Compose, Shift, Trace, Compile, Check}
+use Rattle.sourcemap_cli.specs.declared.checking.Checking.{Checking}
 use Rattle.sourcemap_cli.specs.declared.program.Reply.{Reply}
 
 abbrev pub usage_text : List ℕ
 usage_text =
     codes "usage: lookup [--from-1] LINE COL | tokens | rewrite | flatten | compose FILE | shift ROWS"
     ++ codes " | trace [--from-1] FILE | compile [--without-contents]"
-    ++ codes " | check [--json] [--strict]" ++ newline
+    ++ codes " | check [--json] [--strict] [--generated FILE] [--sources DIR]" ++ newline
 
 -- the text of a token, with its original line and column counted from `first`; `none` if there is no token
 abbrev pub found_text : (first : ℕ) → Option TokenValue → List ℕ
@@ -123,7 +124,7 @@ Returns (Shift _) (leaf _) _ answer = answer ≡ Err IncompatibleSourceMap
 Returns (Shift rows) (index parts ss) _ answer = ShiftAnswer rows parts (section_list ss) answer
 Returns (Trace _ _) _ _ _ = ⊥
 Returns (Compile _) _ _ answer = answer ≡ Err IncompatibleSourceMap
-Returns (Check _ _) _ _ answer = answer ≡ Err IncompatibleSourceMap
+Returns (Check _) _ _ answer = answer ≡ Err IncompatibleSourceMap
 
 -- a file decodes to this map or to this error; the file is given as its bytes, or as the error of reading it
 abbrev pub FileDecodes : Result (List ℕ) Error → Result MapTree Error → Type 0
@@ -149,8 +150,14 @@ abbrev pub is_applied : Command → (bytes : List ℕ) → Bool
 is_applied (Lookup _ _ _) bytes = not (is_compiled bytes)
 is_applied (Trace _ _) bytes = not (is_compiled bytes)
 is_applied (Compile _) bytes = false
-is_applied (Check _ _) bytes = false
+is_applied (Check _) bytes = false
 is_applied _ bytes = true
+
+-- the check of these bytes passes or not, and this text is its report
+abbrev pub Checks : (passing : Bool) → Checking → (bytes : List ℕ) → (generated : Option (List ℕ)) → Files
+    → (text : List ℕ) → Type 0
+Checks passing checking bytes generated files text =
+    Judges passing checking.strictness bytes generated files × IsReportOf checking.form bytes generated files text
 
 -- the output of a command that is not applied to a decoded map. A compiled map is looked up only if it is sound
 abbrev pub ReturnsElse : Command → (bytes : List ℕ) → (file : Result (List ℕ) Error) → Result (List ℕ) Error → Type 0
@@ -159,7 +166,10 @@ ReturnsElse (Lookup counting line col) bytes file answer =
 ReturnsElse (Trace counting _) bytes file answer =
     IsSound bytes × (answer ≡ traced (first_of counting) (compiled_says bytes) file)
 ReturnsElse (Compile contents) bytes file answer = Then (BytesDecode bytes) (λ t a. CompilesTo contents t a) answer
-ReturnsElse (Check form _) bytes file answer = IsValid bytes × IsOkAnd answer (IsReportOf form bytes)
+ReturnsElse (Check checking) bytes file answer =
+    Then (ReadsGenerated (is_some checking.generated) file)
+    (λ generated a. Then (ReadsFiles (is_some checking.sources) bytes)
+    (λ files b. IsOkAnd b (Checks true checking bytes generated files)) a) answer
 ReturnsElse _ bytes file answer = ⊥
 
 -- the output of a command, or the first error
@@ -169,13 +179,16 @@ ReturnsBy true command bytes file answer = ReturnsOnBytes command bytes file ans
 ReturnsBy false command bytes file answer = ReturnsElse command bytes file answer
 
 -- a command that is not applied to a decoded map is refused with this text: the compiled map is damaged, the map is too
--- large to be compiled, or it is not valid
-abbrev pub Refuses : Command → (bytes : List ℕ) → (text : List ℕ) → Type 0
-Refuses (Lookup _ _ _) bytes text = IsRefusedCompiled bytes text
-Refuses (Trace _ _) bytes text = IsRefusedCompiled bytes text
-Refuses (Compile contents) bytes text = IsTooLarge contents bytes text
-Refuses (Check form _) bytes text = (¬ IsValid bytes) × IsReportOf form bytes text
-Refuses _ bytes text = ⊥
+-- large to be compiled, or the check fails
+abbrev pub Refuses : Command → (bytes : List ℕ) → (file : Result (List ℕ) Error) → (text : List ℕ) → Type 0
+Refuses (Lookup _ _ _) bytes file text = IsRefusedCompiled bytes text
+Refuses (Trace _ _) bytes file text = IsRefusedCompiled bytes text
+Refuses (Compile contents) bytes file text = IsTooLarge contents bytes text
+Refuses (Check checking) bytes file text =
+    (generated : Option (List ℕ)) × ReadsGenerated (is_some checking.generated) file (Ok generated)
+    × ((files : Files) × ReadsFiles (is_some checking.sources) bytes (Ok files)
+    × Checks false checking bytes generated files text)
+Refuses _ bytes file text = ⊥
 
 -- Definitions for runs that are given words and the bytes of a map. For `compose` and `trace`, a run is also given the
 -- bytes of a file, or the error of reading it.
@@ -193,7 +206,7 @@ pub data Ending : Type 0 where
 -- a command on these bytes and this file has this ending
 abbrev pub EndsOn : Command → (bytes : List ℕ) → (file : Result (List ℕ) Error) → Ending → Type 0
 EndsOn command bytes file (answered answer) = ReturnsBy (is_applied command bytes) command bytes file answer
-EndsOn command bytes file (rejected text) = (is_applied command bytes ≡ false) × Refuses command bytes text
+EndsOn command bytes file (rejected text) = (is_applied command bytes ≡ false) × Refuses command bytes file text
 EndsOn command bytes file misused = ⊥
 
 -- a run with these words, these bytes and this file has this ending
@@ -237,11 +250,6 @@ IsReplyTo words bytes file reply = (ending : Ending) × Ends words bytes file en
 -- a reply with the displayed text of an error, and status 1
 abbrev pub IsRefusedReply : (known : Option (List ℕ)) → Reply → Type 0
 IsRefusedReply known reply = IsLineOf known reply.output.items × (reply.status ≡ 1)
-
--- the reply for a report: its status is 0 if the map is valid, otherwise 1
-pub record IsCheckReply (form : Form) (bytes : List ℕ) (reply : Reply) : Type 0 where
-  pub report : IsReportOf form bytes reply.output.items
-  pub valid : (IsValid bytes × (reply.status ≡ 0)) ⊎ ((¬ IsValid bytes) × (reply.status ≡ 1))
 
 -- the reply for what `compile` returned; there is no reply for `OutOfMemory`
 abbrev pub IsCompileReply : Result (List ℕ) CompileError → Reply → Type 0

@@ -1,12 +1,13 @@
 //! The commands of the program and their parser.
-ghost use Rattle.std.specs.Prelude.{◌≡◌, List, [], ◌∷◌, ℕ, codes, map, string_bytes, MatchOption, MatchResult};
+ghost use Rattle.std.specs.Prelude.{◌≡◌, ◌≢◌, List, [], ◌∷◌, ℕ, codes, map, string_bytes, MatchOption, MatchResult};
+ghost use Rattle.std.specs.List.{slice_index_or};
 ghost use Rattle.sourcemap.specs.declared.errors.Error.TheVariants.{OutOfMemory};
 ghost use Rattle.sourcemap_trace.specs.Positions.{first_of};
 ghost use Rattle.sourcemap_cli.specs.Command.{AskFor, IsNumber, IsSameCommand, counted_words};
 
+use crate::checking::{Checking, parse_checking};
 use sourcemap::Result;
 use sourcemap_cache::parts::WithContents;
-use sourcemap_check_print::print::Form;
 use sourcemap_trace::Counting;
 use std::alloc::Global;
 
@@ -15,21 +16,6 @@ const FROM_1: &str = "--from-1";
 
 // The word that leaves the contents of sources out of a compiled map.
 const WITHOUT_CONTENTS: &str = "--without-contents";
-
-// The word that prints a report as JSON.
-const JSON: &str = "--json";
-
-// The word that makes every finding fail a check.
-const STRICT: &str = "--strict";
-
-/// Which findings make a check fail.
-#[derive(Clone, Copy, Debug, PartialEq, Eq)]
-pub enum Strictness {
-    /// Those that make a map invalid.
-    Usual,
-    /// All findings.
-    Strict,
-}
 
 /// A command of the program, with its arguments. Positions are kept counted from 0.
 #[derive(Debug, PartialEq, Eq, Drop)]
@@ -52,8 +38,9 @@ pub enum Command {
     /// `compile`, `compile --without-contents`: the compiled map, with or without the contents of
     /// its sources.
     Compile(WithContents),
-    /// `check`, `check --json`, `check --strict`, `check --json --strict`: the findings in the map.
-    Check(Form, Strictness),
+    /// `check`, then any of `--json`, `--strict`, `--generated FILE`, `--sources DIR` in this order:
+    /// the findings in the map.
+    Check(Checking),
 }
 
 // Accepts only decimal digits. `parse` alone would also accept a `+` before them.
@@ -115,35 +102,21 @@ fn compile_command(word: &str) -> Option<Command>
     Some(Command::Compile(WithContents::No))
 }
 
-fn check_command(word: &str) -> Option<Command>
-    ensures { MatchOption result
-        ((command : _) → ¬ AskFor (codes "check" ∷ word.now ∷ []) command)
-        (AskFor (codes "check" ∷ word.now ∷ [])) }
+fn check_command(alloc: Global, options: &[String]) -> Result<Option<Command>>
+    ensures { MatchResult result
+        (λ found. MatchOption found
+        ((command : _) → ¬ AskFor (codes "check" ∷ map string_bytes options.now) command)
+        (AskFor (codes "check" ∷ map string_bytes options.now)))
+        (λ e. e ≡ OutOfMemory) }
 {
-    if word == JSON {
-        return Some(Command::Check(Form::Json, Strictness::Usual));
+    match parse_checking(alloc, options)? {
+        Some(checking) => Ok(Some(Command::Check(checking))),
+        None => Ok(None),
     }
-    if word == STRICT {
-        return Some(Command::Check(Form::Lines, Strictness::Strict));
-    }
-    None
-}
-
-fn strict_json_command(first: &str, second: &str) -> Option<Command>
-    ensures { MatchOption result
-        ((command : _) → ¬ AskFor (codes "check" ∷ first.now ∷ second.now ∷ []) command)
-        (AskFor (codes "check" ∷ first.now ∷ second.now ∷ [])) }
-{
-    if first != JSON {
-        return None;
-    }
-    if second != STRICT {
-        return None;
-    }
-    Some(Command::Check(Form::Json, Strictness::Strict))
 }
 
 fn parse_verb(verb: &str) -> Option<Command>
+    requires { verb.now ≢ codes "check" }
     ensures { MatchOption result
         ((command : _) → ¬ AskFor (verb.now ∷ []) command)
         (AskFor (verb.now ∷ [])) }
@@ -153,12 +126,12 @@ fn parse_verb(verb: &str) -> Option<Command>
         "rewrite" => Some(Command::Rewrite),
         "flatten" => Some(Command::Flatten),
         "compile" => Some(Command::Compile(WithContents::Yes)),
-        "check" => Some(Command::Check(Form::Lines, Strictness::Usual)),
         _ => None,
     }
 }
 
 fn parse_verb_and_argument(alloc: Global, verb: &str, argument: &str) -> Result<Option<Command>>
+    requires { verb.now ≢ codes "check" }
     ensures { MatchResult result
         (λ found. MatchOption found
         ((command : _) → ¬ AskFor (verb.now ∷ argument.now ∷ []) command)
@@ -170,7 +143,6 @@ fn parse_verb_and_argument(alloc: Global, verb: &str, argument: &str) -> Result<
         "shift" => Ok(shift_command(argument)),
         "trace" => trace_command(alloc, Counting::From0, argument),
         "compile" => Ok(compile_command(argument)),
-        "check" => Ok(check_command(argument)),
         _ => Ok(None),
     }
 }
@@ -181,6 +153,7 @@ fn parse_verb_and_two(
     first: &str,
     second: &str,
 ) -> Result<Option<Command>>
+    requires { verb.now ≢ codes "check" }
     ensures { MatchResult result
         (λ found. MatchOption found
         ((command : _) → ¬ AskFor (verb.now ∷ first.now ∷ second.now ∷ []) command)
@@ -195,12 +168,12 @@ fn parse_verb_and_two(
             }
             trace_command(alloc, Counting::From1, second)
         }
-        "check" => Ok(strict_json_command(first, second)),
         _ => Ok(None),
     }
 }
 
 fn parse_verb_and_three(verb: &str, flag: &str, line: &str, col: &str) -> Option<Command>
+    requires { verb.now ≢ codes "check" }
     ensures { MatchOption result
         ((command : _) → ¬ AskFor (verb.now ∷ flag.now ∷ line.now ∷ col.now ∷ []) command)
         (AskFor (verb.now ∷ flag.now ∷ line.now ∷ col.now ∷ [])) }
@@ -214,10 +187,8 @@ fn parse_verb_and_three(verb: &str, flag: &str, line: &str, col: &str) -> Option
     lookup_command(Counting::From1, line, col)
 }
 
-/// Parses the arguments of a run. Returns `None` if they are no command. LINE, COL and ROWS are
-/// decimal numbers below 2^32, of digits only. After `--from-1`, LINE and COL are from 1 to 2^32.
-/// FILE is any word; for `trace`, any word but `--from-1`. The only error is `OutOfMemory`.
-pub fn parse_words(alloc: Global, words: &[String]) -> Result<Option<Command>>
+fn parse_others(alloc: Global, words: &[String]) -> Result<Option<Command>>
+    requires { slice_index_or (map string_bytes words.now) 0 [] ≢ codes "check" }
     ensures { MatchResult result
         (λ found. MatchOption found
         ((command : _) → ¬ AskFor (map string_bytes words.now) command)
@@ -237,6 +208,22 @@ pub fn parse_words(alloc: Global, words: &[String]) -> Result<Option<Command>>
             col.as_str(),
         )),
         _ => Ok(None),
+    }
+}
+
+/// Parses the arguments of a run. Returns `None` if they are no command. LINE, COL and ROWS are
+/// decimal numbers below 2^32, of digits only. After `--from-1`, LINE and COL are from 1 to 2^32.
+/// FILE and DIR are any word; for `trace`, any word but `--from-1`. The only error is `OutOfMemory`.
+pub fn parse_words(alloc: Global, words: &[String]) -> Result<Option<Command>>
+    ensures { MatchResult result
+        (λ found. MatchOption found
+        ((command : _) → ¬ AskFor (map string_bytes words.now) command)
+        (AskFor (map string_bytes words.now)))
+        (λ e. e ≡ OutOfMemory) }
+{
+    match words.split_first() {
+        Some((verb, options)) if verb.as_str() == "check" => check_command(alloc, options),
+        _ => parse_others(alloc, words),
     }
 }
 

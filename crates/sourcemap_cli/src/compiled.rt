@@ -37,7 +37,7 @@ pub(crate) fn is_applied(command: &Command, bytes: &[u8]) -> bool
         Command::Lookup(_, _, _) => !is_compiled(bytes),
         Command::Trace(_, _) => !is_compiled(bytes),
         Command::Compile(_) => false,
-        Command::Check(_, _) => false,
+        Command::Check(_) => false,
         _ => true,
     }
 }

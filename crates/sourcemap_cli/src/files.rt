@@ -3,6 +3,7 @@ ghost use Rattle.sourcemap.specs.Answer.{IsAnswer};
 ghost use Rattle.sourcemap.specs.AnyMap.{map_tree};
 ghost use Rattle.sourcemap_cli.specs.Program.{FileDecodes, MayBeRead, file_read};
 
+use crate::checking::Checking;
 use crate::command::Command;
 use sourcemap::decoder::decode_vec;
 use sourcemap::{DecodedMap, Result};
@@ -11,11 +12,21 @@ use std::alloc::Global;
 use std::fs;
 use std::rt::Files;
 
-fn read_file<F: Files>(rt: &F, alloc: Global, path: &str) -> Result<Vec<u8>>
+/// Reads a file.
+pub(crate) fn read_file<F: Files>(rt: &F, alloc: Global, path: &str) -> Result<Vec<u8>>
     ensures { MayBeRead (file_read result) }
 {
     let file = fs::open(rt, path)?;
     read_all(alloc, file)
+}
+
+fn read_generated<F: Files>(rt: &F, alloc: Global, checking: &Checking) -> Result<Vec<u8>>
+    ensures { MayBeRead (file_read result) }
+{
+    match &checking.generated {
+        Some(path) => read_file(rt, alloc, path.as_str()),
+        None => Ok(Vec::new(alloc)),
+    }
 }
 
 /// Returns the bytes of the file that the command names, or the error of reading it; no bytes if
@@ -26,6 +37,7 @@ pub fn read_command_file<F: Files>(rt: &F, alloc: Global, command: &Command) -> 
     match command {
         Command::Compose(path) => read_file(rt, alloc, path.as_str()),
         Command::Trace(_, path) => read_file(rt, alloc, path.as_str()),
+        Command::Check(checking) => read_generated(rt, alloc, checking),
         _ => Ok(Vec::new(alloc)),
     }
 }

@@ -2,6 +2,8 @@
 //! nothing of how maps are stored, and nothing of the process but its words, files and streams.
 #![tactic(auto)]
 
+pub mod checking;
+mod checks;
 pub mod command;
 pub mod compiled;
 mod files;

@@ -208,6 +208,6 @@ pub fn apply<F: Files>(
         Command::Shift(rows) => shifted_json(alloc, map, *rows),
         Command::Trace(_, _) => Err(Error::IncompatibleSourceMap),
         Command::Compile(_) => Err(Error::IncompatibleSourceMap),
-        Command::Check(_, _) => Err(Error::IncompatibleSourceMap),
+        Command::Check(_) => Err(Error::IncompatibleSourceMap),
     }
 }

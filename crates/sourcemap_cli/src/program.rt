@@ -1,5 +1,5 @@
 //! A run of the program: from words and input to a reply, which is a text and an exit status.
-ghost use Rattle.std.specs.Prelude.{◌≡◌, false, if◌then◌else◌, ℕ, List, Result, IfErr, IfOk, MatchResult, map, string_bytes};
+ghost use Rattle.std.specs.Prelude.{◌≡◌, false, ℕ, List, Result, IfErr, IfOk, MatchResult, map, string_bytes};
 ghost use Rattle.std.specs.Io.KnownBytes.{Appends};
 ghost use Rattle.sourcemap.specs.Answer.{IsAnswer};
 ghost use Rattle.sourcemap.specs.AnyMap.{map_tree};
@@ -16,8 +16,9 @@ ghost use Rattle.sourcemap_cli.specs.Command.{IsQuestion};
 ghost use Rattle.sourcemap_cli.specs.Lines.{IsLineOf};
 ghost use Rattle.sourcemap_cli.specs.declared.command.Command.TheVariants.{Compile, Compose};
 ghost use Rattle.sourcemap_cli.specs.declared.program.Reply.{Reply};
-ghost use Rattle.sourcemap_cli.specs.Program.{AreApplied, AskForNone, Ending, Ends, IsCheckReply, IsCompileReply, IsCutShort, IsPrinted, IsRefusedReply, IsReply, IsReplyOf, IsReplyTo, IsWriteError, PrintsRefusal, RepliesOn, ReturnsElse, ReturnsOnBytes, ReturnsWithFile, Runs, WithFile, file_read, is_applied, misused, traced};
+ghost use Rattle.sourcemap_cli.specs.Program.{AreApplied, AskForNone, Ending, Ends, IsCompileReply, IsCutShort, IsPrinted, IsRefusedReply, IsReply, IsReplyOf, IsReplyTo, IsWriteError, PrintsRefusal, RepliesOn, ReturnsElse, ReturnsOnBytes, ReturnsWithFile, Runs, WithFile, file_read, is_applied, misused, traced};
 
+use crate::checks::check_reply;
 use crate::command::{Command, parse_words};
 use crate::compiled::{compiled_line, is_applied, sound_map};
 use crate::files::{decode_file, read_command_file};
@@ -27,7 +28,6 @@ use sourcemap::{DecodedMap, Error, Result};
 use sourcemap_cache::compiling::compile;
 use sourcemap_cache::errors::CompileError;
 use sourcemap_cache::parts::WithContents;
-use sourcemap_check_print::print::{CheckText, Form, check_text};
 use sourcemap_compiled::map::CompiledMap;
 use sourcemap_records::bytes::read_all;
 use sourcemap_trace::{AskedMap, Counting, trace_text_from};
@@ -38,7 +38,7 @@ use std::result;
 use std::rt::Files;
 
 const USAGE: &str =
-    "usage: lookup [--from-1] LINE COL | tokens | rewrite | flatten | compose FILE | shift ROWS | trace [--from-1] FILE | compile [--without-contents] | check [--json] [--strict]\n";
+    "usage: lookup [--from-1] LINE COL | tokens | rewrite | flatten | compose FILE | shift ROWS | trace [--from-1] FILE | compile [--without-contents] | check [--json] [--strict] [--generated FILE] [--sources DIR]\n";
 
 const NO_MEMORY: &str = "out of memory\n";
 
@@ -132,7 +132,7 @@ fn error_line<E: Display>(alloc: Global, error: &E) -> Result<String>
     Ok(text)
 }
 
-fn into_reply(alloc: Global, answer: Result<String>) -> Result<Reply>
+pub(crate) fn into_reply(alloc: Global, answer: Result<String>) -> Result<Reply>
     ensures { MatchResult result (IsReplyOf answer) (λ e. e ≡ OutOfMemory) }
 {
     match answer {
@@ -145,7 +145,7 @@ fn into_reply(alloc: Global, answer: Result<String>) -> Result<Reply>
     }
 }
 
-fn text_reply(text: String, status: u8) -> Reply
+pub(crate) fn text_reply(text: String, status: u8) -> Reply
     ensures output { result.output.items ≡ string_bytes text }
     ensures status { result.status ≡ status }
 {
@@ -194,20 +194,6 @@ fn compile_reply(alloc: Global, bytes: Vec<u8>, contents: WithContents) -> Resul
     }
 }
 
-fn check_reply(alloc: Global, bytes: &[u8], form: Form) -> Result<Reply>
-    ensures { MatchResult result (IsCheckReply form bytes.now) (λ e. e ≡ OutOfMemory) }
-{
-    let report = check_text(alloc, bytes, form)?;
-    let CheckText { text, is_valid } = report;
-    Ok(text_reply(text, validity_status(is_valid)))
-}
-
-fn validity_status(is_valid: bool) -> u8
-    ensures { result ≡ (if is_valid then 0 else 1) }
-{
-    if is_valid { 0 } else { 1 }
-}
-
 // The answer of a compiled map.
 fn ask(
     alloc: Global,
@@ -248,7 +234,8 @@ fn compiled_reply(
     }
 }
 
-fn reply_without_map(
+fn reply_without_map<F: Files>(
+    rt: &F,
     alloc: Global,
     command: &Command,
     bytes: Vec<u8>,
@@ -261,26 +248,27 @@ fn reply_without_map(
 {
     match command {
         Command::Compile(contents) => compile_reply(alloc, bytes, *contents),
-        Command::Check(form, _) => check_reply(alloc, bytes.as_slice(), *form),
+        Command::Check(checking) => check_reply(rt, alloc, checking, bytes.as_slice(), file),
         command => compiled_reply(alloc, command, bytes.as_slice(), file),
     }
 }
 
 /// Returns the reply of a run. `words` are the arguments, and `bytes` is the map as JSON text; for
 /// `Lookup` and `Trace` it may be a compiled map, which begins with the byte 8F and `SMC`. `file`
-/// is the bytes of the file that `Compose` or `Trace` names, or the error of reading that file.
-/// Other commands ignore `file`.
+/// is the bytes of the file that `Compose`, `Trace` or `Check` names, or the error of reading that
+/// file. Other commands ignore `file`. `Check` reads the files of sources by itself.
 ///
 /// - Status 0: the output of the command, as returned by `apply`, for `Trace` by `trace_text_from`,
 ///   for `Compile` by `sourcemap_cache::compile`, and for `Check` by `check_text` of
-///   `sourcemap_check_print`, if the map is valid. All findings are of invalid maps so far, so
-///   `Strictness` changes nothing.
+///   `sourcemap_check_print`, if the check passes: if the map is valid, and for `Strict` nothing
+///   looks wrong.
 /// - Status 1: the text of the first error and a newline. Errors are checked in this order:
 ///   `decode_slice` returns an error for `bytes`; the file could not be read; the file of `Compose`
 ///   does not decode; the command returns an error. An `Io` error says that a junk header is
 ///   invalid, or that the file could not be read. std does not specify the text of an `Io` error.
 ///   A compiled map is refused with the error of `CompiledMap::parse` or of `verify`.
-///   For `Check`, 1 also says that the map is not valid; the output is the report all the same.
+///   For `Check`, 1 also says that the check fails; the output is the report all the same. A
+///   generated text that is not UTF-8 is an error.
 /// - Status 2: the usage, for words that are no command.
 ///
 /// The only error is `OutOfMemory`. No reply reports this error, even if `file` is
@@ -321,7 +309,7 @@ fn reply_to_command<F: Files>(
         (λ e. e ≡ OutOfMemory) }
 {
     if !is_applied(command, bytes.as_slice()) {
-        return reply_without_map(alloc, command, bytes, file);
+        return reply_without_map(rt, alloc, command, bytes, file);
     }
     let answer = execute_on_bytes(rt, alloc, command, bytes, file);
     into_reply(alloc, answer)
@@ -340,7 +328,7 @@ fn reply_and_read_file<F: Files>(
 {
     if !is_applied(command, bytes.as_slice()) {
         let file = read_command_file(rt, alloc, command);
-        return reply_without_map(alloc, command, bytes, file);
+        return reply_without_map(rt, alloc, command, bytes, file);
     }
     let answer = execute_and_read_file(rt, alloc, command, bytes);
     into_reply(alloc, answer)

@@ -1,8 +1,8 @@
 //! Blocks of packed tokens.
-ghost use Rattle.std.specs.Prelude.{◌≡◌, ℕ, ◌≤◌, ◌<◌, ◌+◌, ◌-◌, ◌*◌, ◌/◌, ◌%◌, ◌^◌, length};
-ghost use Rattle.sourcemap_compiled.specs.Blocks.{base_at, packed_at, position_in, scope_field, token_in, value_at};
+ghost use Rattle.std.specs.Prelude.{◌≡◌, ℕ, ◌≤◌, ◌<◌, ◌+◌, ◌*◌, ◌/◌, ◌%◌, ◌^◌, IsTrue, length};
+ghost use Rattle.sourcemap_compiled.specs.Blocks.{base_at, field_at, packed_at, position_in, scope_field};
 ghost use Rattle.sourcemap_compiled.specs.Blocks.{width_at, widths_before};
-ghost use Rattle.sourcemap_compiled.specs.Numbers.{position_number};
+ghost use Rattle.sourcemap_compiled.specs.Numbers.{position_number, u32_at};
 
 use crate::numbers::{bits_at, u32_at};
 use sourcemap_tokens::tokens::RawToken;
@@ -30,6 +30,9 @@ pub(crate) const BLOCK_SIZE: usize = 64;
 // Where the widths of the fields are in a head.
 const WIDTHS: usize = 24;
 
+// No body has more bytes: eight fields of 64 numbers, each of 63 bits.
+const LONGEST_BODY: usize = 8 * 8 * 63;
+
 /// A block: the bytes of the file, where the block starts, and where its head is in the bytes.
 #[derive(Clone, Copy)]
 pub(crate) struct Block<'a> {
@@ -39,15 +42,18 @@ pub(crate) struct Block<'a> {
     ghost whole: { head + 32 ≤ length bytes.now },
 }
 
-/// The numbers of a field in the body of a block: where they start, and the bits of each number.
+/// The numbers of a field in the body of a block: where they start, the bits of each number, and
+/// whether all are known to be inside the file.
 #[derive(Clone, Copy)]
 struct Field<'a> {
     bytes: &'a [u8],
     start: usize,
     width: usize,
+    inside: bool,
     ghost long: { 8 ≤ length bytes.now },
     ghost near: { start < 2 ^ 40 },
     ghost narrow: { width < 64 },
+    ghost within: { IsTrue inside → start + 8 * width + 8 ≤ length bytes.now },
 }
 
 /// What all generated positions of a block are read from: the bases of lines and columns, and the
@@ -69,25 +75,48 @@ pub(crate) struct Bracket {
 }
 
 impl<'a> Block<'a> {
-    ghost use Rattle.sourcemap_compiled.specs.Stored.{number_in, position_by};
+    ghost use Rattle.sourcemap_compiled.specs.Stored.{IsBracket, number_in, placed_token, position_by};
 
     /// Returns the token at a place, whose generated position is known.
     #[inline(always)]
     pub(crate) fn token(&self, place: usize, position: u64) -> RawToken
         requires { place < 64 }
-        ensures { result ≡ record (token_in self.now.bytes.now (self.now.start / 2 ^ 32) self.now.head place) {
-          dst_line = position / 2 ^ 32;
-          dst_col = position % 2 ^ 32;
-        } }
+        ensures { result ≡ placed_token self.now.bytes.now self.now.start self.now.head place position }
+    {
+        if self.is_inside() {
+            self.read_token(place, position, true)
+        } else {
+            let block = *self;
+            RawToken {
+                ..block.token_at_end(place, position)
+            }
+        }
+    }
+
+    // Returns a token of a block whose body may pass the end of the file.
+    #[cold]
+    #[inline(never)]
+    fn token_at_end(self, place: usize, position: u64) -> RawToken
+        requires { place < 64 }
+        ensures { result ≡ placed_token self.entry.bytes.now self.entry.start self.entry.head place position }
+    {
+        self.read_token(place, position, false)
+    }
+
+    #[inline(always)]
+    fn read_token(&self, place: usize, position: u64, inside: bool) -> RawToken
+        requires place { place < 64 }
+        requires inside { IsTrue inside → u32_at self.now.bytes.now self.now.head + 4040 ≤ length self.now.bytes.now }
+        ensures { result ≡ placed_token self.now.bytes.now self.now.start self.now.head place position }
     {
         RawToken {
             dst_line: (position >> 32) as u32,
             dst_col: (position % (1 << 32)) as u32,
-            src_line: self.value(self.base(SOURCE_LINE), SOURCE_LINE, place),
-            src_col: self.value(self.base(SOURCE_COLUMN), SOURCE_COLUMN, place),
-            src_id: self.value(self.base(SOURCE), SOURCE, place),
-            name_id: self.value(self.base(NAME), NAME, place),
-            is_range: self.packed(RANGE, place) > 0,
+            src_line: self.value(SOURCE_LINE, place, inside),
+            src_col: self.value(SOURCE_COLUMN, place, inside),
+            src_id: self.value(SOURCE, place, inside),
+            name_id: self.value(NAME, place, inside),
+            is_range: self.packed(RANGE, place, inside) > 0,
         }
     }
 
@@ -96,20 +125,21 @@ impl<'a> Block<'a> {
         requires { place < 64 }
         ensures { result ≡ packed_at self.now.bytes.now self.now.head scope_field place }
     {
-        self.packed(SCOPE, place)
+        self.packed(SCOPE, place, false)
     }
 
     /// Returns what the generated positions of the tokens at places other than 0 are read from.
     #[inline(always)]
-    pub(crate) fn positions(&self) -> Positions<'a>
+    pub(crate) fn positions(&self, inside: bool) -> Positions<'a>
+        requires { IsTrue inside → u32_at self.now.bytes.now self.now.head + 4040 ≤ length self.now.bytes.now }
         ensures { (place : ℕ) → position_by result place
             ≡ position_in self.now.bytes.now (self.now.start / 2 ^ 32) self.now.head place }
     {
         Positions {
             line: self.line(),
             column: self.base(COLUMN),
-            lines: self.field(LINE),
-            columns: self.field(COLUMN),
+            lines: self.field(LINE, inside),
+            columns: self.field(COLUMN, inside),
         }
     }
 
@@ -122,24 +152,46 @@ impl<'a> Block<'a> {
         requires few { size ≤ 64 }
         requires some { 0 < size }
         requires starts { self.now.start < position }
-        ensures within { result.index ≤ size }
-        ensures later { 0 < result.index }
-        ensures first { result.index ≡ 1 → result.ahead ≡ self.now.start }
-        ensures ahead { 1 < result.index → result.ahead
-            ≡ position_in self.now.bytes.now (self.now.start / 2 ^ 32) self.now.head (result.index - 1) }
-        ensures next { result.index < size → result.next
-            ≡ position_in self.now.bytes.now (self.now.start / 2 ^ 32) self.now.head result.index }
-        ensures end { result.index ≡ size → result.next ≡ after }
-        ensures before { result.ahead < position }
-        ensures from { result.index < size → position ≤ result.next }
+        ensures { IsBracket self.now.bytes.now self.now.start self.now.head size position after result }
     {
-        let positions = self.positions();
+        if self.is_inside() {
+            self.search_places(size, position, after, true)
+        } else {
+            let block = *self;
+            Bracket {
+                ..block.search_at_end(size, position, after)
+            }
+        }
+    }
+
+    // Searches a block whose body may pass the end of the file. Such a body is rare, and apart from
+    // it no read of a search tests for the end.
+    #[cold]
+    #[inline(never)]
+    fn search_at_end(self, size: usize, position: u64, after: u64) -> Bracket
+        requires few { size ≤ 64 }
+        requires some { 0 < size }
+        requires starts { self.start < position }
+        ensures { IsBracket self.entry.bytes.now self.entry.start self.entry.head size position after result }
+    {
+        self.search_places(size, position, after, false)
+    }
+
+    #[inline(always)]
+    fn search_places(&self, size: usize, position: u64, after: u64, inside: bool) -> Bracket
+        requires few { size ≤ 64 }
+        requires some { 0 < size }
+        requires starts { self.now.start < position }
+        requires inside { IsTrue inside → u32_at self.now.bytes.now self.now.head + 4040 ≤ length self.now.bytes.now }
+        ensures { IsBracket self.now.bytes.now self.now.start self.now.head size position after result }
+    {
+        let positions = self.positions(inside);
         let mut low = 1;
         let mut high = size;
         let mut ahead = self.start;
         let mut next = after;
         while low < high {
-            let middle = low + (high - low) / 2;
+            let middle = (low + high) / 2;
             let here = positions.at(middle);
             if here < position {
                 low = middle + 1;
@@ -156,6 +208,14 @@ impl<'a> Block<'a> {
         }
     }
 
+    // Whether the body is inside the file, however long it is.
+    #[inline(always)]
+    fn is_inside(&self) -> bool
+        ensures { IsTrue result → u32_at self.now.bytes.now self.now.head + 4040 ≤ length self.now.bytes.now }
+    {
+        u32_at(self.bytes, self.head) as usize + LONGEST_BODY + 8 <= self.bytes.len()
+    }
+
     // The line in which the block starts.
     #[inline(always)]
     fn line(&self) -> u32
@@ -165,28 +225,31 @@ impl<'a> Block<'a> {
     }
 
     #[inline(always)]
-    fn value(&self, base: u32, field: usize, place: usize) -> u32
+    fn value(&self, field: usize, place: usize, inside: bool) -> u32
         requires field { field < 8 }
         requires place { place < 64 }
-        ensures { result ≡ value_at self.now.bytes.now base self.now.head field place }
+        requires inside { IsTrue inside → u32_at self.now.bytes.now self.now.head + 4040 ≤ length self.now.bytes.now }
+        ensures { result ≡ field_at self.now.bytes.now self.now.head field place }
     {
-        add(base, self.packed(field, place))
+        add(self.base(field), self.packed(field, place, inside))
     }
 
     #[inline(always)]
-    fn packed(&self, field: usize, place: usize) -> u64
+    fn packed(&self, field: usize, place: usize, inside: bool) -> u64
         requires field { field < 8 }
         requires place { place < 64 }
+        requires inside { IsTrue inside → u32_at self.now.bytes.now self.now.head + 4040 ≤ length self.now.bytes.now }
         ensures number { result ≡ packed_at self.now.bytes.now self.now.head field place }
         ensures small { result < 2 ^ 63 }
     {
-        self.field(field).number(place)
+        self.field(field, inside).number(place)
     }
 
     #[inline(always)]
     #[tactic(auto, unfolding(crate::specs::Blocks::packed_at))]
-    fn field(&self, field: usize) -> Field<'a>
-        requires { field < 8 }
+    fn field(&self, field: usize, inside: bool) -> Field<'a>
+        requires field { field < 8 }
+        requires inside { IsTrue inside → u32_at self.now.bytes.now self.now.head + 4040 ≤ length self.now.bytes.now }
         ensures { (place : ℕ) → number_in result place
             ≡ packed_at self.now.bytes.now self.now.head field place }
     {
@@ -195,6 +258,7 @@ impl<'a> Block<'a> {
             bytes: self.bytes,
             start: u32_at(self.bytes, self.head) as usize + 8 * self.widths_before(field),
             width,
+            inside,
         }
     }
 
@@ -220,7 +284,7 @@ impl<'a> Block<'a> {
     fn widths_before(&self, field: usize) -> usize
         requires { field < 8 }
         ensures sum { result ≡ widths_before self.now.bytes.now self.now.head field }
-        ensures few { result < 64 * 8 }
+        ensures few { result ≤ 63 * field }
     {
         let mut sum = 0;
         for before in 0..field {
@@ -249,7 +313,13 @@ impl Field<'_> {
         ensures value { result ≡ number_in self.now place }
         ensures small { result < 2 ^ 63 }
     {
-        bits_at(self.bytes, self.start, place * self.width, self.width)
+        bits_at(
+            self.bytes,
+            self.start,
+            place * self.width,
+            self.width,
+            self.inside,
+        )
     }
 }
 
@@ -264,9 +334,11 @@ impl Positions<'_> {
     {
         // The tokens of most blocks are on one line, and then no line is read. Columns differ, so
         // a test for no bits would cost more than it saves.
-        let line = add(self.line, self.lines.number(place));
+        let lines = self.lines.number(place) << 32;
         let column = add(self.column, self.columns.read(place));
-        position_number(line, column)
+        lines
+            .wrapping_add(position_number(self.line, 0))
+            .wrapping_add(u64::from(column))
     }
 }
 
@@ -280,6 +352,7 @@ fn add(base: u32, number: u64) -> u32
 }
 
 /// Returns a position as one number.
+#[inline(always)]
 pub(crate) fn position_number(line: u32, column: u32) -> u64
     ensures { result ≡ position_number (line, column) }
 {

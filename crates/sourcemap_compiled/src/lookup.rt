@@ -39,6 +39,8 @@ impl<'a> CompiledMap<'a> {
     /// order. In a file out of order, the result is a token at the position, with the token ahead of
     /// it elsewhere, or a token before the position, with the next token after it; `None` only if
     /// the first token is after the position.
+    // A call would write its result to memory, for its caller to read.
+    #[inline(always)]
     pub fn lookup_token(&self, line: u32, column: u32) -> Option<CompiledToken<'a>>
         ensures value { IsInOrder (bytes_of self.now)
             → option_map token_value result ≡ lookup (bytes_of self.now) (line, column) }
@@ -61,6 +63,7 @@ impl<'a> CompiledMap<'a> {
 }
 
 // The columns from a range token to a position on its line; 0 for any other token.
+#[inline(always)]
 fn distance(token: &RawToken, line: u32, column: u32) -> u32
     ensures { result ≡ distance token.now (line, column) }
 {

@@ -68,6 +68,7 @@ impl<'a> CompiledMap<'a> {
     }
 
     /// The number of tokens.
+    #[inline(always)]
     pub fn token_count(&self) -> u32
         ensures { result ≡ token_count (bytes_of self.now) }
     {
@@ -102,6 +103,7 @@ impl<'a> CompiledMap<'a> {
     }
 
     /// Returns where the tables begin.
+    #[inline(always)]
     pub(crate) fn tables(&self) -> usize
         ensures value { result ≡ tables_start (bytes_of self.now) }
         ensures small { result < 2 ^ 32 }
@@ -109,6 +111,7 @@ impl<'a> CompiledMap<'a> {
         u32_at(self.bytes, TABLES) as usize
     }
 
+    #[inline(always)]
     pub(crate) fn block_count(&self) -> usize
         ensures value { result ≡ block_count (bytes_of self.now) }
         ensures few { result ≤ 2 ^ 26 }
@@ -180,7 +183,7 @@ impl<'a> CompiledMap<'a> {
         let block = self.block(index / BLOCK_SIZE);
         let place = index % BLOCK_SIZE;
         if place > 0 {
-            block.positions().at(place)
+            block.positions(false).at(place)
         } else {
             block.start
         }

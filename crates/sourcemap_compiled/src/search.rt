@@ -79,7 +79,7 @@ impl CompiledMap<'_> {
         let mut low = 0;
         let mut high = self.block_count();
         while low < high {
-            let middle = low + (high - low) / 2;
+            let middle = (low + high) / 2;
             if self.start(middle) < position {
                 low = middle + 1;
             } else {

@@ -2,8 +2,7 @@
 use crate::memory::unless_out;
 use sourcemap::decode_slice;
 use sourcemap_cache::WithContents;
-use sourcemap_check_print::Form;
-use sourcemap_cli::command::{Command, Strictness, parse_words};
+use sourcemap_cli::command::{Command, parse_words};
 use sourcemap_cli::output::apply;
 use sourcemap_cli::program::{reply_to, run};
 use sourcemap_trace::Counting;
@@ -14,7 +13,7 @@ pub const MAP: &str =
     r#"{"version":3,"sources":["coolstuff.js"],"names":["x","alert"],"mappings":"AAAA,GAAIA,GAAI,EACR,IAAIA,GAAK,EAAG,CACVC,MAAM"}"#;
 
 pub const USAGE: &str =
-    "usage: lookup [--from-1] LINE COL | tokens | rewrite | flatten | compose FILE | shift ROWS | trace [--from-1] FILE | compile [--without-contents] | check [--json] [--strict]\n";
+    "usage: lookup [--from-1] LINE COL | tokens | rewrite | flatten | compose FILE | shift ROWS | trace [--from-1] FILE | compile [--without-contents] | check [--json] [--strict] [--generated FILE] [--sources DIR]\n";
 
 // Words, a map, and the status and output of the run.
 pub const RUNS: &str = r#"lookup 0 5|MAP|0 coolstuff.js:0:4 name=x
@@ -171,6 +170,15 @@ check --lines
 check --strict --json
 check --json --json
 check --json --strict --strict
+check --generated
+check --generated a.js --json
+check --strict --json --generated a.js
+check --json --generated
+check --sources
+check --sources src --generated a.js
+check --generated --sources src
+check --sources src --json
+check --generated a.js --sources src --strict
 --json check
 Check";
 
@@ -278,7 +286,7 @@ fn junk_headers_are_recognised(rt: HostRuntime) -> Result<(), Fail> {
 }
 
 // Whether words parse to this command.
-fn ask_for(alloc: Global, line: &str, command: Option<Command>) -> Result<bool, Fail> {
+pub fn ask_for(alloc: Global, line: &str, command: Option<Command>) -> Result<bool, Fail> {
     let words = words_of(alloc, line)?;
     Ok(parse_words(alloc, words.as_slice())? == command)
 }
@@ -316,14 +324,6 @@ fn words_ask_for_commands(rt: HostRuntime) -> Result<(), Fail> {
     assert!(rt; ask_for(alloc, "compile", Some(command))?);
     let command = Command::Compile(WithContents::No);
     assert!(rt; ask_for(alloc, "compile --without-contents", Some(command))?);
-    let command = Command::Check(Form::Lines, Strictness::Usual);
-    assert!(rt; ask_for(alloc, "check", Some(command))?);
-    let command = Command::Check(Form::Json, Strictness::Usual);
-    assert!(rt; ask_for(alloc, "check --json", Some(command))?);
-    let command = Command::Check(Form::Lines, Strictness::Strict);
-    assert!(rt; ask_for(alloc, "check --strict", Some(command))?);
-    let command = Command::Check(Form::Json, Strictness::Strict);
-    assert!(rt; ask_for(alloc, "check --json --strict", Some(command))?);
     assert!(rt; ask_for(alloc, "tokens tokens", None)?);
     Ok(())
 }

@@ -24,15 +24,15 @@ BLOCK = 256
 _SMALL = 1 << 16
 _NUMBER = re.compile(r'[ \t\n\v\f\r]*[+-]?[0-9]{1,25}[ \t\n\v\f\r]*')
 _LARGEST = (1 << 63) - 1
+_IS_SPECIAL = np.array([SPECIAL.match(bytes([letter])) is not None for letter in range(256)])
 
 
 class _Cells(NamedTuple):
     """A column that is ready to be written: for each row the number of its bytes, with the comma or newline that
-    follows. The numbers count from `least`."""
+    follows. The last of them have the number -1."""
 
     codes: Codes
     rendered: NDArray[np.object_]
-    least: int
 
 
 def answer_rows(data: bytes, names: Sequence[str], release: Release, base: int, file: BinaryIO) -> Answers:
@@ -67,7 +67,7 @@ def _read(data: bytes, names: Sequence[str]) -> pd.DataFrame:
     type, else texts. All else are texts, also the empty ones."""
     types = {place: {'file': 'category', 'debug_id': 'category'}.get(name, str) for place, name in enumerate(names)}
     numbers = [place for place, name in enumerate(names) if name in ('line', 'column')]
-    if not data.strip():
+    if not data or data.isspace():
         return pd.DataFrame({place: pd.Series(dtype=object) for place in types})
     # pandas tries int64 first. What it takes for floats or truth values is read as texts
     table = _parse(data, len(names), {place: kind for place, kind in types.items() if place not in numbers})
@@ -106,27 +106,12 @@ def _plain(text: str) -> str:
 
 def _write(file: BinaryIO, columns: List[Any], count: int) -> None:
     cells = _cells_of(columns)
-    numbers, all_cells = _numbered(cells)
-    block = np.empty((BLOCK, len(cells)), np.intp)
+    block = np.empty((BLOCK, len(cells)), object)
     for first in range(0, count, BLOCK):
         rows = block[:min(BLOCK, count - first)]
-        for place, (codes, _, _) in enumerate(cells):
-            np.add(codes[first:first + BLOCK], numbers[place], out=rows[:, place])
-        file.write(b''.join(all_cells[rows.ravel()].tolist()))
-
-
-def _numbered(cells: List[_Cells]) -> Tuple[List[int], NDArray[np.object_]]:
-    """What is added to the codes of each column to find its bytes among those of all columns, and these. Columns may
-    share what is rendered."""
-    firsts: Dict[int, int] = {}
-    rendered: List[NDArray[np.object_]] = []
-    end = 0
-    for each in cells:
-        if id(each.rendered) not in firsts:
-            firsts[id(each.rendered)] = end
-            rendered.append(each.rendered)
-            end += len(each.rendered)
-    return [firsts[id(each.rendered)] - each.least for each in cells], np.concatenate(rendered)
+        for place, (codes, rendered) in enumerate(cells):
+            rows[:, place] = rendered[codes[first:first + BLOCK]]
+        file.write(b''.join(rows.ravel().tolist()))
 
 
 def _cells_of(columns: List[Any]) -> List[_Cells]:
@@ -148,14 +133,14 @@ def _cells(column: Any, end: bytes) -> _Cells:
         return _number_cells(column, end)
     if isinstance(column, _Last):
         return _last_cells(column, end)
-    return _Cells(column.codes, _objects([end, *_fields(column.texts, end, False)]), -1)
+    return _Cells(column.codes, _objects([*_fields(column.texts, end, False), end]))
 
 
 def _last_cells(column: _Last, end: bytes) -> _Cells:
     codes, texts = column.context
     endings = [f',{status}'.encode() + end for status in STATUSES]
     rendered = _objects([*endings, *_fields(texts, endings[FOUND], True)])
-    return _Cells(np.where(codes < 0, column.status, codes + len(endings)), rendered, 0)
+    return _Cells(np.where(codes < 0, column.status, codes + len(endings)), rendered)
 
 
 def _objects(items: Sequence[bytes]) -> NDArray[np.object_]:
@@ -167,12 +152,25 @@ def _objects(items: Sequence[bytes]) -> NDArray[np.object_]:
 def _fields(texts: List[bytes], end: bytes, in_quotes: bool) -> List[bytes]:
     """The texts as fields of CSV, each with what follows it."""
     joined = b'\0'.join(texts)
-    if not texts or joined.count(b'\0') >= len(texts) or not in_quotes and SPECIAL.search(joined):
+    if not texts or joined.count(b'\0') >= len(texts):
         return [quoted(text, in_quotes) + end for text in texts]
     # all at once; the zero byte divides them again
     start, stop = (b'"', b'"' + end) if in_quotes else (b'', end)
-    whole = joined.replace(b'"', b'""').replace(b'\0', stop + b'\0' + start)
-    return (start + whole + stop).split(b'\0')
+    whole = joined.replace(b'"', b'""') if in_quotes else joined
+    fields = (start + whole.replace(b'\0', stop + b'\0' + start) + stop).split(b'\0')
+    if not in_quotes and SPECIAL.search(joined):
+        for place in _special_places(joined):
+            fields[place] = quoted(texts[place]) + end
+    return fields
+
+
+def _special_places(joined: bytes) -> List[int]:
+    """Which of these texts, which zero bytes divide, need quotes."""
+    letters = np.frombuffer(joined, np.uint8)
+    ends = np.flatnonzero(letters == 0)
+    specials = np.flatnonzero(_IS_SPECIAL[letters])
+    places: List[int] = np.unique(np.searchsorted(ends, specials)).tolist()
+    return places
 
 
 _small_numbers: Dict[bytes, NDArray[np.object_]] = {}
@@ -185,10 +183,10 @@ def _number_cells(column: _Numbers, end: bytes) -> _Cells:
         if end not in _small_numbers:
             after = end.decode()
             texts = f'{after}\0'.join(map(str, range(_SMALL))) + after
-            _small_numbers[end] = _objects([end, *texts.encode().split(b'\0')])
-        return _Cells(numbers, _small_numbers[end], -1)
+            _small_numbers[end] = _objects([*texts.encode().split(b'\0'), end])
+        return _Cells(numbers, _small_numbers[end])
     codes, used = pd.factorize(numbers)
-    return _Cells(codes, _objects([end if added and number < 0 else b'%d%s' % (number, end) for number in used.tolist()]), 0)
+    return _Cells(codes, _objects([end if added and number < 0 else b'%d%s' % (number, end) for number in used.tolist()]))
 
 
 def _ends(numbers: Codes) -> Tuple[int, int]:

@@ -10,31 +10,31 @@ import signal
 import threading
 import uuid
 from collections import deque
+from concurrent.futures import Future, ProcessPoolExecutor
+from concurrent.futures.process import BrokenProcessPool
 from functools import partial
+from itertools import islice
 from multiprocessing import forkserver
-from pathlib import Path
-from typing import Any, Callable, Deque, Iterator, TypeVar
+from multiprocessing.connection import Connection
+from typing import Any, Callable, Deque, Generator, Iterator, NamedTuple, TypeVar
 
 from .._needed import need
 
 # How many pieces are asked for before the first of them is taken, for each worker.
 AHEAD = 4
-# How many workers may die with one piece.
+# How often workers may die while one piece is waited for.
 MOST_DEATHS = 10
+AGAIN = 'workers died again and again with the same rows'
 
-# How long a worker that died may take to start again. After that the engine gives it up: with the 15 seconds that it has by
-# itself, it gave up those of a machine with too much to do, one after another.
-RETURN = '1 hour'
-# What else the engine would do: look at each worker a hundred times a second, and look up for each piece the text of the
-# code that asks for it.
-UNUSED = {'distributed.worker.profile.enabled': False, 'distributed.diagnostics.computations.ignore-modules': ['']}
+# What a Dask cluster would do else: look up for each piece the text of the code that asks for it.
+UNUSED = {'distributed.diagnostics.computations.ignore-modules': ['']}
 
 Job = TypeVar('Job')
 Item = TypeVar('Item')
 Done = TypeVar('Done')
-# called with a function, what it does with each item, and the items: calls the function, and yields what it returned in
-# the order of the items
-Run = Callable[[Callable[[Any, Any], Any], Any, Iterator[Any]], Iterator[Any]]
+# called with a function, its first argument, and items: calls the function with each item, and yields what it returned in
+# the order of the items. Closing it ends what it started
+Run = Callable[[Callable[[Any, Any], Any], Any, Iterator[Any]], Generator[Any, None, None]]
 
 
 def prepare(arguments: argparse.Namespace) -> None:
@@ -48,7 +48,7 @@ def prepare(arguments: argparse.Namespace) -> None:
 
 def _start_to_fork() -> None:
     """What is forked ignores Ctrl-C, since it ends with this process."""
-    multiprocessing.get_context('forkserver').set_forkserver_preload(['distributed', f'{__package__}.job'])
+    multiprocessing.get_context('forkserver').set_forkserver_preload([f'{__package__}.job'])
     if threading.current_thread() is not threading.main_thread():
         forkserver.ensure_running()
         return
@@ -59,22 +59,14 @@ def _start_to_fork() -> None:
         signal.signal(signal.SIGINT, before)
 
 
-@contextlib.contextmanager
-def started(arguments: argparse.Namespace, folder: Path, is_small: bool) -> Iterator[Run]:
-    """Those who answer, until the block is left. If there is little to do it is this process, unless a cluster is
-    named."""
+def engine(arguments: argparse.Namespace, is_small: bool) -> Run:
+    """Those who answer. If there is little to do it is this process, unless a cluster is named."""
     workers = _workers(arguments)
-    # what is no error of ours, as a connection that was slow to close
-    logging.getLogger('asyncio').setLevel(logging.CRITICAL)
     if arguments.dask is not None:
-        distributed = need('distributed')
-        with need('dask').config.set(UNUSED), distributed.Client(arguments.dask, set_as_default=False) as client:
-            yield partial(_by_dask, client, AHEAD * max(4, sum(client.nthreads().values())))
-    elif workers == 1 or is_small:
-        yield _in_turn
-    else:
-        with _local(workers, folder) as client:
-            yield partial(_by_dask, client, AHEAD * workers)
+        return partial(_by_dask, arguments.dask)
+    if workers == 1 or is_small:
+        return _in_turn
+    return partial(_by_processes, workers)
 
 
 def _workers(arguments: argparse.Namespace) -> int:
@@ -86,40 +78,99 @@ def _workers(arguments: argparse.Namespace) -> int:
         return os.cpu_count() or 1
 
 
-def _in_turn(call: Callable[[Job, Item], Done], job: Job, items: Iterator[Item]) -> Iterator[Done]:
+def _in_turn(call: Callable[[Job, Item], Done], job: Job, items: Iterator[Item]) -> Generator[Done, None, None]:
     return (call(job, item) for item in items)
 
 
-def _by_dask(client: Any, most: int, call: Callable[[Job, Item], Done], job: Job, items: Iterator[Item]) -> Iterator[Done]:
-    """At most so many items are asked for at once, so that neither memory nor disk fills with what nobody took yet."""
-    waiting: Deque[Any] = deque()
+# A Dask cluster
+
+def _by_dask(address: str, call: Callable[[Job, Item], Done], job: Job,
+             items: Iterator[Item]) -> Generator[Done, None, None]:
+    distributed = need('distributed')
+    # what is no error of ours, as a connection that was slow to close
+    logging.getLogger('asyncio').setLevel(logging.CRITICAL)
     run = uuid.uuid4().hex
-    for number, item in enumerate(items):
-        waiting.append(client.submit(call, job, item, key=f'sourcemap-{run}-{number}', pure=False))
-        if len(waiting) == most:
-            yield _result(waiting.popleft())
-    while waiting:
-        yield _result(waiting.popleft())
+    with need('dask').config.set(UNUSED), distributed.Client(address, set_as_default=False) as client:
+        most = AHEAD * max(4, sum(client.nthreads().values()))
+        futures = (client.submit(call, job, item, key=f'sourcemap-{run}-{number}', pure=False)
+                   for number, item in enumerate(items))
+        waiting: Deque[Any] = deque(islice(futures, most))
+        try:
+            while waiting:
+                yield waiting.popleft().result()
+                waiting.extend(islice(futures, 1))
+        except distributed.KilledWorker as error:
+            raise ChildProcessError(f'{AGAIN}: {error}') from error
 
 
-def _result(future: Any) -> Any:
+# Processes of this machine
+
+class _Asked(NamedTuple):
+    """An item, and what a worker returns for it."""
+
+    item: Any
+    future: 'Future[Any]'
+
+
+def _by_processes(workers: int, call: Callable[[Job, Item], Done], job: Job,
+                  items: Iterator[Item]) -> Generator[Done, None, None]:
+    """If a worker dies, its pool ends. Then another pool goes on."""
+    asked: Deque[_Asked] = deque()
+    deaths = 0
+    while True:
+        try:
+            with _pool(workers) as pool:
+                for done in _by_pool(pool, AHEAD * workers, partial(call, job), items, asked):
+                    deaths = 0
+                    yield done
+                return
+        except BrokenProcessPool as error:
+            deaths += 1
+            if deaths == MOST_DEATHS:
+                raise ChildProcessError(AGAIN) from error
+
+
+def _by_pool(pool: ProcessPoolExecutor, most: int, call: Callable[[Item], Done], items: Iterator[Item],
+             asked: Deque[_Asked]) -> Iterator[Done]:
+    """`asked` has the items that were taken, and are not answered. Those that a pool before had not done are asked again."""
+    for place, (item, future) in enumerate(asked):
+        if isinstance(future.exception(), BrokenProcessPool):
+            asked[place] = _Asked(item, _submit(pool, call, item))
+    while True:
+        asked.extend(_Asked(item, _submit(pool, call, item)) for item in islice(items, most - len(asked)))
+        if not asked:
+            return
+        yield asked[0].future.result()
+        asked.popleft()
+
+
+def _submit(pool: ProcessPoolExecutor, call: Callable[[Item], Done], item: Item) -> 'Future[Done]':
+    """Of a pool that has ended, what it had not done when it ended."""
     try:
-        return future.result()
-    except need('distributed').KilledWorker as error:
-        raise ChildProcessError(f'workers died again and again with the same rows: {error}') from error
+        return pool.submit(call, item)
+    except BrokenProcessPool as error:
+        future: 'Future[Done]' = Future()
+        future.set_exception(error)
+        return future
 
 
 @contextlib.contextmanager
-def _local(workers: int, folder: Path) -> Iterator[Any]:
-    """The client of a cluster of worker processes on this machine. A worker that dies is started again, and its pieces
-    are answered by another one."""
-    distributed, config = need('distributed'), need('dask').config
+def _pool(workers: int) -> Iterator[ProcessPoolExecutor]:
+    """Processes, forked from one that has imported what they need. They end with the block, or with this process."""
     _start_to_fork()
-    with config.set({**UNUSED, 'distributed.scheduler.allowed-failures': MOST_DEATHS,
-                     'distributed.deploy.lost-worker-timeout': RETURN,
-                     'distributed.worker.multiprocessing-method': 'forkserver'}), \
-            distributed.LocalCluster(n_workers=workers, threads_per_worker=1, processes=True, memory_limit=0,
-                                     dashboard_address=None, local_directory=str(folder),
-                                     silence_logs=logging.ERROR) as cluster, \
-            distributed.Client(cluster, set_as_default=False) as client:
-        yield client
+    theirs, ours = multiprocessing.Pipe(duplex=False)
+    with theirs, ours, ProcessPoolExecutor(workers, multiprocessing.get_context('forkserver'), _end_with, (theirs,)) as pool:
+        try:
+            yield pool
+        except BaseException:  # nobody waits for what they still do
+            ours.close()
+            raise
+
+
+def _end_with(pipe: Connection) -> None:
+    """Ends this process as soon as the other end of the pipe is closed."""
+    def watch() -> None:
+        pipe.poll(None)
+        os._exit(1)
+
+    threading.Thread(target=watch, daemon=True).start()

@@ -1,4 +1,4 @@
-"""`python -m sourcemap batch`: a table in a file is answered piece by piece, by one process or by those of Dask.
+"""`python -m sourcemap batch`: a table in a file is answered piece by piece, by this process or by others.
 
 Each piece is answered into a file of its own. These files are joined in the order of the pieces. So whichever worker
 answers a piece, and however often, the table is the same.
@@ -7,6 +7,7 @@ from __future__ import annotations
 
 import argparse
 import contextlib
+import errno
 import gzip
 import os
 import shutil
@@ -28,13 +29,16 @@ from ..batch import COLUMNS
 from ..release import Release
 from . import csv_rows, json_rows
 from .answers import STATUSES, Answers
-from .engines import started
+from .engines import engine
 from .pieces import Format, Piece, Table, format_of, row_of
 from .tables import check_names
 
 # How many files without a map are named.
 MOST_PROBLEMS = 20
 MOST_REMOVALS = 20
+MOST_COPIED = 1 << 30
+# `sendfile` of such a file, or on such a system, is not possible
+CANNOT_COPY = (errno.EINVAL, errno.ENOSYS, errno.ENOTSOCK, errno.EOPNOTSUPP)
 
 
 class Job(NamedTuple):
@@ -124,9 +128,12 @@ class Output:
         self._file.write(data)
 
     def append(self, path: str) -> None:
-        """Appends the bytes of a file, and removes it."""
+        """Appends the bytes of a file, and removes it. The disk begins with them, so that `finish` need not wait for all."""
+        self._file.flush()
         with open(path, 'rb') as part:
-            shutil.copyfileobj(part, self._file, 1 << 20)
+            size = _copy(part, self._file)
+        if self.path is not None and hasattr(os, 'posix_fadvise'):
+            os.posix_fadvise(self._file.fileno(), self._file.tell() - size, size, os.POSIX_FADV_DONTNEED)
         os.unlink(path)
 
     def finish(self) -> None:
@@ -137,6 +144,22 @@ class Output:
             if self.path.exists():
                 shutil.copymode(self.path, self.folder / 'whole')
             os.replace(self.folder / 'whole', self.path)
+
+
+def _copy(part: BinaryIO, file: BinaryIO) -> int:
+    """Copies a file to the end of another one, and returns how many bytes it has. The system does so without showing them
+    to this process, if it can."""
+    done = 0
+    try:
+        while (count := os.sendfile(file.fileno(), part.fileno(), done, MOST_COPIED)):
+            done += count
+    except OSError as error:
+        if error.errno not in CANNOT_COPY:
+            raise
+        part.seek(done)
+        shutil.copyfileobj(part, file, 1 << 20)
+        done = part.tell()
+    return done
 
 
 def run_job(arguments: argparse.Namespace) -> None:
@@ -163,8 +186,9 @@ def _write(job: Job, table: Table, output: Output, arguments: argparse.Namespace
     tally = _Tally()
     pieces = table.pieces()
     first = list(islice(pieces, 2))
-    with started(arguments, output.folder, len(first) < 2) as run, _progress(arguments.frames) as show:
-        for done in run(run_piece, job, chain(first, pieces)):
+    answered = engine(arguments, len(first) < 2)(run_piece, job, chain(first, pieces))
+    with contextlib.closing(answered), _progress(arguments.frames) as show:
+        for done in answered:
             output.append(done.path)
             if done.piece.is_own:
                 os.unlink(done.piece.path)

@@ -83,18 +83,28 @@ class Table:
         self._at = 0
         self._held = b''
         self.names: Tuple[str, ...] = ()
+        try:
+            self._begin()
+        except BaseException:
+            self._close()
+            raise
+
+    def _begin(self) -> None:
         if self.format.kind == 'csv':
             self._read_names()
         else:
             self._held = self._read(self._size)
         self._adapt(self._held, len(self._held))
 
+    def _close(self) -> None:
+        self._file.close()
+        self._raw.close()
+
     def __enter__(self) -> Table:
         return self
 
     def __exit__(self, *error: object) -> None:
-        self._file.close()
-        self._raw.close()
+        self._close()
 
     def _read_names(self) -> None:
         start = self._read(len(MARK))

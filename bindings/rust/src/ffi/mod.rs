@@ -58,6 +58,15 @@ pub const SM_KIND_BUNDLE: u32 = 6;
 pub const SM_KIND_SPLIT: u32 = 7;
 pub const SM_KIND_BYTES: u32 = 8;
 pub const SM_KIND_SECTIONS: u32 = 9;
+pub const SM_KIND_REPORT: u32 = 10;
+
+pub const SM_INVALID: u32 = 0;
+pub const SM_SUSPICIOUS: u32 = 1;
+
+pub const SM_PLACE_KEY: u32 = 0;
+pub const SM_PLACE_SEGMENT: u32 = 1;
+pub const SM_PLACE_TOKEN: u32 = 2;
+pub const SM_PLACE_SHIFT: u32 = 3;
 
 /// `sm_handle` and its other names.
 #[repr(C)]
@@ -159,6 +168,28 @@ pub struct SectionStart {
     pub column: u32,
     pub has_map: bool,
     pub has_url: bool,
+}
+
+/// `sm_finding`.
+#[repr(C)]
+#[derive(Default)]
+pub struct Finding {
+    pub code: u32,
+    pub severity: u32,
+    pub place: u32,
+    pub lines: i32,
+    pub columns: i32,
+    pub line: usize,
+    pub index: usize,
+}
+
+/// `sm_report_counts`.
+#[repr(C)]
+#[derive(Default)]
+pub struct ReportCounts {
+    pub invalid: u64,
+    pub suspicious: u64,
+    pub findings: usize,
 }
 
 #[rustfmt::skip]
@@ -271,6 +302,13 @@ extern "C" {
     pub fn sm_compiled_name(bytes: *const u8, length: usize, id: u32, text: *mut Text) -> Code;
     pub fn sm_compiled_contents(bytes: *const u8, length: usize, id: u32, text: *mut Text) -> Code;
     pub fn sm_compiled_file(bytes: *const u8, length: usize, text: *mut Text) -> Code;
+
+    pub fn sm_check(report: *mut Handle, bytes: *const u8, length: usize, has_generated: bool, generated: *const u8, generated_length: usize, most: u32, error: *mut Error) -> Code;
+    pub fn sm_report_count(report: *mut Handle, counts: *mut ReportCounts) -> Code;
+    pub fn sm_report_finding(report: *mut Handle, index: u32, finding: *mut Finding) -> Code;
+    pub fn sm_report_sections(report: *mut Handle, index: u32, sections: *mut usize, capacity: usize, count: *mut usize) -> Code;
+    pub fn sm_report_key(report: *mut Handle, index: u32, text: *mut Text) -> Code;
+    pub fn sm_report_sentence(report: *mut Handle, index: u32, text: *mut Text) -> Code;
 }
 
 #[cfg(test)]

@@ -34,7 +34,7 @@ fn rust_type(c_type: &str) -> String {
         .trim();
     let base = match name {
         "sm_handle" | "sm_map" | "sm_builder" | "sm_view" | "sm_bundle" | "sm_split"
-        | "sm_bytes" | "sm_sections" => "Handle",
+        | "sm_bytes" | "sm_sections" | "sm_report" => "Handle",
         "sm_error" => "Error",
         "sm_text" => "Text",
         "sm_token" => "RawToken",
@@ -43,6 +43,8 @@ fn rust_type(c_type: &str) -> String {
         "sm_position" => "Position",
         "sm_debug_id" => "DebugId",
         "sm_section_start" => "SectionStart",
+        "sm_finding" => "Finding",
+        "sm_report_counts" => "ReportCounts",
         "sm_code" => "Code",
         "uint8_t" => "u8",
         "uint32_t" => "u32",
@@ -211,6 +213,22 @@ fn layouts() -> Vec<(String, usize)> {
         SectionStart,
         has_map = has_map,
         has_url = has_url
+    );
+    layout!(sm_finding, Finding, code = code, severity = severity);
+    layout!(
+        sm_finding,
+        Finding,
+        place = place,
+        line = line,
+        index = index
+    );
+    layout!(sm_finding, Finding, lines = lines, columns = columns);
+    layout!(
+        sm_report_counts,
+        ReportCounts,
+        invalid = invalid,
+        suspicious = suspicious,
+        findings = findings
     );
     layouts
 }

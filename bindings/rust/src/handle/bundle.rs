@@ -6,7 +6,7 @@ use crate::errors::Result;
 use crate::ffi;
 
 /// An indexed RAM bundle.
-pub(crate) struct BundleHandle(Shared<()>);
+pub(crate) struct BundleHandle(Shared);
 
 /// What makes the maps of the modules of a RAM bundle.
 pub(crate) struct SplitHandle(Handle);

@@ -4,6 +4,7 @@ use std::mem::MaybeUninit;
 use std::ptr;
 
 use super::shared::{take_both, Shared, Taken};
+use super::span::Span;
 use super::{check, lent_text, Handle, ViewHandle};
 use crate::debug_id::DebugId;
 use crate::errors::Result;
@@ -19,59 +20,12 @@ pub(crate) enum Kind {
 }
 
 /// A map of any kind.
-pub(crate) struct MapHandle(pub(super) Shared<Span>);
+pub(crate) struct MapHandle(pub(super) Shared);
 
-/// Where a section of an index map begins, and the URL and the map that it has.
+/// Where a section of an index map begins, and the URL that it has.
 pub(crate) struct Section<'a> {
     pub offset: (u32, u32),
     pub url: Option<&'a str>,
-    pub map: Option<MapHandle>,
-}
-
-/// The answer to a lookup, and the positions that have the same answer: as many as
-/// `length`, from the one that was looked up.
-pub(super) struct Span {
-    from: u64,
-    length: u64,
-    found: ffi::Found,
-}
-
-/// A span without positions.
-impl Default for Span {
-    fn default() -> Span {
-        Span {
-            from: 0,
-            length: 0,
-            found: ffi::Found::NONE,
-        }
-    }
-}
-
-impl Span {
-    /// A position as a number, which is greater for a later one.
-    #[inline]
-    fn number((line, column): (u32, u32)) -> u64 {
-        u64::from(line) << 32 | u64::from(column)
-    }
-
-    /// Whether the answer of the span also answers this position.
-    #[inline]
-    fn has(&self, position: (u32, u32)) -> bool {
-        // One comparison, since which of two positions is the later one can't be
-        // predicted where they come in no order.
-        Span::number(position).wrapping_sub(self.from) < self.length
-    }
-
-    /// Sets the span, after the library wrote the answer for this position, and the
-    /// position that ends the span. The span of a range token is empty.
-    fn set(&mut self, position: (u32, u32), until: ffi::Position) {
-        self.from = Span::number(position);
-        // The column of a range token is that of one position alone.
-        self.length = match self.found.token.is_range {
-            true => 0,
-            false => Span::number((until.line, until.column)).saturating_sub(self.from),
-        };
-    }
 }
 
 impl MapHandle {
@@ -83,7 +37,7 @@ impl MapHandle {
     }
 
     #[inline]
-    fn take(&self) -> Taken<'_, Span> {
+    fn take(&self) -> Taken<'_> {
         self.0.take()
     }
 
@@ -253,24 +207,30 @@ impl MapHandle {
     }
 
     /// The closest token, as [`MapHandle::lookup`] returns it, of a map that is no index
-    /// map. The last answer is kept, and asked first.
-    #[inline]
+    /// map. This thread keeps the answer, and takes no handle as long as it holds.
+    #[inline(always)]
     pub fn lookup_kept(&self, position: (u32, u32)) -> Option<RawToken> {
-        let mut map = self.take();
-        let at = map.at();
-        let span = map.kept();
-        if !span.has(position) {
-            let (line, column) = position;
-            let mut until = ffi::Position::default();
-            // SAFETY: it is a handle, and both structs have a value.
-            let code =
-                unsafe { ffi::sm_lookup_span(at, line, column, &mut span.found, &mut until) };
-            if code != ffi::SM_OK {
-                return None;
+        let state = self.0.state();
+        Span::with(state, |span| {
+            if !span.has(state, position) {
+                span.begin(state, position);
+                let code = match self.0.take_first() {
+                    Some(map) => look_up(&map, position, span),
+                    None => self.look_up_met(position, span),
+                };
+                if code != ffi::SM_OK {
+                    return None;
+                }
             }
-            span.set(position, until);
-        }
-        Some(span.found.token)
+            Some(span.token())
+        })
+    }
+
+    /// Looks up where calls meet. Apart, since it needs more registers.
+    #[cold]
+    #[inline(never)]
+    fn look_up_met(&self, position: (u32, u32), span: &Span) -> ffi::Code {
+        look_up(&self.0.take_other(), position, span)
     }
 
     /// The text of the closest token, with the original column of the position
@@ -341,29 +301,41 @@ impl MapHandle {
         Ok(bytes.made_bytes().to_owned())
     }
 
-    /// A section of an index map, with a copy of its map.
-    pub fn section(&self, id: u32) -> Result<Option<Section<'_>>> {
+    /// A section of an index map.
+    pub fn section(&self, id: u32) -> Option<Section<'_>> {
         // The bytes between fields are to be zeros too.
         let mut start = MaybeUninit::<ffi::SectionStart>::zeroed();
         // SAFETY: it is a handle.
         let code = unsafe { ffi::sm_section_start_of(self.take().at(), id, start.as_mut_ptr()) };
         if code != ffi::SM_OK {
-            return Ok(None);
+            return None;
         }
         // SAFETY: zeros are a value of the struct, and so is what the call wrote.
         let start = unsafe { start.assume_init() };
+        Some(Section {
+            offset: (start.line, start.column),
+            // SAFETY: the text is in the map.
+            url: unsafe { self.text(|map, text| ffi::sm_section_url(map, id, text)) },
+        })
+    }
+
+    /// A copy of the map of a section, if it has one.
+    pub fn section_map(&self, id: u32) -> Result<Option<MapHandle>> {
         // SAFETY: both are handles, and not the same.
         let map = Handle::fill_if_any(|map, error| unsafe {
             ffi::sm_section(self.take().at(), id, map, error)
         })?;
-        let map = map.map(Shared::of).transpose()?;
-        Ok(Some(Section {
-            offset: (start.line, start.column),
-            // SAFETY: the text is in the map.
-            url: unsafe { self.text(|map, text| ffi::sm_section_url(map, id, text)) },
-            map: map.map(MapHandle),
-        }))
+        Ok(map.map(Shared::of).transpose()?.map(MapHandle))
     }
+}
+
+/// Asks the library for the closest token, and for the end of the span that begins here.
+#[inline(always)]
+fn look_up(map: &Taken<'_>, (line, column): (u32, u32), span: &Span) -> ffi::Code {
+    // SAFETY: it is a handle, and both structs have a value.
+    let code = unsafe { ffi::sm_lookup_span(map.at(), line, column, span.found(), span.until()) };
+    span.end(code == ffi::SM_OK);
+    code
 }
 
 /// Maps are equal if they are of one kind and hold the same.

@@ -14,9 +14,11 @@ pub(crate) mod compiled;
 mod debug_id;
 mod map;
 mod reference;
+mod report;
 mod sections;
 mod segment;
 mod shared;
+mod span;
 mod view;
 
 use std::cell::UnsafeCell;
@@ -31,6 +33,7 @@ pub(crate) use self::map::{is_source_map, Kind, MapHandle};
 pub(crate) use self::reference::{
     locate_reference, relative_path, resolve, resolve_path, Reference,
 };
+pub(crate) use self::report::ReportHandle;
 pub(crate) use self::sections::SectionsHandle;
 pub(crate) use self::segment::{parse_segment, write_segment};
 pub(crate) use self::view::ViewHandle;

@@ -5,8 +5,9 @@
 //! Shares are closed when the value is changed or dropped, and only then: texts that
 //! calls lent point into them.
 
-use std::cell::{Cell, UnsafeCell};
-use std::sync::atomic::{AtomicBool, AtomicUsize, Ordering};
+use std::array;
+use std::cell::Cell;
+use std::sync::atomic::{AtomicBool, AtomicU64, AtomicUsize, Ordering};
 use std::thread;
 
 use super::Handle;
@@ -24,49 +25,47 @@ thread_local! {
     static NUMBER: Cell<usize> = const { Cell::new(0) };
 }
 
-/// A value of the library, in one or more handles. With each handle goes a `K`, which
-/// calls that take the handle may keep something in.
-pub(super) struct Shared<K> {
-    first: Slot<K>,
+/// A value of the library, in one or more handles.
+pub(super) struct Shared {
+    first: Slot,
     /// Makes further shares, and answers no other call. It is empty if memory ran out
     /// when the value was changed: then calls that meet wait for one another.
-    seed: Slot<()>,
-    more: Once<Table<K>>,
+    seed: Slot,
+    more: Once<Table>,
+    state: u64,
 }
 
 /// Further shares. `next` is needed only where more calls meet than a table has room for.
-struct Table<K> {
-    slots: [Once<Slot<K>>; WIDTH],
-    next: Once<Table<K>>,
+struct Table {
+    slots: [Once<Slot>; WIDTH],
+    next: Once<Table>,
 }
 
 /// A handle, on cache lines that it shares with no other. It is used by the thread that
 /// set `is_taken`.
 #[repr(align(128))]
-struct Slot<K> {
+struct Slot {
     is_taken: AtomicBool,
     handle: Handle,
-    kept: UnsafeCell<K>,
 }
 
-// SAFETY: `handle` and `kept` are used only by the thread that took the slot, and the
-// header allows a handle to go from thread to thread.
-unsafe impl<K: Send> Sync for Slot<K> {}
+// SAFETY: `handle` is used only by the thread that took the slot, and the header allows a
+// handle to go from thread to thread.
+unsafe impl Sync for Slot {}
 
 /// A handle that is taken, until this is dropped.
-pub(super) struct Taken<'a, K>(&'a Slot<K>);
+pub(super) struct Taken<'a>(&'a Slot);
 
-impl<K: Default> Slot<K> {
-    fn new(handle: Handle, is_taken: bool) -> Slot<K> {
+impl Slot {
+    fn new(handle: Handle, is_taken: bool) -> Slot {
         Slot {
             is_taken: AtomicBool::new(is_taken),
             handle,
-            kept: UnsafeCell::default(),
         }
     }
 
     #[inline]
-    fn take(&self) -> Option<Taken<'_, K>> {
+    fn take(&self) -> Option<Taken<'_>> {
         if self.is_taken.swap(true, Ordering::Acquire) {
             return None;
         }
@@ -75,21 +74,14 @@ impl<K: Default> Slot<K> {
     }
 }
 
-impl<K> Taken<'_, K> {
+impl Taken<'_> {
     #[inline]
     pub fn at(&self) -> *mut ffi::Handle {
         self.0.handle.at()
     }
-
-    /// What is kept with the handle.
-    #[inline]
-    pub fn kept(&mut self) -> &mut K {
-        // SAFETY: only this thread has the slot, and only one `Taken` borrows it.
-        unsafe { &mut *self.0.kept.get() }
-    }
 }
 
-impl<K> Drop for Taken<'_, K> {
+impl Drop for Taken<'_> {
     #[inline]
     fn drop(&mut self) {
         helgrind::released(self.0);
@@ -103,44 +95,54 @@ fn share_of(at: *mut ffi::Handle) -> Result<Handle> {
     Handle::fill(|other, error| unsafe { ffi::sm_share(at, other, error) })
 }
 
-impl<K: Default> Shared<K> {
-    pub fn of(handle: Handle) -> Result<Shared<K>> {
+impl Shared {
+    pub fn of(handle: Handle) -> Result<Shared> {
         let seed = share_of(handle.at())?;
         Ok(Shared {
             first: Slot::new(handle, false),
             seed: Slot::new(seed, false),
             more: Once::new(),
+            state: next_state(),
         })
+    }
+
+    /// A number that no other value has, nor this one before or after a change.
+    #[inline]
+    pub fn state(&self) -> u64 {
+        self.state
     }
 
     /// The value that a call fills a handle with.
     pub fn fill(
         call: impl FnOnce(*mut ffi::Handle, *mut ffi::Error) -> ffi::Code,
-    ) -> Result<Shared<K>> {
+    ) -> Result<Shared> {
         Shared::of(Handle::fill(call)?)
     }
 
     /// The same value, with handles of its own.
-    pub fn share(&self) -> Result<Shared<K>> {
+    pub fn share(&self) -> Result<Shared> {
         Shared::of(share_of(self.take().at())?)
     }
 
     /// A handle that no other call has.
     #[inline]
-    pub fn take(&self) -> Taken<'_, K> {
-        if NUMBER.get() == 0 {
-            if let Some(taken) = self.first.take() {
-                return taken;
-            }
-            NUMBER.set(next_number());
-        }
-        self.take_other()
+    pub fn take(&self) -> Taken<'_> {
+        self.take_first().unwrap_or_else(|| self.take_other())
     }
 
-    /// A handle for a thread that has a number.
+    /// The first handle, if no other call has it, and this thread has no number.
+    #[inline]
+    pub fn take_first(&self) -> Option<Taken<'_>> {
+        match NUMBER.get() {
+            0 => self.first.take(),
+            _ => None,
+        }
+    }
+
+    /// A handle for a thread that has a number, or gets one now.
     #[inline(never)]
-    fn take_other(&self) -> Taken<'_, K> {
-        let number = NUMBER.get();
+    pub fn take_other(&self) -> Taken<'_> {
+        let number = number_of_thread();
         loop {
             let free = self.free_of(number).or_else(|| self.first.take());
             if let Some(taken) = free.or_else(|| self.free()).or_else(|| self.added(number)) {
@@ -152,12 +154,12 @@ impl<K: Default> Shared<K> {
     }
 
     /// The share of this number, if there is one that is free.
-    fn free_of(&self, number: usize) -> Option<Taken<'_, K>> {
+    fn free_of(&self, number: usize) -> Option<Taken<'_>> {
         self.more.get()?.slots[number - 1].get()?.take()
     }
 
     /// Any share that is free.
-    fn free(&self) -> Option<Taken<'_, K>> {
+    fn free(&self) -> Option<Taken<'_>> {
         let mut next = self.more.get();
         while let Some(table) = next {
             if let Some(taken) = table.slots.iter().flat_map(Once::get).find_map(Slot::take) {
@@ -169,7 +171,7 @@ impl<K: Default> Shared<K> {
     }
 
     /// A new share, of this number if no share has it.
-    fn added(&self, number: usize) -> Option<Taken<'_, K>> {
+    fn added(&self, number: usize) -> Option<Taken<'_>> {
         let handle = share_of(self.seed.take()?.at()).ok()?;
         let mut slot = Slot::new(handle, true);
         let mut table = self.more.get_or_init(Table::new);
@@ -189,8 +191,8 @@ impl<K: Default> Shared<K> {
     pub fn change<T>(&mut self, call: impl FnOnce(*mut ffi::Handle) -> T) -> T {
         self.more = Once::new();
         self.seed = Slot::new(Handle::empty(), false);
+        self.state = next_state();
         let result = call(self.first.handle.at());
-        self.first.kept = UnsafeCell::default();
         if let Ok(seed) = share_of(self.first.handle.at()) {
             self.seed = Slot::new(seed, false);
         }
@@ -198,17 +200,26 @@ impl<K: Default> Shared<K> {
     }
 }
 
-/// A number for this thread. Numbers come again, so that values do not get more shares with
-/// each thread that ever ran.
-fn next_number() -> usize {
+/// The number of this thread, which is given if it has none. Numbers come again, so that
+/// values do not get more shares with each thread that ever ran.
+fn number_of_thread() -> usize {
     static GIVEN: AtomicUsize = AtomicUsize::new(0);
-    1 + GIVEN.fetch_add(1, Ordering::Relaxed) % WIDTH
+    if NUMBER.get() == 0 {
+        NUMBER.set(1 + GIVEN.fetch_add(1, Ordering::Relaxed) % WIDTH);
+    }
+    NUMBER.get()
 }
 
-impl<K> Table<K> {
-    fn new() -> Table<K> {
+/// A number that this process has not had. The first is 1.
+fn next_state() -> u64 {
+    static LAST: AtomicU64 = AtomicU64::new(0);
+    1 + LAST.fetch_add(1, Ordering::Relaxed)
+}
+
+impl Table {
+    fn new() -> Table {
         Table {
-            slots: [const { () }; WIDTH].map(|()| Once::new()),
+            slots: array::from_fn(|_| Once::new()),
             next: Once::new(),
         }
     }
@@ -216,11 +227,8 @@ impl<K> Table<K> {
 
 /// A handle of each of two values. Two threads that take the same two, one of them the other
 /// way round, do not wait for each other.
-pub(super) fn take_both<'a, 'b, A: Default, B: Default>(
-    one: &'a Shared<A>,
-    other: &'b Shared<B>,
-) -> (Taken<'a, A>, Taken<'b, B>) {
-    let is_first = (one as *const Shared<A> as usize) < (other as *const Shared<B> as usize);
+pub(super) fn take_both<'a, 'b>(one: &'a Shared, other: &'b Shared) -> (Taken<'a>, Taken<'b>) {
+    let is_first = (one as *const Shared as usize) < (other as *const Shared as usize);
     if is_first {
         let taken = one.take();
         (taken, other.take())

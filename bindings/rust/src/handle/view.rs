@@ -6,7 +6,7 @@ use crate::errors::Result;
 use crate::ffi;
 
 /// A text with the table of its lines.
-pub(crate) struct ViewHandle(pub(super) Shared<()>);
+pub(crate) struct ViewHandle(pub(super) Shared);
 
 impl ViewHandle {
     pub fn open(text: &str) -> Result<ViewHandle> {

@@ -15,11 +15,13 @@ use crate::utils::{must, write_all};
 
 /// A section of an index map. It has a start, and may have a map, the URL of a map,
 /// both or neither.
-#[derive(Debug, Clone, PartialEq)]
+#[derive(Clone)]
 pub struct SourceMapSection {
     offset: (u32, u32),
     url: Option<String>,
-    map: Option<Box<DecodedMap>>,
+    // Set in each section that a caller sees: the index map copies it when the section is
+    // first read.
+    map: Once<Option<DecodedMap>>,
 }
 
 /// The sections of an index map.
@@ -31,8 +33,8 @@ pub struct SourceMapSectionIter<'a> {
 /// An index map: a list of sections. Each section has a map, the URL of a map, both
 /// or neither.
 pub struct SourceMapIndex {
-    // Either the handle exists, and the lists are read from it on first use; or all
-    // fields below are set, and the handle is made of them on first use.
+    // Either the handle exists, and the lists and the maps of sections are read from it on
+    // first use; or all fields below are set, and the handle is made of them on first use.
     handle: Once<MapHandle>,
     file: Option<String>,
     debug_id: Option<DebugId>,
@@ -113,7 +115,7 @@ impl SourceMapIndex {
     /// Reads all parts from the handle, then drops the handle. The next call of
     /// [`SourceMapIndex::handle`] makes a new one.
     fn drop_handle(&mut self) {
-        self.section_list();
+        self.sections().for_each(drop);
         self.x_facebook_offsets();
         self.x_metro_module_paths();
         if let Some(handle) = self.handle.take() {
@@ -192,12 +194,14 @@ impl SourceMapIndex {
     /// Returns the section with this number, counted from 0, or none if there is no
     /// such section.
     pub fn get_section(&self, idx: u32) -> Option<&SourceMapSection> {
-        self.section_list().get(idx as usize)
+        let section = self.section_list().get(idx as usize)?;
+        self.map_of(section, idx);
+        Some(section)
     }
 
-    /// Returns the section with this number, to be changed. The next call that writes,
-    /// flattens, splits by, shifts or compares the index map, or names a function, then builds
-    /// it anew, with copies of all sections.
+    /// Returns the section with this number, to be changed. Sections that were not read yet
+    /// are copied. The next call that writes, flattens, splits by, shifts or compares the
+    /// index map, or names a function, builds it anew, with copies of all sections.
     pub fn get_section_mut(&mut self, idx: u32) -> Option<&mut SourceMapSection> {
         self.get_section(idx)?;
         self.drop_handle();
@@ -234,28 +238,28 @@ impl SourceMapIndex {
     /// section begins. If the sections are not in order at every level, the result may
     /// be the wrong token, or none.
     pub fn lookup_token(&self, line: u32, col: u32) -> Option<Token<'_>> {
-        let section = self.closest_section((line, col))?;
+        let (section, id) = self.closest_section((line, col))?;
         let (first_line, first_col) = section.offset;
         let col = if line == first_line {
             col - first_col
         } else {
             col
         };
-        section
-            .get_sourcemap()?
+        self.map_of(section, id)?
             .lookup_token(line - first_line, col)
     }
 
-    /// The section that answers a position: the first that begins at it, else the
-    /// last before it. It is looked for here and not by the library, because the
-    /// token borrows the section's map from this value.
-    fn closest_section(&self, position: (u32, u32)) -> Option<&SourceMapSection> {
+    /// The section that answers a position, and its number: the first that begins at it, else
+    /// the last before it. It is looked for here and not by the library, because the token
+    /// borrows the section's map from this value.
+    fn closest_section(&self, position: (u32, u32)) -> Option<(&SourceMapSection, u32)> {
         let sections = self.section_list();
         let before = sections.partition_point(|section| section.offset < position);
-        match sections.get(before) {
-            Some(section) if section.offset == position => Some(section),
-            _ => sections.get(before.checked_sub(1)?),
-        }
+        let closest = match sections.get(before) {
+            Some(section) if section.offset == position => before,
+            _ => before.checked_sub(1)?,
+        };
+        Some((sections.get(closest)?, closest as u32))
     }
 
     /// Returns this map as one regular map. Wherever the index map has an answer,
@@ -313,9 +317,18 @@ impl SourceMapIndex {
         is_possible
     }
 
+    /// The map of a section of this number, which is copied if it has not been read yet.
+    fn map_of<'a>(&self, section: &'a SourceMapSection, id: u32) -> Option<&'a DecodedMap> {
+        let map = section.map.get_or_init(|| {
+            let map = must(self.handle().section_map(id));
+            map.map(DecodedMap::of_handle)
+        });
+        map.as_ref()
+    }
+
+    /// The sections. Those that were not read yet have no maps.
     fn section_list(&self) -> &[SourceMapSection] {
-        self.sections
-            .get_or_init(|| must(read_sections(self.handle())))
+        self.sections.get_or_init(|| read_sections(self.handle()))
     }
 }
 
@@ -326,19 +339,16 @@ fn read_module_paths(handle: &MapHandle) -> Option<Vec<String>> {
     Some(paths.take(count).map(str::to_owned).collect())
 }
 
-fn read_sections(handle: &MapHandle) -> Result<Vec<SourceMapSection>> {
-    let mut sections = Vec::new();
-    for id in 0..handle.counts().sections {
-        let Some(section) = handle.section(id)? else {
-            break;
-        };
-        sections.push(SourceMapSection {
+/// The sections of an index map, without their maps.
+fn read_sections(handle: &MapHandle) -> Vec<SourceMapSection> {
+    let sections = (0..handle.counts().sections).map_while(|id| handle.section(id));
+    sections
+        .map(|section| SourceMapSection {
             offset: section.offset,
             url: section.url.map(str::to_owned),
-            map: section.map.map(|map| Box::new(DecodedMap::of_handle(map))),
-        });
-    }
-    Ok(sections)
+            map: Once::new(),
+        })
+        .collect()
 }
 
 impl SourceMapSection {
@@ -351,7 +361,7 @@ impl SourceMapSection {
         SourceMapSection {
             offset,
             url,
-            map: map.map(Box::new),
+            map: Once::from(map),
         }
     }
 
@@ -382,17 +392,34 @@ impl SourceMapSection {
 
     /// Returns the map.
     pub fn get_sourcemap(&self) -> Option<&DecodedMap> {
-        self.map.as_deref()
+        self.map.get()?.as_ref()
     }
 
     /// Returns the map, to be changed.
     pub fn get_sourcemap_mut(&mut self) -> Option<&mut DecodedMap> {
-        self.map.as_deref_mut()
+        self.map.get_mut()?.as_mut()
     }
 
     /// Sets or removes the map.
     pub fn set_sourcemap(&mut self, sm: Option<DecodedMap>) {
-        self.map = sm.map(Box::new);
+        self.map = Once::from(sm);
+    }
+}
+
+impl PartialEq for SourceMapSection {
+    fn eq(&self, other: &SourceMapSection) -> bool {
+        (self.offset, &self.url, self.get_sourcemap())
+            == (other.offset, &other.url, other.get_sourcemap())
+    }
+}
+
+impl fmt::Debug for SourceMapSection {
+    fn fmt(&self, f: &mut fmt::Formatter<'_>) -> fmt::Result {
+        f.debug_struct("SourceMapSection")
+            .field("offset", &self.offset)
+            .field("url", &self.url)
+            .field("map", &self.get_sourcemap())
+            .finish()
     }
 }
 
@@ -435,7 +462,10 @@ impl fmt::Debug for SourceMapIndex {
             .field("debug_id", &self.debug_id())
             .field("x_facebook_offsets", &self.x_facebook_offsets())
             .field("x_metro_module_paths", &self.x_metro_module_paths())
-            .field("sections", &self.section_list())
+            .field("sections", &self.sections().collect::<Vec<_>>())
             .finish()
     }
 }
+
+#[cfg(test)]
+mod tests;

@@ -183,8 +183,8 @@ impl SourceMap {
     }
 
     /// Returns the closest token to a generated position: the first one at the
-    /// position, else the last one before it, on whichever line. The map keeps a last
-    /// answer for each thread, which makes lookups of positions in rising order quick.
+    /// position, else the last one before it, on whichever line. Each thread keeps its last
+    /// answers, which makes lookups of positions in rising order quick.
     ///
     /// ```
     /// # let json = br#"{"version":3,"sources":["a.js"],"names":[],"mappings":"AAAA,GAAG"}"#;

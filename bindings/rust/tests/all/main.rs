@@ -5,6 +5,7 @@
 
 mod building;
 mod bundles;
+mod checks;
 mod compiled;
 mod composing;
 mod debug_ids;

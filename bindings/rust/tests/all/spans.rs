@@ -259,6 +259,21 @@ fn a_clone_and_its_map_answer_for_themselves() {
     assert_eq!(text_at(&clone, (1, 5)).as_deref(), Some("a.js:0:7 name=n"));
 }
 
+/// More maps than a thread keeps answers of.
+#[test]
+fn maps_in_turn_answer_for_themselves() {
+    let maps: Vec<_> = (0..40)
+        .map(|line| apply(map(), |map| map.set_source(1, &format!("{line}.js"))))
+        .collect();
+    for _ in 0..2 {
+        for (line, map) in maps.iter().enumerate() {
+            let due = format!("{line}.js:0:7 name=n");
+            assert_eq!(text_at(map, (0, 3)), Some(due));
+            assert_eq!(text_at(map, (1, 5)).as_deref(), Some("b.js:5:0 name=m"));
+        }
+    }
+}
+
 #[test]
 fn a_hermes_map_answers_again() {
     let json = br#"{"sources":["h.js"],"mappings":"AAAA,GACA","x_facebook_sources":[null]}"#;

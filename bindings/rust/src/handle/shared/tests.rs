@@ -12,7 +12,7 @@ fn map() -> MapHandle {
     MapHandle::open(MAP).expect("a map")
 }
 
-fn share_count<K>(shared: &Shared<K>) -> usize {
+fn share_count(shared: &Shared) -> usize {
     let mut count = 1;
     let mut next = shared.more.get();
     while let Some(table) = next {
@@ -23,7 +23,7 @@ fn share_count<K>(shared: &Shared<K>) -> usize {
 }
 
 /// Takes that many handles at once, and returns how many they are.
-fn take_at_once<K: Default>(shared: &Shared<K>, count: usize) -> usize {
+fn take_at_once(shared: &Shared, count: usize) -> usize {
     let taken: Vec<_> = (0..count).map(|_| shared.take()).collect();
     taken.iter().map(Taken::at).collect::<BTreeSet<_>>().len()
 }

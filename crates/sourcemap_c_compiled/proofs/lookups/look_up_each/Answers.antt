@@ -5,7 +5,7 @@ use Rattle.sourcemap_c_compiled.proofs.lookups.look_up_each.Goals as goal
 
 pub loop-i-preserved : goal.loop-i-preserved
 loop-i-preserved c = record {
-  each = answered_more (bytes_of c.args.map.now) c.args.positions.now c.loop-i.found c.loop-i.i _ c.answer.result
+  each = answered_more (bytes_of c.args.map.now) c.args.positions.now c.loop-i.found c.loop-i.i _ c.answer.new.found
       (omega arith) (omega arith) c.answer.ensures c.loop-i.invariant.each;
-  rest = kept_more c.args.found.now c.loop-i.found c.loop-i.i c.answer.result c.loop-i.invariant.rest;
+  rest = kept_more c.args.found.now c.loop-i.found c.loop-i.i c.answer.new.found c.loop-i.invariant.rest;
 }

@@ -1,0 +1,151 @@
+"""Checks, on the tests of the standard, on real maps, and from the shell."""
+import json
+import tempfile
+import threading
+import unittest
+from pathlib import Path
+
+import sourcemap
+from sourcemap import Finding, SegmentPosition
+
+from .maps import EXAMPLES, README, index, regular, section
+from .test_program import run
+
+STANDARD = EXAMPLES.parent / 'checks' / 'spec-tests'
+
+
+def broken(mappings, **keys):
+    return sourcemap.check(regular(mappings, **keys))
+
+
+class Findings(unittest.TestCase):
+    def test_a_segment(self):
+        self.assertEqual(broken('AAAA;g').findings, (
+            Finding('SM132', 'invalid', 'mappings', (), SegmentPosition(1, 0), 'the segment ends within a number'),))
+
+    def test_a_key(self):
+        finding, = broken('', file=None).findings
+        self.assertEqual((finding.code, finding.key, finding.sections, finding.position), ('SM106', 'file', (), None))
+        self.assertEqual(str(finding), 'file: SM106 file is no text')
+
+    def test_no_json(self):
+        for data, code in ((b'', 'SM101'), (b'\xff', 'SM101'), (b'[]', 'SM102')):
+            report = sourcemap.check(data)
+            self.assertEqual([(each.code, each.key) for each in report.findings], [(code, '')])
+            self.assertFalse(report.is_valid)
+
+    def test_sections(self):
+        inner = index(section(0, 0, regular('F')))
+        report = sourcemap.check(index(section(0, 0, regular('')), section(9, 0, inner)))
+        finding, = report.findings
+        self.assertEqual((finding.code, finding.sections), ('SM135', (1, 0)))
+        self.assertEqual(str(finding), 'sections[1].map.sections[0].map.mappings 0:0: SM135 the generated column is below 0')
+
+    def test_many_levels(self):
+        data = regular('F')
+        for _ in range(40):
+            data = index(section(0, 0, data))
+        finding, = sourcemap.check(data).findings
+        self.assertEqual(finding.sections, (0,) * 40)
+
+    def test_most(self):
+        for most, shown in (1, 1), (3, 3), (20, 9):
+            report = sourcemap.check(regular(','.join('g' * 9)), most=most)
+            self.assertEqual((report.invalid, len(report.findings)), (9, shown))
+        for most in -1, 2 ** 32:
+            with self.assertRaises(ValueError):
+                sourcemap.check(README, most=most)
+
+    def test_data(self):
+        data = regular('g').encode()
+        for each in data.decode(), data, bytearray(data), memoryview(data):
+            self.assertEqual(sourcemap.check(each).invalid, 1)
+        with self.assertRaises(TypeError):
+            sourcemap.check(7)
+
+    def test_generated(self):
+        with self.assertRaises(sourcemap.errors.Utf8):
+            sourcemap.check(README, b'\xff')
+        self.assertTrue(sourcemap.check(README, 'let x;').is_valid)
+        self.assertTrue(sourcemap.check(README, '').is_valid)
+
+    def test_suspicious(self):
+        rows = [(('K,D', ()), None, 'mappings 0:1: SM221 the segment has a lower column than the one before it'),
+                (('E', ()), 'a', 'mappings at 0:2: SM232 the generated line has fewer columns')]
+        for (mappings, sources), text, printed in rows:
+            report = sourcemap.check(regular(mappings, sources), text)
+            self.assertEqual([(each.severity, str(each)) for each in report.findings], [('suspicious', printed)])
+            self.assertEqual((report.is_valid, report.suspicious), (True, 1))
+
+    def test_shift(self):
+        data = regular('AAAAA;AACAC;AACAC;AACAC', names=['one', 'two', 'three', 'four'])
+        missing, shift = sourcemap.check(data, '/* */\none\ntwo\nthree\nfour\n').findings
+        self.assertEqual((missing.code, missing.key, missing.position), ('SM214', 'sources[0]', None))
+        self.assertEqual((shift.code, shift.position), ('SM242', sourcemap.Shift(1, 0)))
+
+    def test_threads(self):
+        data = regular(','.join('g' * 500))
+        wanted = sourcemap.check(data)
+        found = []
+        threads = [threading.Thread(target=lambda: found.append(sourcemap.check(data))) for _ in range(8)]
+        for thread in threads:
+            thread.start()
+        for thread in threads:
+            thread.join()
+        self.assertEqual(found, [wanted] * 8)
+
+
+class Standard(unittest.TestCase):
+    @unittest.skipUnless(STANDARD.is_dir(), 'the tests of the standard are not here')
+    def test_codes(self):
+        """A valid map has no finding that is invalid, an invalid one has the codes that were found by hand."""
+        codes = dict(row.split('\t') for row in (STANDARD / 'codes.tsv').read_text().splitlines())
+        tests = json.loads((STANDARD / 'source-map-spec-tests.json').read_text())['tests']
+        self.assertEqual(len(tests), 58)
+        for test in tests:
+            with self.subTest(test['name']):
+                report = sourcemap.check((STANDARD / 'resources' / test['sourceMapFile']).read_bytes())
+                self.assertEqual(report.is_valid, test['sourceMapIsValid'])
+                found = {each.code for each in report.findings if each.severity == 'invalid'}
+                self.assertEqual(found, set(codes.get(test['name'], '').split()))
+
+    def test_real_maps(self):
+        paths = list(EXAMPLES.glob('*.map'))
+        self.assertGreater(len(paths), 1)
+        for path in paths:
+            with self.subTest(path.name):
+                self.assertTrue(sourcemap.check(path.read_bytes()).is_valid)
+
+
+class Program(unittest.TestCase):
+    def test_invalid(self):
+        self.assertEqual(run('check', '-', data=regular('AAAA;g')),
+                         ('-:mappings 1:0: SM132 the segment ends within a number\n'
+                          '1 invalid, 0 suspicious, 1 shown\n', 1, ''))
+
+    def test_most(self):
+        printed, status, error = run('check', '-', '--most', '2', data=regular('g,g,g'))
+        self.assertEqual((printed.splitlines()[-1], status, error), ('3 invalid, 0 suspicious, 2 shown', 1, ''))
+
+    def test_valid(self):
+        path = str(EXAMPLES / 'basket.min.js.map')
+        printed, status, error = run('check', path)
+        self.assertEqual((status, error), (0, ''))
+        self.assertRegex(printed.splitlines()[-1], r'^0 invalid, \d+ suspicious, \d+ shown$')
+
+    def test_strict(self):
+        data = regular('K,D', [])
+        printed = '-:mappings 0:1: SM221 the segment has a lower column than the one before it\n' \
+            '0 invalid, 1 suspicious, 1 shown\n'
+        self.assertEqual(run('check', '-', data=data), (printed, 0, ''))
+        self.assertEqual(run('check', '-', '--strict', data=data), (printed, 1, ''))
+
+    def test_files_that_cannot_be_read(self):
+        with tempfile.TemporaryDirectory() as folder:
+            text = Path(folder, 'out.js')
+            text.write_bytes(b'\xff')
+            printed, status, error = run('check', str(EXAMPLES / 'readme.map'), '--generated', str(text))
+            self.assertEqual((printed, status), ('', 1))
+            self.assertIn('utf-8', error.lower())
+        self.assertEqual(run('check', 'missing.map'),
+                         ('', 1, 'sourcemap: missing.map: No such file or directory\n'))

@@ -1,0 +1,85 @@
+"""Those who answer pieces: the order of what they return, processes that die, and errors."""
+
+from __future__ import annotations
+
+import contextlib
+import os
+import time
+import unittest
+from argparse import Namespace
+from pathlib import Path
+from typing import Callable, Generator
+from unittest import mock
+
+try:
+    import pandas  # noqa: F401
+except ImportError:
+    raise unittest.SkipTest('pandas and numpy are not installed') from None
+
+from sourcemap._tables import engines
+
+from . import dying
+from .test_release import Folder
+
+PATIENCE = 240
+
+
+def is_there(pid: int) -> bool:
+    with contextlib.suppress(ProcessLookupError):
+        os.kill(pid, 0)
+        return True
+    return False
+
+
+class Engines(Folder):
+    def started(self, call: Callable[[Path, int], int], count: int, workers: int = 3) -> Generator[int, None, None]:
+        run = engines.engine(Namespace(workers=workers, dask=None), is_small=False)
+        answers: Generator[int, None, None] = run(call, self.top, iter(range(count)))
+        self.addCleanup(answers.close)
+        return answers
+
+    def test_the_order(self) -> None:
+        for workers in 1, 3:
+            self.assertEqual(list(self.started(dying.an_error, 5, workers)), list(range(5)))
+        self.assertEqual(list(self.started(dying.always, 0)), [])
+
+    def test_little_is_done_here(self) -> None:
+        run = engines.engine(Namespace(workers=3, dask=None), is_small=True)
+        self.assertEqual(list(run(dying.slowly, self.top, iter([0]))), [os.getpid()])
+
+    def test_workers_that_die(self) -> None:
+        """They are asked again. The others, which end with them, have answered some before."""
+        self.assertEqual(list(self.started(dying.twice_a_number, 40)), list(range(0, 80, 2)))
+
+    def test_workers_that_always_die(self) -> None:
+        found = []
+        with mock.patch.object(engines, 'MOST_DEATHS', 3), self.assertRaisesRegex(ChildProcessError, 'died again and again'):
+            for each in self.started(dying.always, 40):
+                found.append(each)
+        self.assertEqual(found, [0, 1, 2])
+
+    def test_errors(self) -> None:
+        found = []
+        with self.assertRaisesRegex(ValueError, '5 is none'):
+            for each in self.started(dying.an_error, 40):
+                found.append(each)
+        self.assertEqual(found, list(range(5)))
+
+    def test_closed_early(self) -> None:
+        """What workers still do does not count, and they end."""
+        answers = self.started(dying.slowly, 10)
+        workers = {next(answers)}
+        end = time.monotonic() + PATIENCE
+        while len(os.listdir(self.top)) < 4:  # the release, and a file of each worker
+            self.assertLess(time.monotonic(), end, 'a worker was not asked')
+            time.sleep(0.01)
+        workers |= {int(name) for name in os.listdir(self.top) if name.isdigit()}
+        self.assertEqual(len(workers), 3)
+        answers.close()
+        while any(map(is_there, workers)):
+            self.assertLess(time.monotonic(), end, 'a worker is still there')
+            time.sleep(0.01)
+
+
+if __name__ == '__main__':
+    unittest.main()

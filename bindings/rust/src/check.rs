@@ -1,0 +1,146 @@
+//! Checks: whether bytes are a valid map by ECMA-426, and what looks wrong in a valid one.
+
+use std::fmt;
+
+use crate::errors::Result;
+use crate::handle::ReportHandle;
+
+/// What a check looks at.
+#[derive(Clone, Copy, Debug, PartialEq, Eq)]
+pub struct CheckOptions<'a> {
+    /// The generated text. If it is given, a valid map is compared with it.
+    pub generated: Option<&'a str>,
+    /// How many findings of each code the report has at most. 0 counts as 1.
+    pub most: u32,
+}
+
+impl Default for CheckOptions<'_> {
+    /// No generated text, and 20 findings of each code.
+    fn default() -> Self {
+        CheckOptions {
+            generated: None,
+            most: 20,
+        }
+    }
+}
+
+/// How grave a finding is.
+#[derive(Clone, Copy, Debug, PartialEq, Eq, PartialOrd, Ord, Hash)]
+pub enum Severity {
+    /// A rule of the standard is broken.
+    Invalid,
+    /// The map is valid, but something looks wrong.
+    Suspicious,
+}
+
+/// Where a finding is, beside its key. All counts from 0.
+#[derive(Clone, Copy, Debug, PartialEq, Eq, PartialOrd, Ord, Hash)]
+pub enum FindingPosition {
+    /// A segment of `mappings`.
+    Segment {
+        /// Its line.
+        line: usize,
+        /// Its index among the segments of the line.
+        index: usize,
+    },
+    /// A token, by its generated position.
+    Token {
+        /// The generated line.
+        line: usize,
+        /// The generated column.
+        column: usize,
+    },
+    /// Positions are off throughout.
+    Shift {
+        /// By so many lines.
+        lines: i32,
+        /// By so many columns.
+        columns: i32,
+    },
+}
+
+/// A place where a map breaks a rule of the standard, or where something looks wrong.
+///
+/// It is printed as `./sourcemap check` prints it, without the file:
+/// `sections[0].map.mappings 1:0: SM132 the segment ends within a number`.
+#[derive(Clone, Debug, PartialEq, Eq)]
+pub struct Finding {
+    /// The number of its code in `docs/CHECK.md`: 132 for `SM132`.
+    pub code: u32,
+    /// How grave it is.
+    pub severity: Severity,
+    /// The indexes of the sections that lead to its map, the outermost first; empty for the
+    /// whole map.
+    pub sections: Vec<usize>,
+    /// The key of the map. It is empty if the bytes are no JSON object.
+    pub key: String,
+    /// Its position, or none if the key says it all.
+    pub position: Option<FindingPosition>,
+    /// A sentence in English that says what is wrong.
+    pub sentence: String,
+}
+
+impl fmt::Display for FindingPosition {
+    fn fmt(&self, f: &mut fmt::Formatter<'_>) -> fmt::Result {
+        match self {
+            FindingPosition::Segment { line, index } => write!(f, "{line}:{index}"),
+            FindingPosition::Token { line, column } => write!(f, "at {line}:{column}"),
+            FindingPosition::Shift { lines, columns } => write!(f, "by {lines}:{columns}"),
+        }
+    }
+}
+
+impl fmt::Display for Finding {
+    fn fmt(&self, f: &mut fmt::Formatter<'_>) -> fmt::Result {
+        for section in &self.sections {
+            write!(f, "sections[{section}].map.")?;
+        }
+        f.write_str(&self.key)?;
+        if let Some(position) = self.position {
+            write!(f, " {position}")?;
+        }
+        write!(f, ": SM{} {}", self.code, self.sentence)
+    }
+}
+
+/// What a check found.
+#[derive(Clone, Debug, PartialEq, Eq)]
+pub struct Report {
+    /// The first findings of each code.
+    pub findings: Vec<Finding>,
+    /// How many are invalid, in all.
+    pub invalid: u64,
+    /// How many are suspicious, in all.
+    pub suspicious: u64,
+}
+
+impl Report {
+    /// Whether the bytes are a valid map by ECMA-426.
+    pub fn is_valid(&self) -> bool {
+        self.invalid == 0
+    }
+}
+
+/// Checks whether bytes are a valid map by ECMA-426, the standard of source maps, and looks for
+/// what looks wrong in a valid one. Any bytes give a report: bytes that are no JSON text are a
+/// finding. The only error is [`OutOfMemory`](crate::Error::OutOfMemory).
+///
+/// ```
+/// use sourcemap::{check, CheckOptions};
+/// let json = br#"{"version":3,"sources":["a.js"],"mappings":"AAAA;g"}"#;
+/// let report = check(json, &CheckOptions::default()).unwrap();
+/// assert!(!report.is_valid());
+/// assert_eq!(
+///     report.findings[0].to_string(),
+///     "mappings 1:0: SM132 the segment ends within a number"
+/// );
+/// ```
+pub fn check(bytes: &[u8], options: &CheckOptions<'_>) -> Result<Report> {
+    let report = ReportHandle::of(bytes, options)?;
+    let counts = report.counts();
+    Ok(Report {
+        findings: report.findings(),
+        invalid: counts.invalid,
+        suspicious: counts.suspicious,
+    })
+}

@@ -1,0 +1,19 @@
+// findings.mjs MAP [GENERATED]: prints what a check finds in MAP, beside the generated text, as `./sourcemap check` does.
+import { readFileSync } from 'node:fs';
+import { check } from '../node/lib/index.mjs';
+
+function positionText(position) {
+  if (position === null) return '';
+  const { line, index, column, lines, columns } = position;
+  if (index !== undefined) return ` ${line}:${index}`;
+  return column === undefined ? ` by ${lines}:${columns}` : ` at ${line}:${column}`;
+}
+
+const [map, text] = process.argv.slice(2).map((path) => readFileSync(path));
+const { valid, invalid, suspicious, findings } = check(map, { generated: text });
+for (const { code, sections, key, position, sentence } of findings) {
+  const path = sections.map((section) => `sections[${section}].map.`).join('');
+  console.log(`MAP:${path}${key}${positionText(position)}: ${code} ${sentence}`);
+}
+console.log(`${invalid} invalid, ${suspicious} suspicious, ${findings.length} shown`);
+process.exitCode = valid ? 0 : 1;

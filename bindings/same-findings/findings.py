@@ -1,0 +1,18 @@
+"""findings.py MAP [GENERATED]: prints what a check finds in MAP, beside the generated text, as `./sourcemap check` does."""
+import sys
+from pathlib import Path
+
+sys.path.insert(0, str(Path(__file__).resolve().parents[1] / 'python'))
+
+from sourcemap import check  # noqa: E402
+
+
+def main(path, *texts):
+    report = check(Path(path).read_bytes(), *(Path(text).read_bytes() for text in texts))
+    for finding in report.findings:
+        print(f'MAP:{finding}')
+    print(f'{report.invalid} invalid, {report.suspicious} suspicious, {len(report.findings)} shown')
+    return int(not report.is_valid)
+
+
+sys.exit(main(*sys.argv[1:]))

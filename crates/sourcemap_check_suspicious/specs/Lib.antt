@@ -1,0 +1,4 @@
+pub mod Codes
+pub mod Reading
+pub mod Shifted
+pub mod Suspects

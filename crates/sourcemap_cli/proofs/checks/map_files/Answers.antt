@@ -1,0 +1,6 @@
+use Rattle.sourcemap_cli.proofs.ChecksLemmas.{none_undecoded}
+use Rattle.sourcemap_cli.proofs.checks.map_files.Goals as goal
+
+pub returns-in-Err-clause-files : goal.returns-in-Err-clause-files
+returns-in-Err-clause-files g c =
+    none_undecoded c.args.bytes.now c.in-Err.error c.no_files_after.result c.in-Err.ensures c.no_files_after.ensures

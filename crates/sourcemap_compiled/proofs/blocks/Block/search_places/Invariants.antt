@@ -1,0 +1,19 @@
+use Rattle.std.proofs.Common.{◌≡◌, ◌≤◌, ◌<◌, ◌-◌, ◌/◌, ◌^◌}
+use Rattle.sourcemap_compiled.specs.Blocks.{position_in}
+use Rattle.sourcemap_compiled.proofs.blocks.Block.search_places.Given as goal
+
+abbrev pub invariant-loop-low : goal.invariant-loop-low
+invariant-loop-low l = record {
+  ordered : l.low ≤ l.high;
+  within : l.high ≤ l.size;
+  later : 0 < l.low;
+  first : l.low ≡ 1 → l.ahead ≡ l.self.start;
+  ahead : 1 < l.low → l.ahead ≡ position_in l.self.bytes.now (l.self.start / 2 ^ 32) l.self.head (l.low - 1);
+  next : l.high < l.size → l.next ≡ position_in l.self.bytes.now (l.self.start / 2 ^ 32) l.self.head l.high;
+  end : l.high ≡ l.size → l.next ≡ l.after;
+  before : l.ahead < l.position;
+  from : l.high < l.size → l.position ≤ l.next;
+}
+
+abbrev pub decreases-loop-low : goal.decreases-loop-low
+decreases-loop-low l = l.high - l.low
