@@ -94,11 +94,17 @@ fn maps_look_wrong(rt: HostRuntime) -> Checked {
     Ok(())
 }
 
+// What a text is read as. Any other error, such as out of memory, is returned.
+fn kind_read(alloc: Global, bytes: &[u8]) -> Result<&'static str> {
+    match read_text_map(alloc, bytes) {
+        Ok(_) => Ok("a regular map"),
+        Err(Error::IncompatibleSourceMap) => Ok("none"),
+        Err(error) => Err(error),
+    }
+}
+
 #[test]
 fn index_maps_are_not_looked_at(rt: HostRuntime) -> Checked {
-    let read = read_text_map(rt.alloc(), br#"{"version":3,"sections":[]}"#);
-    check_that(
-        "an index",
-        matches!(read, Err(Error::IncompatibleSourceMap)),
-    )
+    let kind = kind_read(rt.alloc(), br#"{"version":3,"sections":[]}"#)?;
+    check_that("an index", kind == "none")
 }
