@@ -14,6 +14,7 @@ use Rattle.sourcemap_compiled.specs.Blocks.{compiled_token, compiled_tokens, pos
 use Rattle.sourcemap_compiled.specs.Layout.{block_count, head_offset, token_count}
 use Rattle.sourcemap_compiled.specs.Lookup.{IsFirstAt, IsInOrder, position_of}
 use Rattle.sourcemap_compiled.specs.Numbers.{position_number}
+use Rattle.sourcemap_compiled.specs.Stored.{IsNear}
 
 -- ---- positions as numbers
 
@@ -48,6 +49,43 @@ apart_by_number a b c d other = elim (cases_eq a c) [
   ]
   | inr line ↦ grind (arith, nat_tests)
 ]
+
+-- ---- positions that have the right line, and the right column only on the line of a search
+
+pub near_same : {exact line near : ℕ} → near ≡ exact → IsNear exact line near
+near_same {exact} {line} same = record {
+  same = λ on. same;
+  earlier = λ l. subst (λ n. n / 2 ^ 32 < line) (sym same) l;
+  later = λ l. subst (λ n. line < n / 2 ^ 32) (sym same) l;
+}
+
+pub near_on : {exact line near : ℕ} → IsNear exact line near → near / 2 ^ 32 ≡ line → near ≡ exact
+near_on {exact} {line} is on = elim (cases_order (exact / 2 ^ 32) line) [
+  | inl here ↦ is.same here
+  | inr (inl less) ↦ let l = is.earlier less in absurd (omega arith)
+  | inr (inr more) ↦ let l = is.later more in absurd (omega arith)
+]
+
+pub near_below : {exact position near : ℕ} → IsNear exact (position / 2 ^ 32) near → near < position → exact < position
+near_below {exact} {position} is l = elim (cases_order (exact / 2 ^ 32) (position / 2 ^ 32)) [
+  | inl on ↦ subst (λ n. n < position) (is.same on) l
+  | inr (inl less) ↦ omega arith
+  | inr (inr more) ↦ let m = is.later more in absurd (omega arith)
+]
+
+pub near_from : {exact position near : ℕ} → IsNear exact (position / 2 ^ 32) near → position ≤ near → position ≤ exact
+near_from {exact} {position} is l = elim (cases_order (exact / 2 ^ 32) (position / 2 ^ 32)) [
+  | inl on ↦ subst (λ n. position ≤ n) (is.same on) l
+  | inr (inl less) ↦ let m = is.earlier less in absurd (omega arith)
+  | inr (inr more) ↦ omega arith
+]
+
+pub near_hit : {exact position near : ℕ} → IsNear exact (position / 2 ^ 32) near → near ≡ position → exact ≡ position
+near_hit is hit = sym (near_on is (ap (λ n. n / 2 ^ 32) hit)) ∙ hit
+
+pub near_back : {exact position near : ℕ} → IsNear exact (position / 2 ^ 32) near → exact ≡ position
+    → near ≡ position
+near_back is hit = is.same (ap (λ n. n / 2 ^ 32) hit) ∙ hit
 
 -- ---- tokens by index
 
@@ -192,28 +230,35 @@ module _ (bytes : List ℕ) (position : ℕ) where
       (later : 0 < place) where
     pub ahead_at : (ahead : ℕ) → (place ≡ 1 → ahead ≡ start_at bytes block)
         → (1 < place
-        → ahead ≡ position_in bytes (start_at bytes block / 2 ^ 32) (head_offset bytes block) (place - 1))
-        → ahead ≡ position_of bytes (64 * block + place - 1)
+        → IsNear (position_in bytes (start_at bytes block / 2 ^ 32) (head_offset bytes block) (place - 1))
+        (position / 2 ^ 32) ahead)
+        → IsNear (position_of bytes (64 * block + place - 1)) (position / 2 ^ 32) ahead
     ahead_at ahead first more = elim (cases_eq place 1) [
       | inl one ↦
           let back : 64 * block + place - 1 ≡ 64 * block = omega arith in
-          first one ∙ sym (ap (position_of bytes) back ∙ position_of-first bytes block)
+          near_same (first one ∙ sym (ap (position_of bytes) back ∙ position_of-first bytes block))
       | inr other ↦
           let back : 64 * block + place - 1 ≡ 64 * block + (place - 1) = omega arith in
-          more (omega arith)
-          ∙ sym (ap (position_of bytes) back ∙ placed_at bytes block (place - 1) (omega arith) (omega arith))
+          subst (λ n. IsNear n (position / 2 ^ 32) ahead)
+          (sym (ap (position_of bytes) back ∙ placed_at bytes block (place - 1) (omega arith) (omega arith)))
+          (more (omega arith))
     ]
 
     pub next_there : (next : ℕ)
-        → (place < size → next ≡ position_in bytes (start_at bytes block / 2 ^ 32) (head_offset bytes block) place)
+        → (place < size
+        → IsNear (position_in bytes (start_at bytes block / 2 ^ 32) (head_offset bytes block) place)
+        (position / 2 ^ 32) next)
         → (place ≡ size → block + 1 < block_count bytes → next ≡ start_at bytes (block + 1))
-        → 64 * block + place < token_count bytes → next ≡ position_of bytes (64 * block + place)
+        → 64 * block + place < token_count bytes
+        → IsNear (position_of bytes (64 * block + place)) (position / 2 ^ 32) next
     next_there next here end l = elim (cases_lt place size) [
-      | inl less ↦ here less ∙ sym (placed_at bytes block place later (omega arith))
+      | inl less ↦
+          subst (λ n. IsNear n (position / 2 ^ 32) next) (sym (placed_at bytes block place later (omega arith)))
+          (here less)
       | inr all ↦
           let after : 64 * block + place ≡ 64 * (block + 1) = omega arith in
-          end (omega arith) (omega arith)
-          ∙ sym (ap (position_of bytes) after ∙ position_of-first bytes (block + 1))
+          near_same (end (omega arith) (omega arith)
+          ∙ sym (ap (position_of bytes) after ∙ position_of-first bytes (block + 1)))
     ]
 
 -- ---- the first token at or after a position determines the closest one

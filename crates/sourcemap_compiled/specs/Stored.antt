@@ -37,14 +37,22 @@ placed_token bytes start head place position = record (token_in bytes (start / 2
   dst_col = position % 2 ^ 32;
 }
 
+-- a position, if it is on the searched line; otherwise a number on the same side of this line
+pub record IsNear (exact searched near : ℕ) : Type 0 where
+  pub same : exact / 2 ^ 32 ≡ searched → near ≡ exact
+  pub earlier : exact / 2 ^ 32 < searched → near / 2 ^ 32 < searched
+  pub later : searched < exact / 2 ^ 32 → searched < near / 2 ^ 32
+
 -- a bracket of a position among the first `size` tokens of the block with this start and head: the token at its index is
 -- at or after the position, and the token ahead of it is before the position. `after` stands for the position at `size`
 pub record IsBracket (bytes : List ℕ) (start head size position after : ℕ) (found : Bracket) : Type 0 where
   pub within : found.index ≤ size
   pub later : 0 < found.index
   pub first : found.index ≡ 1 → found.ahead ≡ start
-  pub ahead : 1 < found.index → found.ahead ≡ position_in bytes (start / 2 ^ 32) head (found.index - 1)
-  pub next : found.index < size → found.next ≡ position_in bytes (start / 2 ^ 32) head found.index
+  pub ahead : 1 < found.index
+      → IsNear (position_in bytes (start / 2 ^ 32) head (found.index - 1)) (position / 2 ^ 32) found.ahead
+  pub next : found.index < size
+      → IsNear (position_in bytes (start / 2 ^ 32) head found.index) (position / 2 ^ 32) found.next
   pub end : found.index ≡ size → found.next ≡ after
   pub before : found.ahead < position
   pub from : found.index < size → position ≤ found.next

@@ -67,6 +67,7 @@ pub(crate) struct Positions<'a> {
 }
 
 /// Where a search ends: the index of a token, the position of the token ahead of it, and its own.
+/// For a token on another line than the search is, these may be numbers on other lines instead.
 #[derive(Clone, Copy)]
 pub(crate) struct Bracket {
     pub(crate) index: usize,
@@ -186,13 +187,38 @@ impl<'a> Block<'a> {
         ensures { IsBracket self.now.bytes.now self.now.start self.now.head size position after result }
     {
         let positions = self.positions(inside);
+        // Two copies of the search, of which that for one line reads no lines.
+        if positions.lines.width == 0 {
+            self.search_positions(&positions, size, position, after, true)
+        } else {
+            self.search_positions(&positions, size, position, after, false)
+        }
+    }
+
+    #[inline(always)]
+    fn search_positions(
+        &self,
+        positions: &Positions<'_>,
+        size: usize,
+        position: u64,
+        after: u64,
+        one_line: bool,
+    ) -> Bracket
+        requires few { size ≤ 64 }
+        requires some { 0 < size }
+        requires starts { self.now.start < position }
+        requires positions { (place : ℕ) → position_by positions.now place
+            ≡ position_in self.now.bytes.now (self.now.start / 2 ^ 32) self.now.head place }
+        ensures { IsBracket self.now.bytes.now self.now.start self.now.head size position after result }
+    {
+        let line = (position >> 32) as u32;
         let mut low = 1;
         let mut high = size;
         let mut ahead = self.start;
         let mut next = after;
         while low < high {
             let middle = (low + high) / 2;
-            let here = positions.at(middle);
+            let here = positions.near(middle, line, one_line);
             if here < position {
                 low = middle + 1;
                 ahead = here;
@@ -324,7 +350,28 @@ impl Field<'_> {
 }
 
 impl Positions<'_> {
-    ghost use Rattle.sourcemap_compiled.specs.Stored.{position_by};
+    ghost use Rattle.sourcemap_compiled.specs.Stored.{IsNear, position_by};
+
+    /// Returns the generated position of the token at a place other than 0, as one number, if it is
+    /// on this line. For a token on another line a number on an earlier or later line will do, and
+    /// then no column is read. If all are on one line, columns alone are read.
+    #[inline(always)]
+    fn near(&self, place: usize, line: u32, one_line: bool) -> u64
+        requires { place < 64 }
+        ensures { IsNear (position_by self.now place) line result }
+    {
+        if one_line {
+            return self.at(place);
+        }
+        let here = add(self.line, self.lines.number(place));
+        if here == line {
+            position_number(here, add(self.column, self.columns.read(place)))
+        } else if here < line {
+            0
+        } else {
+            u64::MAX
+        }
+    }
 
     /// Returns the generated position of the token at a place other than 0, as one number.
     #[inline(always)]

@@ -1,5 +1,5 @@
 //! The search for the token closest to a position.
-ghost use Rattle.std.specs.Prelude.{◌≡◌, ◌≤◌, ◌<◌, ◌-◌, IfSome, MatchOption, option_map};
+ghost use Rattle.std.specs.Prelude.{◌≡◌, ◌≤◌, ◌<◌, ◌-◌, ◌/◌, ◌^◌, IfSome, MatchOption, option_map};
 ghost use Rattle.sourcemap_tokens.specs.Tokens.{closest_token};
 ghost use Rattle.sourcemap_compiled.specs.Blocks.{compiled_token, compiled_tokens, start_at};
 ghost use Rattle.sourcemap_compiled.specs.Layout.{block_count, token_count};
@@ -10,7 +10,7 @@ use crate::blocks::{BLOCK_SIZE, Bracket, position_number};
 use crate::map::CompiledMap;
 
 impl CompiledMap<'_> {
-    ghost use Rattle.sourcemap_compiled.specs.Stored.{bytes_of};
+    ghost use Rattle.sourcemap_compiled.specs.Stored.{IsNear, bytes_of};
 
     /// Returns the index of the token closest to a position, if there is one, and the position of
     /// that token. If the tokens are not in order, returns those of some token next to the
@@ -34,7 +34,22 @@ impl CompiledMap<'_> {
         let Some(index) = found.index.checked_sub(1) else {
             return None;
         };
-        Some((index, found.ahead))
+        Some((index, self.exact_position(index, position, found.ahead)))
+    }
+
+    /// Returns the generated position of a token, for which a search for a position found this
+    /// position.
+    #[inline(always)]
+    fn exact_position(&self, index: usize, position: u64, near: u64) -> u64
+        requires within { index < token_count (bytes_of self.now) }
+        requires near { IsNear (position_of (bytes_of self.now) index) (position / 2 ^ 32) near }
+        ensures { result ≡ position_of (bytes_of self.now) index }
+    {
+        if near >> 32 == position >> 32 {
+            near
+        } else {
+            self.position(index)
+        }
     }
 
     /// Searches for a token at or after a position, where the token ahead of it is before the
@@ -44,9 +59,10 @@ impl CompiledMap<'_> {
     #[inline(always)]
     fn search(&self, position: u64) -> Bracket
         ensures index { IsFirstAt (bytes_of self.now) position result.index }
-        ensures ahead { 0 < result.index → result.ahead ≡ position_of (bytes_of self.now) (result.index - 1) }
+        ensures ahead { 0 < result.index
+            → IsNear (position_of (bytes_of self.now) (result.index - 1)) (position / 2 ^ 32) result.ahead }
         ensures next { result.index < token_count (bytes_of self.now)
-            → result.next ≡ position_of (bytes_of self.now) result.index }
+            → IsNear (position_of (bytes_of self.now) result.index) (position / 2 ^ 32) result.next }
     {
         let first_block = self.first_block(position);
         let next = self.start_or_zero(first_block);

@@ -1,7 +1,7 @@
 use Rattle.std.proofs.Common.{◌≡◌, ◌<◌, ◌-◌, sym, subst, ◌∙◌, inl, inr, arith}
 use Rattle.std.proofs.lemmas.Bool.{cases_eq}
 use Rattle.sourcemap_compiled.specs.Lookup.{IsFirstAt}
-use Rattle.sourcemap_compiled.proofs.LookupLemmas.{found_at, found_before, found_none}
+use Rattle.sourcemap_compiled.proofs.LookupLemmas.{found_at, found_before, found_none, near_back, near_hit}
 use Rattle.sourcemap_compiled.proofs.map.CompiledMap.closest_index.Goals as goal
 use Rattle.sourcemap_compiled.proofs.map.CompiledMap.closest_index.Goals.{then-found-token_count+else-found-position}
 use Rattle.sourcemap_compiled.proofs.map.CompiledMap.closest_index.Goals.{else-found-token_count}
@@ -12,7 +12,7 @@ returns-then-found-position-clause-closest c up =
     let first = subst (λ q. IsFirstAt bytes q c.search-found.result.index) c.position_number-position.ensures
     c.search-found.ensures.index in
     found_at bytes (c.args.line, c.args.column) c.search-found.result.index up (omega arith) first (omega arith)
-    (sym (c.search-found.ensures.next (omega arith)) ∙ c.if-found-position.true ∙ c.position_number-position.ensures)
+    (near_hit (c.search-found.ensures.next (omega arith)) c.if-found-position.true ∙ c.position_number-position.ensures)
 
 pub returns-in_default-clause-closest : goal.returns-in_default-clause-closest
 returns-in_default-clause-closest c up =
@@ -27,7 +27,7 @@ returns-in_default-clause-closest c up =
     (λ l same. elim c.if-found-token_count.branch [
       | then-found-token_count+else-found-position w ↦
           w.if-found-position.false
-          (c.search-found.ensures.next l ∙ same ∙ sym c.position_number-position.ensures)
+          (near_back (c.search-found.ensures.next l) (same ∙ sym c.position_number-position.ensures))
       | else-found-token_count w ↦ absurd (omega arith)
     ])
 
@@ -41,7 +41,7 @@ returns-clause-closest c up =
     (λ l same. elim c.if-found-token_count.branch [
       | then-found-token_count+else-found-position w ↦
           w.if-found-position.false
-          (c.search-found.ensures.next l ∙ same ∙ sym c.position_number-position.ensures)
+          (near_back (c.search-found.ensures.next l) (same ∙ sym c.position_number-position.ensures))
       | else-found-token_count w ↦ absurd (omega arith)
     ]) in
     let back : c.in-Some.index ≡ index - 1 = omega (arith, c.in-Some.ensures) in

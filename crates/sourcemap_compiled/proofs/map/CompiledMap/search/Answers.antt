@@ -2,8 +2,9 @@ use Rattle.std.proofs.Common.{◌≡◌, ◌≤◌, ◌<◌, ◌+◌, ◌-◌, �
 use Rattle.std.proofs.lemmas.Bool.{cases_eq}
 use Rattle.sourcemap_compiled.specs.Blocks.{position_in, start_at}
 use Rattle.sourcemap_compiled.specs.Layout.{block_count}
-use Rattle.sourcemap_compiled.proofs.LookupLemmas.{ahead_at, by_parts, first_at_front, first_at_place, next_there}
-use Rattle.sourcemap_compiled.proofs.LookupLemmas.{position_of-first}
+use Rattle.sourcemap_compiled.specs.Stored.{IsNear}
+use Rattle.sourcemap_compiled.proofs.LookupLemmas.{ahead_at, by_parts, first_at_front, first_at_place, near_below}
+use Rattle.sourcemap_compiled.proofs.LookupLemmas.{near_from, near_same, next_there, position_of-first}
 use Rattle.sourcemap_compiled.proofs.map.CompiledMap.search.Goals as goal
 
 pub returns-in_default : goal.returns-in_default
@@ -18,8 +19,8 @@ returns-in_default c =
     record {
       index = first_at_front bytes c.args.position from;
       ahead = λ l. absurd (omega arith);
-      next = λ l. c.start_or_zero-next.ensures (omega arith) ∙ ap (start_at bytes) front
-          ∙ sym (position_of-first bytes 0);
+      next = λ l. near_same (c.start_or_zero-next.ensures (omega arith) ∙ ap (start_at bytes) front
+          ∙ sym (position_of-first bytes 0));
     }
 
 pub returns-clause-index : goal.returns-clause-index
@@ -37,9 +38,9 @@ returns-clause-index c =
     (subst (λ k. start_at bytes k < c.args.position) here (c.first_block-first_block.ensures.before some))
     (λ l. subst (λ k. c.args.position ≤ start_at bytes k) next (c.first_block-first_block.ensures.from (omega arith)))
     (λ l. by_parts (λ x start head. position_in x (start / 2 ^ 32) head (found.index - 1) < c.args.position)
-    _ _ _ _ _ _ part.bytes part.start part.head (subst (λ n. n < c.args.position) (inside.ahead l) inside.before))
+    _ _ _ _ _ _ part.bytes part.start part.head (near_below (inside.ahead l) inside.before))
     (λ l. by_parts (λ x start head. c.args.position ≤ position_in x (start / 2 ^ 32) head found.index)
-    _ _ _ _ _ _ part.bytes part.start part.head (subst (λ n. c.args.position ≤ n) (inside.next l) (inside.from l)))
+    _ _ _ _ _ _ part.bytes part.start part.head (near_from (inside.next l) (inside.from l)))
 
 pub returns-clause-ahead : goal.returns-clause-ahead
 returns-clause-ahead c l =
@@ -49,7 +50,8 @@ returns-clause-ahead c l =
     let inside = c.search-found.ensures in
     ahead_at bytes c.args.position c.in-Some.block c.min-size.result found.index (omega arith) inside.within inside.later
     found.ahead (λ one. inside.first one ∙ part.start)
-    (λ more. by_parts (λ x start head. found.ahead ≡ position_in x (start / 2 ^ 32) head (found.index - 1))
+    (λ more. by_parts (λ x start head. IsNear (position_in x (start / 2 ^ 32) head (found.index - 1))
+    (c.args.position / 2 ^ 32) found.ahead)
     _ _ _ _ _ _ part.bytes part.start part.head (inside.ahead more))
 
 pub returns-clause-next : goal.returns-clause-next
@@ -61,6 +63,7 @@ returns-clause-next c l =
     let next : c.first_block-first_block.result ≡ c.in-Some.block + 1 = omega (arith, c.in-Some.ensures) in
     next_there bytes c.args.position c.in-Some.block c.min-size.result found.index (omega arith) inside.within inside.later
     found.next
-    (λ less. by_parts (λ x start head. found.next ≡ position_in x (start / 2 ^ 32) head found.index)
+    (λ less. by_parts (λ x start head. IsNear (position_in x (start / 2 ^ 32) head found.index)
+    (c.args.position / 2 ^ 32) found.next)
     _ _ _ _ _ _ part.bytes part.start part.head (inside.next less))
     (λ all there. inside.end all ∙ c.start_or_zero-next.ensures (omega arith) ∙ ap (start_at bytes) next) l
