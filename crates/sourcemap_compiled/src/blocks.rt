@@ -1,5 +1,5 @@
 //! Blocks of packed tokens.
-ghost use Rattle.std.specs.Prelude.{◌≡◌, ℕ, ◌≤◌, ◌<◌, ◌+◌, ◌*◌, ◌/◌, ◌%◌, ◌^◌, IsTrue, length};
+ghost use Rattle.std.specs.Prelude.{◌≡◌, ◌↔◌, ℕ, ◌≤◌, ◌<◌, ◌+◌, ◌*◌, ◌/◌, ◌%◌, ◌^◌, IsTrue, length};
 ghost use Rattle.sourcemap_compiled.specs.Blocks.{base_at, field_at, packed_at, position_in, scope_field};
 ghost use Rattle.sourcemap_compiled.specs.Blocks.{width_at, widths_before};
 ghost use Rattle.sourcemap_compiled.specs.Numbers.{position_number, u32_at};
@@ -73,6 +73,14 @@ pub(crate) struct Bracket {
     pub(crate) index: usize,
     pub(crate) ahead: u64,
     pub(crate) next: u64,
+}
+
+/// What a search reads of a token: whether it is before the position, and its own position, or a
+/// number on another line if it is not on the line of the search.
+#[derive(Clone, Copy)]
+struct Near {
+    is_before: bool,
+    position: u64,
 }
 
 impl<'a> Block<'a> {
@@ -211,20 +219,19 @@ impl<'a> Block<'a> {
             ≡ position_in self.now.bytes.now (self.now.start / 2 ^ 32) self.now.head place }
         ensures { IsBracket self.now.bytes.now self.now.start self.now.head size position after result }
     {
-        let line = (position >> 32) as u32;
         let mut low = 1;
         let mut high = size;
         let mut ahead = self.start;
         let mut next = after;
         while low < high {
             let middle = (low + high) / 2;
-            let here = positions.near(middle, line, one_line);
-            if here < position {
+            let here = positions.near(middle, position, one_line);
+            if here.is_before {
                 low = middle + 1;
-                ahead = here;
+                ahead = here.position;
             } else {
                 high = middle;
-                next = here;
+                next = here.position;
             }
         }
         Bracket {
@@ -356,20 +363,36 @@ impl Positions<'_> {
     /// on this line. For a token on another line a number on an earlier or later line will do, and
     /// then no column is read. If all are on one line, columns alone are read.
     #[inline(always)]
-    fn near(&self, place: usize, line: u32, one_line: bool) -> u64
+    fn near(&self, place: usize, position: u64, one_line: bool) -> Near
         requires { place < 64 }
-        ensures { IsNear (position_by self.now place) line result }
+        ensures near { IsNear (position_by self.now place) (position / 2 ^ 32) result.position }
+        ensures before { IsTrue result.is_before ↔ (result.position < position) }
     {
         if one_line {
-            return self.at(place);
+            let here = self.at(place);
+            return Near {
+                is_before: here < position,
+                position: here,
+            };
         }
+        let line = (position >> 32) as u32;
         let here = add(self.line, self.lines.number(place));
-        if here == line {
-            position_number(here, add(self.column, self.columns.read(place)))
-        } else if here < line {
-            0
-        } else {
-            u64::MAX
+        if here < line {
+            return Near {
+                is_before: true,
+                position: 0,
+            };
+        }
+        if here > line {
+            return Near {
+                is_before: false,
+                position: u64::MAX,
+            };
+        }
+        let here = position_number(here, add(self.column, self.columns.read(place)));
+        Near {
+            is_before: here < position,
+            position: here,
         }
     }
 

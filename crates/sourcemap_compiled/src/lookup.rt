@@ -67,6 +67,20 @@ impl<'a> CompiledMap<'a> {
 fn distance(token: &RawToken, line: u32, column: u32) -> u32
     ensures { result ≡ distance token.now (line, column) }
 {
+    if token.is_range {
+        let token = *token;
+        range_distance(token, line, column)
+    } else {
+        0
+    }
+}
+
+// Range tokens are rare, and apart from them no lookup pays for them.
+#[cold]
+#[inline(never)]
+fn range_distance(token: RawToken, line: u32, column: u32) -> u32
+    ensures { result ≡ distance token (line, column) }
+{
     if token.is_range && token.dst_line == line {
         column.saturating_sub(token.dst_col)
     } else {
