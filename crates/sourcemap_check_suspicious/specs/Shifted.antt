@@ -1,6 +1,7 @@
 -- When the positions of a map are off by one shift throughout.
 use Rattle.std.specs.Prelude.{◌≡◌, ℕ, ◌++◌, List, if◌then◌else◌, Option, Some, None, option_map, option_to_list}
 use Rattle.sourcemap_map_regular.specs.Map.{MapValue}
+use Rattle.sourcemap_check_texts.specs.Sources.{Files}
 use Rattle.sourcemap_check_texts.specs.Shifts.{AreBestMatches, LandmarkValue, is_suspicious, landmarks}
 use Rattle.sourcemap_check_texts.specs.declared.shifts.Matches.{Matches}
 use Rattle.sourcemap_check_texts.specs.declared.shifts.Shift.{Shift}
@@ -24,14 +25,14 @@ pub record IsOff (kind : Shift → Shifted) (words : List LandmarkValue) (shifte
   pub is : shifted ≡ option_map kind (suspected matches)
 
 -- the words of a map in its generated text, if one is given
-abbrev pub IsOffBeside : MapValue → (generated : Option (List ℕ)) → Option Shifted → Type 0
-IsOffBeside m None shifted = shifted ≡ None
-IsOffBeside m (Some text) shifted = IsOff Generated (landmarks (Some text) m) shifted
+abbrev pub IsOffBeside : MapValue → Files → (generated : Option (List ℕ)) → Option Shifted → Type 0
+IsOffBeside m files None shifted = shifted ≡ None
+IsOffBeside m files (Some text) shifted = IsOff Generated (landmarks (Some text) m files) shifted
 
--- the names in the contents of sources, then the words in the generated text
-pub record AreOff (m : MapValue) (generated : Option (List ℕ)) (shifts : List Shifted) : Type 0 where
+-- the names in the texts of sources, then the words in the generated text
+pub record AreOff (m : MapValue) (generated : Option (List ℕ)) (files : Files) (shifts : List Shifted) : Type 0 where
   pub first : Option Shifted
   pub second : Option Shifted
-  pub first_is : IsOff Original (landmarks None m) first
-  pub second_is : IsOffBeside m generated second
+  pub first_is : IsOff Original (landmarks None m files) first
+  pub second_is : IsOffBeside m files generated second
   pub all : shifts ≡ option_to_list first ++ option_to_list second

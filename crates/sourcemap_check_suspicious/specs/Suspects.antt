@@ -1,12 +1,13 @@
 -- What looks wrong in a map with its texts, and beside its generated text, in the order of codes.
 use Rattle.std.specs.Prelude.{◌≡◌, ℕ, ◌+◌, ◌≤◌, Bool, true, false, is_some, List, [], ◌∷◌, ◌++◌, cond, flat_map, length, map, min, take}
-use Rattle.std.specs.Prelude.{slice_get, Option, Some, None, Result, Ok, Err}
+use Rattle.std.specs.Prelude.{slice_get, Option, Some, Result, Ok, Err}
 use Rattle.std.specs.Option.{option_map_or}
 use Rattle.sourcemap_errors.specs.declared.errors.Error.{Error}
 use Rattle.sourcemap_records.specs.Bytes.{BytesHaveResult}
 use Rattle.sourcemap_map_regular.specs.Map.{MapValue}
 use Rattle.sourcemap_check_texts.specs.Doubts.{marked, is_doubtful}
 use Rattle.sourcemap_check_texts.specs.Generated.{is_misplaced}
+pub use Rattle.sourcemap_check_texts.specs.Sources.{Files}
 use Rattle.sourcemap_check_links.specs.Links.{other_id}
 use Rattle.sourcemap_check_lists.specs.Contents.{has_contents_doubt}
 use Rattle.sourcemap_check_lists.specs.Lists.{is_doubtful as is_doubtful_item, item_count}
@@ -55,18 +56,15 @@ token_suspects suspicion m indexes = map (token_suspect suspicion m) indexes
 abbrev pub suspect_tokens : Suspicion → (ℕ → Bool) → MapValue → List Suspect
 suspect_tokens suspicion test m = token_suspects suspicion m (marked test (length m.tokens))
 
--- the text of the file of each source, if files are given
-abbrev pub Files : Type 0
-Files = Option (List (Option (List ℕ)))
-
 -- files say which sources have neither contents nor a file
 abbrev pub is_covered : ListDoubt → Files → Bool
 is_covered MissingContents (Some files) = true
 is_covered _ _ = false
 
--- all that looks wrong in one way. Without a generated text nothing looks wrong beside it, and so for files
+-- all that looks wrong in one way. Tokens are looked at beside the texts of their sources. Without a generated text nothing
+-- looks wrong beside it, and without files no contents do
 abbrev pub suspects_of : Suspicion → TextMapValue → (generated : Option (List ℕ)) → Files → List Suspect
-suspects_of (Token doubt) m generated files = suspect_tokens (Token doubt) (is_doubtful doubt m.map) m.map
+suspects_of (Token doubt) m generated files = suspect_tokens (Token doubt) (is_doubtful doubt m.map files) m.map
 suspects_of (Item doubt) m generated files =
     cond (is_covered doubt files) []
     (map (item_suspect (Item doubt)) (marked (is_doubtful_item doubt m.map) (item_count doubt m.map)))
@@ -104,7 +102,7 @@ pub record HasNone (found : Suspicious) : Type 0 where
 pub record LooksWrong (most : ℕ) (m : TextMapValue) (generated : Option (List ℕ)) (files : Files) (found : Suspicious)
     : Type 0 where
   pub places : AreSuspects most m generated files found.places
-  pub shifts : AreOff m.map generated found.shifts.items
+  pub shifts : AreOff m.map generated files found.shifts.items
 
 -- what looks wrong in a decoded map; nothing if there is an error
 abbrev pub LooksWrongIn : (most : ℕ) → Result TextMapValue Error → (generated : Option (List ℕ)) → Files → Suspicious → Type 0

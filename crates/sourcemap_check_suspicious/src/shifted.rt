@@ -15,7 +15,7 @@ use std::alloc::Global;
 /// Which positions are off, and by which shift.
 #[derive(Clone, Copy, Debug, PartialEq, Eq)]
 pub enum Shifted {
-    /// The original positions: names stand in the contents of their sources after the shift.
+    /// The original positions: names stand in the texts of their sources after the shift.
     Original(Shift),
     /// The generated positions: words stand in the generated text after the shift.
     Generated(Shift),
@@ -53,25 +53,36 @@ fn push_if_some(shifts: &mut Vec<Shifted>, shifted: Option<Shifted>) -> Result<(
     Ok(())
 }
 
-fn original(alloc: Global, map: &SourceMap) -> Result<Option<Shifted>>
-    ensures off { IfOk result (IsOff Original (landmarks None map.now)) }
+fn original(
+    alloc: Global,
+    map: &SourceMap,
+    files: Option<&[Option<SourceView>]>,
+) -> Result<Option<Shifted>>
+    ensures off { IfOk result
+        (IsOff Original (landmarks None map.now (option_copied files.entry))) }
     ensures memory { IfErr result (λ e. e ≡ OutOfMemory) }
 {
-    let matches = original_shift(alloc, map)?;
+    let matches = original_shift(alloc, map, files)?;
     match suspected(matches) {
         Some(shift) => Ok(Some(Shifted::Original(shift))),
         None => Ok(None),
     }
 }
 
-fn beside(alloc: Global, map: &SourceMap, generated: Option<&SourceView>) -> Result<Option<Shifted>>
-    ensures off { IfOk result (IsOffBeside map.now (option_copied generated.entry)) }
+fn beside(
+    alloc: Global,
+    map: &SourceMap,
+    files: Option<&[Option<SourceView>]>,
+    generated: Option<&SourceView>,
+) -> Result<Option<Shifted>>
+    ensures off { IfOk result (IsOffBeside map.now (option_copied files.entry)
+        (option_copied generated.entry)) }
     ensures memory { IfErr result (λ e. e ≡ OutOfMemory) }
 {
     let Some(text) = generated else {
         return Ok(None);
     };
-    let matches = generated_shift(alloc, map, text)?;
+    let matches = generated_shift(alloc, map, files, text)?;
     match suspected(matches) {
         Some(shift) => Ok(Some(Shifted::Generated(shift))),
         None => Ok(None),
@@ -79,19 +90,22 @@ fn beside(alloc: Global, map: &SourceMap, generated: Option<&SourceView>) -> Res
 }
 
 /// The shifts of a map that `is_suspicious` says are to be suspected: of original positions, then of
-/// generated ones, if a generated text is given. The only error is `OutOfMemory`.
+/// generated ones, if a generated text is given. `files` are for sources without contents. The only
+/// error is `OutOfMemory`.
 pub fn shifts_of(
     alloc: Global,
     map: &SourceMap,
     generated: Option<&SourceView>,
+    files: Option<&[Option<SourceView>]>,
 ) -> Result<Vec<Shifted>>
     ensures off { IfOk result
-        (λ shifts. AreOff map.now (option_copied generated.entry) shifts.items) }
+        (λ shifts. AreOff map.now (option_copied generated.entry) (option_copied files.entry)
+        shifts.items) }
     ensures memory { IfErr result (λ e. e ≡ OutOfMemory) }
 {
     let mut shifts = Vec::new(alloc);
-    let first = original(alloc, map)?;
-    let second = beside(alloc, map, generated)?;
+    let first = original(alloc, map, files)?;
+    let second = beside(alloc, map, files, generated)?;
     push_if_some(&mut shifts, first)?;
     push_if_some(&mut shifts, second)?;
     Ok(shifts)

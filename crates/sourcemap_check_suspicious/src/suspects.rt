@@ -225,7 +225,7 @@ fn add_all(
 {
     match suspicion {
         Suspicion::Token(doubt) => {
-            let places = doubtful_tokens(alloc, &map.map, doubt, most)?;
+            let places = doubtful_tokens(alloc, &map.map, files, doubt, most)?;
             add_tokens(found, &map.map, suspicion, &places)
         }
         Suspicion::Item(doubt) => add_listed(alloc, found, map, files, doubt, most),
@@ -244,7 +244,8 @@ fn add_all(
 
 /// What looks wrong in a map, and with a generated text and the files of its sources also beside
 /// them: the first `most` of each kind, in the order of codes, and how many there are of all kinds.
-/// The only error is `OutOfMemory`.
+/// The original positions in a source without contents are looked at beside its file. The only error
+/// is `OutOfMemory`.
 pub fn suspects_in(
     alloc: Global,
     map: &TextMap,
@@ -297,7 +298,7 @@ fn look_at(
     ensures memory { IfErr result (λ e. e ≡ OutOfMemory) }
 {
     let places = suspects_in(alloc, map, generated, files, most)?;
-    let shifts = shifts_of(alloc, &map.map, generated)?;
+    let shifts = shifts_of(alloc, &map.map, generated, files)?;
     Ok(Suspicious { places, shifts })
 }
 
@@ -315,9 +316,9 @@ fn nothing_after(alloc: Global, error: &Error) -> Result<Suspicious>
 
 /// What looks wrong in the map that bytes decode to: in the map itself, beside a generated text if
 /// one is given, and beside the files of its sources if they are given. Of files there is one for
-/// each source; `None` is a source without a file, or with one that is no text. Nothing looks wrong
-/// in an index map, and in bytes that `read_text_map` does not decode. The only error is
-/// `OutOfMemory`.
+/// each source; `None` is a source without a file, or with one that is no text. The file stands for
+/// contents that the map lacks. Nothing looks wrong in an index map, and in bytes that
+/// `read_text_map` does not decode. The only error is `OutOfMemory`.
 pub fn suspicious_beside(
     alloc: Global,
     bytes: &[u8],

@@ -171,13 +171,13 @@ fn counts_text(alloc: Global, found: Option<Matches>) -> Result<String> {
 
 fn source_counts(alloc: Global, contents: &str, mappings: &str) -> Result<String> {
     let map = map_of(alloc, contents, mappings)?;
-    counts_text(alloc, original_shift(alloc, &map)?)
+    counts_text(alloc, original_shift(alloc, &map, None)?)
 }
 
 fn text_counts(alloc: Global, generated: &str, mappings: &str) -> Result<String> {
     let map = map_of(alloc, "alpha\\nbeta\\ngamma\\ndelta", mappings)?;
     let view = SourceView::new(alloc, generated)?;
-    counts_text(alloc, generated_shift(alloc, &map, &view)?)
+    counts_text(alloc, generated_shift(alloc, &map, None, &view)?)
 }
 
 #[test]
@@ -194,4 +194,32 @@ fn words_stand_after_shifts(rt: HostRuntime) -> Checked {
         check(name, text_counts(rt.alloc(), generated, mappings), counts)?;
     }
     Ok(())
+}
+
+// The map has no contents.
+fn file_counts(alloc: Global, generated: Option<&str>) -> Result<String> {
+    let json =
+        r#"{"version":3,"sources":["a"],"names":["alpha","beta","gamma","delta"],"mappings":"AAAAA;AACAC;AACAC;AACAC"}"#;
+    let map = SourceMap::from_slice(alloc, json.as_bytes())?;
+    let mut files = Vec::new(alloc);
+    let file = SourceView::new(alloc, "//\nalpha\nbeta\ngamma\ndelta")?;
+    files.push(Some(file))?;
+    let found = match generated {
+        Some(text) => {
+            let view = SourceView::new(alloc, text)?;
+            generated_shift(alloc, &map, Some(files.as_slice()), &view)?
+        }
+        None => original_shift(alloc, &map, Some(files.as_slice()))?,
+    };
+    counts_text(alloc, found)
+}
+
+#[test]
+fn words_of_files_are_looked_at(rt: HostRuntime) -> Checked {
+    check("names", file_counts(rt.alloc(), None), "4 0 4 1:0 true")?;
+    check(
+        "words, but `//` is none",
+        file_counts(rt.alloc(), Some("x\n//\nalpha\nbeta\ngamma")),
+        "3 0 3 1:0 false",
+    )
 }

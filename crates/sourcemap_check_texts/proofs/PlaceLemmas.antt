@@ -11,6 +11,7 @@ use Rattle.sourcemap_map_regular.specs.Token.{token_at}
 use Rattle.sourcemap_check_texts.specs.declared.tokens.Doubt.{Doubt}
 use Rattle.sourcemap_check_texts.specs.declared.tokens.Places.{Places}
 use Rattle.sourcemap_check_texts.specs.Doubts.{ArePlaces, marked, is_doubtful, looks_wrong, token_before}
+use Rattle.sourcemap_check_texts.specs.Sources.{Files}
 
 -- ---- the token at an index
 
@@ -72,37 +73,37 @@ Places-counted most all index old new places many items count =
 
 -- ---- the loop
 
-pub record TokensSoFar (most : ℕ) (doubt : Doubt) (m : MapValue) (index : ℕ) (before : Option RawToken) (places : Places)
-    : Type 0 where
+pub record TokensSoFar (most : ℕ) (doubt : Doubt) (m : MapValue) (files : Files) (index : ℕ) (before : Option RawToken)
+    (places : Places) : Type 0 where
   pub within : index ≤ length m.tokens
   pub before_is : before ≡ token_before m index
-  pub places_are : ArePlaces most (marked (is_doubtful doubt m) index) places
+  pub places_are : ArePlaces most (marked (is_doubtful doubt m files) index) places
   pub few : places.count ≤ index
 
-pub TokensSoFar-none : (most : ℕ) (doubt : Doubt) (m : MapValue) (places : Places) → places.first.items ≡ []
-    → places.count ≡ 0 → TokensSoFar most doubt m 0 None places
-TokensSoFar-none most doubt m places items count = record {
+pub TokensSoFar-none : (most : ℕ) (doubt : Doubt) (m : MapValue) (files : Files) (places : Places) → places.first.items ≡ []
+    → places.count ≡ 0 → TokensSoFar most doubt m files 0 None places
+TokensSoFar-none most doubt m files places items count = record {
   within = omega arith;
   before_is = refl;
   places_are = Places-none most places items count;
   few = omega arith;
 }
 
-pub TokensSoFar-more : (most : ℕ) (doubt : Doubt) (m : MapValue) (index : ℕ) (before : Option RawToken) (raw : RawToken)
-    (holds : Bool) (placed : ℕ) (old new : Places) → TokensSoFar most doubt m index before old
-    → slice_get m.tokens index ≡ Some raw → holds ≡ looks_wrong doubt m before raw → placed ≡ index
-    → ArePlaces most (marked (is_doubtful doubt m) index ++ cond holds (placed ∷ []) []) new → new.count ≤ placed + 1
-    → TokensSoFar most doubt m (index + 1) (Some raw) new
-TokensSoFar-more most doubt m index before raw holds placed old new so_far at holds_is placed_is places few =
+pub TokensSoFar-more : (most : ℕ) (doubt : Doubt) (m : MapValue) (files : Files) (index : ℕ) (before : Option RawToken)
+    (raw : RawToken) (holds : Bool) (placed : ℕ) (old new : Places) → TokensSoFar most doubt m files index before old
+    → slice_get m.tokens index ≡ Some raw → holds ≡ looks_wrong doubt m files before raw → placed ≡ index
+    → ArePlaces most (marked (is_doubtful doubt m files) index ++ cond holds (placed ∷ []) []) new → new.count ≤ placed + 1
+    → TokensSoFar most doubt m files (index + 1) (Some raw) new
+TokensSoFar-more most doubt m files index before raw holds placed old new so_far at holds_is placed_is places few =
     let inside = slice_get_within m.tokens index raw at in
-    let test_is : is_doubtful doubt m index ≡ holds =
-    ap (λ o. option_map_or (λ t. looks_wrong doubt m (token_before m index) t) o false) at
-    ∙ (ap (λ b. looks_wrong doubt m b raw) (sym so_far.before_is) ∙ sym holds_is) in
-    let same : marked (is_doubtful doubt m) index ++ cond holds (placed ∷ []) []
-    ≡ marked (is_doubtful doubt m) (index + 1) =
-    ap (λ h. marked (is_doubtful doubt m) index ++ cond h (placed ∷ []) []) (sym test_is)
-    ∙ (ap (λ p. marked (is_doubtful doubt m) index ++ cond (is_doubtful doubt m index) (p ∷ []) []) placed_is
-    ∙ sym (ap (marked (is_doubtful doubt m)) (add-one index))) in
+    let test_is : is_doubtful doubt m files index ≡ holds =
+    ap (λ o. option_map_or (λ t. looks_wrong doubt m files (token_before m index) t) o false) at
+    ∙ (ap (λ b. looks_wrong doubt m files b raw) (sym so_far.before_is) ∙ sym holds_is) in
+    let same : marked (is_doubtful doubt m files) index ++ cond holds (placed ∷ []) []
+    ≡ marked (is_doubtful doubt m files) (index + 1) =
+    ap (λ h. marked (is_doubtful doubt m files) index ++ cond h (placed ∷ []) []) (sym test_is)
+    ∙ (ap (λ p. marked (is_doubtful doubt m files) index ++ cond (is_doubtful doubt m files index) (p ∷ []) []) placed_is
+    ∙ sym (ap (marked (is_doubtful doubt m files)) (add-one index))) in
     record {
       within = omega (arith, inside);
       before_is = sym (ap (token_before m) (add-one index) ∙ at);
@@ -110,10 +111,10 @@ TokensSoFar-more most doubt m index before raw holds placed old new so_far at ho
       few = omega arith;
     }
 
-pub TokensSoFar-all : (most : ℕ) (doubt : Doubt) (m : MapValue) (index : ℕ) (before : Option RawToken) (places : Places)
-    → TokensSoFar most doubt m index before places → None ≡ token_at m index
-    → ArePlaces most (marked (is_doubtful doubt m) (length m.tokens)) places
-TokensSoFar-all most doubt m index before places so_far past =
+pub TokensSoFar-all : (most : ℕ) (doubt : Doubt) (m : MapValue) (files : Files) (index : ℕ) (before : Option RawToken)
+    (places : Places) → TokensSoFar most doubt m files index before places → None ≡ token_at m index
+    → ArePlaces most (marked (is_doubtful doubt m files) (length m.tokens)) places
+TokensSoFar-all most doubt m files index before places so_far past =
     let end = past_tokens m index past in
     let same : index ≡ length m.tokens = let within = so_far.within in omega arith in
-    subst (λ n. ArePlaces most (marked (is_doubtful doubt m) n) places) same so_far.places_are
+    subst (λ n. ArePlaces most (marked (is_doubtful doubt m files) n) places) same so_far.places_are

@@ -21,6 +21,7 @@ use Rattle.sourcemap_check_texts.specs.declared.shifts.Landmark.{Landmark}
 use Rattle.sourcemap_check_texts.specs.declared.shifts.TheConstants.{SHIFTS}
 use Rattle.sourcemap_check_texts.specs.Shifts.{AreFirst, AreMatches, LandmarkValue, is_word_byte, landmark_of}
 use Rattle.sourcemap_check_texts.specs.Shifts.{landmark_value, landmark_values, matches, shift_of, stands, word_at}
+use Rattle.sourcemap_check_texts.specs.Sources.{Files}
 use Rattle.sourcemap_check_texts.proofs.PlaceLemmas.{past_tokens}
 
 -- ---- counts
@@ -57,11 +58,11 @@ one_more : {X : Type 0} (xs : List X) (i : ℕ) (x : X) → slice_get xs i ≡ S
 one_more xs i x e =
     take_more xs i x (slice_get_within xs i x e) ∙ ap (λ y. take i xs ++ y ∷ []) (get_or_from_slice_get xs i x x e)
 
-found_more : (generated : Option (List ℕ)) (m : MapValue) (index : ℕ) (raw : RawToken) → slice_get m.tokens index ≡ Some raw
-    → filter_map (landmark_of generated m) (take (index + 1) m.tokens)
-    ≡ filter_map (landmark_of generated m) (take index m.tokens) ++ option_to_list (landmark_of generated m raw)
-found_more generated m index raw at =
-    let h = landmark_of generated m in
+found_more : (generated : Option (List ℕ)) (m : MapValue) (files : Files) (index : ℕ) (raw : RawToken)
+    → slice_get m.tokens index ≡ Some raw → filter_map (landmark_of generated m files) (take (index + 1) m.tokens)
+    ≡ filter_map (landmark_of generated m files) (take index m.tokens) ++ option_to_list (landmark_of generated m files raw)
+found_more generated m files index raw at =
+    let h = landmark_of generated m files in
     ap (filter_map h) (one_more m.tokens index raw at) ∙ filter_map-append h (take index m.tokens) (raw ∷ [])
     ∙ ap (λ t. filter_map h (take index m.tokens) ++ t) (one_of h raw)
 
@@ -111,35 +112,35 @@ first_pushed most all landmark found new first few items =
     }
 
 -- the landmarks of the tokens before an index were found
-pub record LandmarksSoFar (most : ℕ) (generated : Option (List ℕ)) (m : MapValue) (index : ℕ) (found : List Landmark)
-    : Type 0 where
+pub record LandmarksSoFar (most : ℕ) (generated : Option (List ℕ)) (m : MapValue) (files : Files) (index : ℕ)
+    (found : List Landmark) : Type 0 where
   pub within : index ≤ length m.tokens
-  pub are : AreFirst most (filter_map (landmark_of generated m) (take index m.tokens)) found
+  pub are : AreFirst most (filter_map (landmark_of generated m files) (take index m.tokens)) found
 
-pub LandmarksSoFar-none : (most : ℕ) (generated : Option (List ℕ)) (m : MapValue) (found : List Landmark) → found ≡ []
-    → LandmarksSoFar most generated m 0 found
-LandmarksSoFar-none most generated m found e = record {
+pub LandmarksSoFar-none : (most : ℕ) (generated : Option (List ℕ)) (m : MapValue) (files : Files) (found : List Landmark)
+    → found ≡ [] → LandmarksSoFar most generated m files 0 found
+LandmarksSoFar-none most generated m files found e = record {
   within = omega arith;
   are = record { are = ap landmark_values e ∙ sym (take_all most [] (omega arith)) };
 }
 
-pub LandmarksSoFar-more : (most : ℕ) (generated : Option (List ℕ)) (m : MapValue) (index : ℕ) (raw : RawToken)
-    (found new : List Landmark) → LandmarksSoFar most generated m index found → slice_get m.tokens index ≡ Some raw
-    → AreFirst most (filter_map (landmark_of generated m) (take index m.tokens)
-    ++ option_to_list (landmark_of generated m raw)) new → LandmarksSoFar most generated m (index + 1) new
-LandmarksSoFar-more most generated m index raw found new so_far at are =
+pub LandmarksSoFar-more : (most : ℕ) (generated : Option (List ℕ)) (m : MapValue) (files : Files) (index : ℕ)
+    (raw : RawToken) (found new : List Landmark) → LandmarksSoFar most generated m files index found → slice_get m.tokens index ≡ Some raw
+    → AreFirst most (filter_map (landmark_of generated m files) (take index m.tokens)
+    ++ option_to_list (landmark_of generated m files raw)) new → LandmarksSoFar most generated m files (index + 1) new
+LandmarksSoFar-more most generated m files index raw found new so_far at are =
     let inside = slice_get_within m.tokens index raw at in
     record {
       within = omega (arith, inside);
-      are = subst (λ xs. AreFirst most xs new) (sym (found_more generated m index raw at)) are;
+      are = subst (λ xs. AreFirst most xs new) (sym (found_more generated m files index raw at)) are;
     }
 
-pub LandmarksSoFar-all : (most : ℕ) (generated : Option (List ℕ)) (m : MapValue) (index : ℕ) (found : List Landmark)
-    → LandmarksSoFar most generated m index found → None ≡ token_at m index
-    → landmark_values found ≡ take most (filter_map (landmark_of generated m) m.tokens)
-LandmarksSoFar-all most generated m index found so_far past =
+pub LandmarksSoFar-all : (most : ℕ) (generated : Option (List ℕ)) (m : MapValue) (files : Files) (index : ℕ)
+    (found : List Landmark) → LandmarksSoFar most generated m files index found → None ≡ token_at m index
+    → landmark_values found ≡ take most (filter_map (landmark_of generated m files) m.tokens)
+LandmarksSoFar-all most generated m files index found so_far past =
     let end = past_tokens m index past in
-    so_far.are.are ∙ ap (λ ts. take most (filter_map (landmark_of generated m) ts)) (take_all index m.tokens end)
+    so_far.are.are ∙ ap (λ ts. take most (filter_map (landmark_of generated m files) ts)) (take_all index m.tokens end)
 
 -- ---- the best shift
 

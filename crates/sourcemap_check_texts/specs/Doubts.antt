@@ -7,7 +7,8 @@ use Rattle.std.specs.Str.{chars}
 use Rattle.sourcemap_tokens.specs.declared.tokens.RawToken.{RawToken}
 use Rattle.sourcemap_source_views.specs.Columns.{column_offset, width}
 use Rattle.sourcemap_source_views.specs.Lines.{line_bodies}
-use Rattle.sourcemap_map_regular.specs.Map.{MapValue, contents_of, name_of}
+use Rattle.sourcemap_map_regular.specs.Map.{MapValue, name_of}
+use Rattle.sourcemap_check_texts.specs.Sources.{Files, source_text}
 use Rattle.sourcemap_check_texts.specs.declared.tokens.Doubt.{Doubt}
 use Rattle.sourcemap_check_texts.specs.declared.tokens.Doubt.TheVariants.{TwoOriginals, PastSource, PastLine, WithinPair, OtherName}
 use Rattle.sourcemap_check_texts.specs.declared.tokens.Places.{Places}
@@ -24,14 +25,14 @@ have_one_original a b =
 abbrev pub has_two_originals : (before : Option RawToken) → RawToken → Bool
 has_two_originals before t = option_map_or (λ b. are_at_one_position b t && not (have_one_original b t)) before false
 
--- the map has contents for the source of the token, but they have no such line
-abbrev pub is_past_source : MapValue → RawToken → Bool
-is_past_source m t =
-    option_map_or (λ text. is_none (slice_get (line_bodies text) t.src_line)) (contents_of m t.src_id) false
+-- the source of the token has a text, but no such line
+abbrev pub is_past_source : MapValue → Files → RawToken → Bool
+is_past_source m files t =
+    option_map_or (λ text. is_none (slice_get (line_bodies text) t.src_line)) (source_text m files t.src_id) false
 
--- the line that the original position is on, if the map has contents with such a line
-abbrev pub original_line : MapValue → RawToken → Option (List ℕ)
-original_line m t = option_and_then (λ text. slice_get (line_bodies text) t.src_line) (contents_of m t.src_id)
+-- the line that the original position is on, if the source has a text with such a line
+abbrev pub original_line : MapValue → Files → RawToken → Option (List ℕ)
+original_line m files t = option_and_then (λ text. slice_get (line_bodies text) t.src_line) (source_text m files t.src_id)
 
 -- a line has fewer UTF-16 units than the column
 abbrev pub is_past_line : List ℕ → ℕ → Bool
@@ -59,16 +60,17 @@ looks_wrong_in_line PastLine m line t = is_past_line line t.src_col
 looks_wrong_in_line WithinPair m line t = splits_pair line t.src_col
 looks_wrong_in_line OtherName m line t = has_other_name m line t
 
-abbrev pub in_original_line : Doubt → MapValue → RawToken → Bool
-in_original_line doubt m t = option_map_or (λ line. looks_wrong_in_line doubt m line t) (original_line m t) false
+abbrev pub in_original_line : Doubt → MapValue → Files → RawToken → Bool
+in_original_line doubt m files t =
+    option_map_or (λ line. looks_wrong_in_line doubt m line t) (original_line m files t) false
 
 -- a token looks wrong. `before` is the token before it
-abbrev pub looks_wrong : Doubt → MapValue → (before : Option RawToken) → RawToken → Bool
-looks_wrong TwoOriginals m before t = has_two_originals before t
-looks_wrong PastSource m before t = is_past_source m t
-looks_wrong PastLine m before t = in_original_line PastLine m t
-looks_wrong WithinPair m before t = in_original_line WithinPair m t
-looks_wrong OtherName m before t = in_original_line OtherName m t
+abbrev pub looks_wrong : Doubt → MapValue → Files → (before : Option RawToken) → RawToken → Bool
+looks_wrong TwoOriginals m files before t = has_two_originals before t
+looks_wrong PastSource m files before t = is_past_source m files t
+looks_wrong PastLine m files before t = in_original_line PastLine m files t
+looks_wrong WithinPair m files before t = in_original_line WithinPair m files t
+looks_wrong OtherName m files before t = in_original_line OtherName m files t
 
 -- the token before the one with this index; none is before the first
 abbrev pub token_before : MapValue → ℕ → Option RawToken
@@ -76,8 +78,9 @@ token_before m zero = None
 token_before m (suc i) = slice_get m.tokens i
 
 -- the token with this index looks wrong
-abbrev pub is_doubtful : Doubt → MapValue → ℕ → Bool
-is_doubtful doubt m i = option_map_or (λ t. looks_wrong doubt m (token_before m i) t) (slice_get m.tokens i) false
+abbrev pub is_doubtful : Doubt → MapValue → Files → ℕ → Bool
+is_doubtful doubt m files i =
+    option_map_or (λ t. looks_wrong doubt m files (token_before m i) t) (slice_get m.tokens i) false
 
 -- the indexes below a number at which a test holds
 abbrev pub marked : (ℕ → Bool) → ℕ → List ℕ

@@ -7,8 +7,9 @@ use Rattle.std.specs.Char.{is_ascii_alphabetic, is_ascii_digit}
 use Rattle.sourcemap_tokens.specs.declared.tokens.RawToken.{RawToken}
 use Rattle.sourcemap_source_views.specs.Columns.{column_offset}
 use Rattle.sourcemap_source_views.specs.Lines.{line_bodies}
-use Rattle.sourcemap_map_regular.specs.Map.{MapValue, contents_of, name_of}
+use Rattle.sourcemap_map_regular.specs.Map.{MapValue, name_of}
 use Rattle.sourcemap_check_texts.specs.Doubts.{original_line, stands_at}
+use Rattle.sourcemap_check_texts.specs.Sources.{Files, source_text}
 use Rattle.sourcemap_check_texts.specs.declared.shifts.Shift.{Shift}
 use Rattle.sourcemap_check_texts.specs.declared.shifts.Matches.{Matches}
 use Rattle.sourcemap_check_texts.specs.declared.shifts.Landmark.{Landmark}
@@ -59,11 +60,11 @@ landmark_at text line column word =
     cond (nat_lt column 4096 && nat_lt 1 (length word))
     (Some (record { text = text; line = line; column = column; word = word })) None
 
--- the name of a token is to stand at its original position in the contents of its source. 64 bytes of it are compared
-abbrev pub original_landmark : MapValue → RawToken → Option LandmarkValue
-original_landmark m t =
+-- the name of a token is to stand at its original position in the text of its source. 64 bytes of it are compared
+abbrev pub original_landmark : MapValue → Files → RawToken → Option LandmarkValue
+original_landmark m files t =
     option_and_then (λ text. option_and_then (λ name. landmark_at text t.src_line t.src_col (take 64 name))
-    (name_of m t.name_id)) (contents_of m t.src_id)
+    (name_of m t.name_id)) (source_text m files t.src_id)
 
 -- an ASCII letter or digit, `_` or `$`
 abbrev pub is_word_byte : ℕ → Bool
@@ -76,23 +77,23 @@ word_at line column =
     cond (nat_lt column 4096)
     (option_map (λ offset. take_while is_word_byte (take 64 (drop offset line))) (column_offset line column)) None
 
--- the word at the original position of a token; if the map has no such line, its name
-abbrev pub word_of : MapValue → RawToken → Option (List ℕ)
-word_of m t =
-    option_map_or (λ line. word_at line t.src_col) (original_line m t) (option_map (take 64) (name_of m t.name_id))
+-- the word at the original position of a token; if its source has no such line, its name
+abbrev pub word_of : MapValue → Files → RawToken → Option (List ℕ)
+word_of m files t =
+    option_map_or (λ line. word_at line t.src_col) (original_line m files t) (option_map (take 64) (name_of m t.name_id))
 
 -- this word is to stand at the generated position too
-abbrev pub generated_landmark : (text : List ℕ) → MapValue → RawToken → Option LandmarkValue
-generated_landmark text m t = option_and_then (landmark_at text t.dst_line t.dst_col) (word_of m t)
+abbrev pub generated_landmark : (text : List ℕ) → MapValue → Files → RawToken → Option LandmarkValue
+generated_landmark text m files t = option_and_then (landmark_at text t.dst_line t.dst_col) (word_of m files t)
 
--- the landmark of a token: in the generated text if one is given, otherwise in the contents of its source
-abbrev pub landmark_of : (generated : Option (List ℕ)) → MapValue → RawToken → Option LandmarkValue
-landmark_of None m t = original_landmark m t
-landmark_of (Some text) m t = generated_landmark text m t
+-- the landmark of a token: in the generated text if one is given, otherwise in the text of its source
+abbrev pub landmark_of : (generated : Option (List ℕ)) → MapValue → Files → RawToken → Option LandmarkValue
+landmark_of None m files t = original_landmark m files t
+landmark_of (Some text) m files t = generated_landmark text m files t
 
 -- the first 10,000 landmarks of the tokens
-abbrev pub landmarks : (generated : Option (List ℕ)) → MapValue → List LandmarkValue
-landmarks generated m = take 10000 (filter_map (landmark_of generated m) m.tokens)
+abbrev pub landmarks : (generated : Option (List ℕ)) → MapValue → Files → List LandmarkValue
+landmarks generated m files = take 10000 (filter_map (landmark_of generated m files) m.tokens)
 
 -- these are the first `most` landmarks of a list
 pub record AreFirst (most : ℕ) (all : List LandmarkValue) (found : List Landmark) : Type 0 where

@@ -1,8 +1,9 @@
 //! Says which tokens of a regular map look wrong, though the map is valid: by themselves, and by the
-//! contents that the map has. Compares it with the generated text.
+//! texts of its sources. Compares it with the generated text.
 #![tactic(auto)]
 
 pub mod generated;
 pub mod shifts;
+mod sources;
 mod spots;
 pub mod tokens;

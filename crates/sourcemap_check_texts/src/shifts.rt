@@ -9,6 +9,7 @@ ghost use Rattle.sourcemap_check_texts.specs.Shifts.{is_suspicious, is_word_byte
 ghost use Rattle.sourcemap_check_texts.specs.Shifts.{landmark_value, landmark_values, landmarks, line_after, moved};
 ghost use Rattle.sourcemap_check_texts.specs.Shifts.{original_landmark, shift_of, stands, word_at, word_of};
 
+use crate::sources::source_text;
 use crate::tokens::{original_line, stands_at};
 use sourcemap_errors::errors::Result;
 use sourcemap_map_regular::map::SourceMap;
@@ -238,11 +239,16 @@ fn word_at(line: &str, column: u32) -> Option<&[u8]>
     Some(&rest[..length])
 }
 
-// The word at the original position of a token. Its name if the map has no such line.
-fn word_of(map: &SourceMap, token: RawToken) -> Option<&[u8]>
-    ensures { option_map (λ word. word.now) result ≡ word_of map.now token }
+// The word at the original position of a token. Its name if its source has no such line.
+fn word_of<'text>(
+    map: &'text SourceMap,
+    files: Option<&'text [Option<SourceView>]>,
+    token: RawToken,
+) -> Option<&'text [u8]>
+    ensures { option_map (λ word. word.now) result
+        ≡ word_of map.now (option_copied files.entry) token }
 {
-    match original_line(map, token) {
+    match original_line(map, files, token) {
         Some(line) => word_at(line, token.src_col),
         None => Some(first_bytes(map.get_name(token.name_id)?.as_bytes())),
     }
@@ -268,39 +274,46 @@ fn landmark_at<'map>(
     })
 }
 
-fn original_landmark(map: &SourceMap, token: RawToken) -> Option<Landmark<'_>>
-    ensures { option_map landmark_value result ≡ original_landmark map.now token }
+fn original_landmark<'map>(
+    map: &'map SourceMap,
+    files: Option<&'map [Option<SourceView>]>,
+    token: RawToken,
+) -> Option<Landmark<'map>>
+    ensures { option_map landmark_value result
+        ≡ original_landmark map.now (option_copied files.entry) token }
 {
-    let contents = map.get_source_view(token.src_id)?;
+    let text = source_text(map, files, token.src_id)?;
     let name = map.get_name(token.name_id)?;
     let word = first_bytes(name.as_bytes());
-    landmark_at(contents, token.src_line, token.src_col, word)
+    landmark_at(text, token.src_line, token.src_col, word)
 }
 
 fn generated_landmark<'map>(
     map: &'map SourceMap,
+    files: Option<&'map [Option<SourceView>]>,
     generated: &'map SourceView,
     token: RawToken,
 ) -> Option<Landmark<'map>>
     ensures { option_map landmark_value result
-        ≡ generated_landmark generated.now map.now token }
+        ≡ generated_landmark generated.now map.now (option_copied files.entry) token }
 {
-    let word = word_of(map, token)?;
+    let word = word_of(map, files, token)?;
     landmark_at(generated, token.dst_line, token.dst_col, word)
 }
 
 // The landmark of a token: in the generated text if it is given, otherwise in its source.
 fn landmark_of<'map>(
     map: &'map SourceMap,
+    files: Option<&'map [Option<SourceView>]>,
     generated: Option<&'map SourceView>,
     token: RawToken,
 ) -> Option<Landmark<'map>>
     ensures { option_map landmark_value result
-        ≡ landmark_of (option_copied generated.entry) map.now token }
+        ≡ landmark_of (option_copied generated.entry) map.now (option_copied files.entry) token }
 {
     match generated {
-        Some(text) => generated_landmark(map, text, token),
-        None => original_landmark(map, token),
+        Some(text) => generated_landmark(map, files, text, token),
+        None => original_landmark(map, files, token),
     }
 }
 
@@ -309,18 +322,20 @@ fn landmark_of<'map>(
 fn add_landmark<'map>(
     found: &mut Vec<Landmark<'map>>,
     map: &'map SourceMap,
+    files: Option<&'map [Option<SourceView>]>,
     generated: Option<&'map SourceView>,
     token: RawToken,
 ) -> Result<()>
     ensures added { (all : List LandmarkValue) → AreFirst 10000 all found.old.items
         → OnOk result (AreFirst 10000 (all ++ option_to_list
-        (landmark_of (option_copied generated.entry) map.now token)) found.new.items) }
+        (landmark_of (option_copied generated.entry) map.now (option_copied files.entry) token))
+        found.new.items) }
     ensures memory { IfErr result (λ e. e ≡ OutOfMemory) }
 {
     if found.len() >= MOST_LANDMARKS {
         return Ok(());
     }
-    match landmark_of(map, generated, token) {
+    match landmark_of(map, files, generated, token) {
         Some(landmark) => found.push(landmark)?,
         None => return Ok(()),
     }
@@ -331,30 +346,37 @@ fn add_landmark<'map>(
 fn landmarks<'map>(
     alloc: Global,
     map: &'map SourceMap,
+    files: Option<&'map [Option<SourceView>]>,
     generated: Option<&'map SourceView>,
 ) -> Result<Vec<Landmark<'map>>>
     ensures value { IfOk result (λ found. landmark_values found.items
-        ≡ landmarks (option_copied generated.entry) map.now) }
+        ≡ landmarks (option_copied generated.entry) map.now (option_copied files.entry)) }
     ensures memory { IfErr result (λ e. e ≡ OutOfMemory) }
 {
     let mut found = Vec::new(alloc);
     let mut index = 0;
     while let Some(token) = map.get_token(index) {
         let raw = token.get_raw_token();
-        add_landmark(&mut found, map, generated, raw)?;
+        add_landmark(&mut found, map, files, generated, raw)?;
         index = token.get_index() + 1;
     }
     Ok(found)
 }
 
-/// By which shift of original positions the names of a map would stand in the contents of their
-/// sources. A shift other than 0 is the sign of contents that were changed after the map was made,
-/// as by a banner. `None` if no name can be looked at. The only error is `OutOfMemory`.
-pub fn original_shift(alloc: Global, map: &SourceMap) -> Result<Option<Matches>>
-    ensures value { IfOk result (AreBestMatches (landmarks None map.now)) }
+/// By which shift of original positions the names of a map would stand in the texts of their
+/// sources: in contents, or else in files, if `files` are given. A shift other than 0 is the sign of
+/// texts that were changed after the map was made, as by a banner. `None` if no name can be looked
+/// at. The only error is `OutOfMemory`.
+pub fn original_shift<'map>(
+    alloc: Global,
+    map: &'map SourceMap,
+    files: Option<&'map [Option<SourceView>]>,
+) -> Result<Option<Matches>>
+    ensures value { IfOk result
+        (AreBestMatches (landmarks None map.now (option_copied files.entry))) }
     ensures memory { IfErr result (λ e. e ≡ OutOfMemory) }
 {
-    let landmarks = landmarks(alloc, map, None)?;
+    let landmarks = landmarks(alloc, map, files, None)?;
     Ok(best_matches(landmarks.as_slice()))
 }
 
@@ -366,11 +388,13 @@ pub fn original_shift(alloc: Global, map: &SourceMap) -> Result<Option<Matches>>
 pub fn generated_shift(
     alloc: Global,
     map: &SourceMap,
+    files: Option<&[Option<SourceView>]>,
     generated: &SourceView,
 ) -> Result<Option<Matches>>
-    ensures value { IfOk result (AreBestMatches (landmarks (Some generated.now) map.now)) }
+    ensures value { IfOk result
+        (AreBestMatches (landmarks (Some generated.now) map.now (option_copied files.entry))) }
     ensures memory { IfErr result (λ e. e ≡ OutOfMemory) }
 {
-    let landmarks = landmarks(alloc, map, Some(generated))?;
+    let landmarks = landmarks(alloc, map, files, Some(generated))?;
     Ok(best_matches(landmarks.as_slice()))
 }

@@ -1,15 +1,18 @@
 //! Tokens that look wrong.
 ghost use Rattle.std.specs.Prelude.{◌≡◌, ◌↔◌, ◌≤◌, ◌<◌, ◌^◌, ◌+◌, ◌++◌, ◌∷◌, [], ℕ, List, Contains, Bool, true, cond};
 ghost use Rattle.std.specs.Prelude.{IfOk, IfErr, OnOk, option_map, length};
+ghost use Rattle.std.specs.Option.{option_copied};
 ghost use Rattle.sourcemap_errors.specs.declared.errors.Error.TheVariants.{OutOfMemory};
 ghost use Rattle.sourcemap_check_texts.specs.Doubts.{are_at_one_position, have_one_original, has_two_originals, ArePlaces};
 ghost use Rattle.sourcemap_check_texts.specs.Doubts.{is_past_source, is_past_line, splits_pair, stands_at, marked};
 ghost use Rattle.sourcemap_check_texts.specs.Doubts.{has_other_name, original_line, looks_wrong, is_doubtful};
 ghost use Rattle.sourcemap_check_texts.specs.Doubts.{looks_wrong_in_line};
 
+use crate::sources::source_text;
 use sourcemap_errors::errors::Result;
 use sourcemap_map_regular::map::SourceMap;
 use sourcemap_source_views::columns::reach;
+use sourcemap_source_views::sourceview::SourceView;
 use sourcemap_tokens::tokens::RawToken;
 use std::alloc::Global;
 
@@ -19,7 +22,7 @@ pub enum Doubt {
     /// The token before it is at the same generated position, and has another original position or
     /// another name.
     TwoOriginals,
-    /// The contents of its source have no such line.
+    /// The text of its source has no such line.
     PastSource,
     /// Its original line has fewer columns.
     PastLine,
@@ -83,20 +86,25 @@ fn have_one_original(a: RawToken, b: RawToken) -> bool
     same_source & same_line & same_column & same_name
 }
 
-fn is_past_source(map: &SourceMap, token: RawToken) -> bool
-    ensures { result ≡ is_past_source map.now token }
+fn is_past_source(map: &SourceMap, files: Option<&[Option<SourceView>]>, token: RawToken) -> bool
+    ensures { result ≡ is_past_source map.now (option_copied files.entry) token }
 {
-    match map.get_source_view(token.src_id) {
+    match source_text(map, files, token.src_id) {
         Some(view) => view.get_line(token.src_line).is_none(),
         None => false,
     }
 }
 
-// The line of the contents that the original position is on.
-pub(crate) fn original_line(map: &SourceMap, token: RawToken) -> Option<&str>
-    ensures { option_map (λ line. line.now) result ≡ original_line map.now token }
+// The line of its source that the original position is on.
+pub(crate) fn original_line<'text>(
+    map: &'text SourceMap,
+    files: Option<&'text [Option<SourceView>]>,
+    token: RawToken,
+) -> Option<&'text str>
+    ensures { option_map (λ line. line.now) result
+        ≡ original_line map.now (option_copied files.entry) token }
 {
-    map.get_source_view(token.src_id)?.get_line(token.src_line)
+    source_text(map, files, token.src_id)?.get_line(token.src_line)
 }
 
 fn is_past_line(line: &str, column: u32) -> bool
@@ -148,14 +156,20 @@ fn looks_wrong_in_line(map: &SourceMap, doubt: Doubt, line: &str, token: RawToke
 }
 
 // Whether a token looks wrong. `before` is the token before it.
-fn looks_wrong(map: &SourceMap, doubt: Doubt, before: Option<RawToken>, token: RawToken) -> bool
-    ensures { result ≡ looks_wrong doubt map.now before token }
+fn looks_wrong(
+    map: &SourceMap,
+    files: Option<&[Option<SourceView>]>,
+    doubt: Doubt,
+    before: Option<RawToken>,
+    token: RawToken,
+) -> bool
+    ensures { result ≡ looks_wrong doubt map.now (option_copied files.entry) before token }
 {
     match doubt {
         Doubt::TwoOriginals => has_two_originals(before, token),
-        Doubt::PastSource => is_past_source(map, token),
+        Doubt::PastSource => is_past_source(map, files, token),
         Doubt::PastLine | Doubt::WithinPair | Doubt::OtherName => {
-            match original_line(map, token) {
+            match original_line(map, files, token) {
                 Some(line) => looks_wrong_in_line(map, doubt, line, token),
                 None => false,
             }
@@ -183,10 +197,19 @@ pub(crate) fn add_place(places: &mut Places, most: usize, index: usize, holds: b
 }
 
 /// The tokens that look wrong in a way: the indexes of the first `most`, in order of generated
-/// position, and how many there are. The only error is `OutOfMemory`.
-pub fn doubtful_tokens(alloc: Global, map: &SourceMap, doubt: Doubt, most: usize) -> Result<Places>
+/// position, and how many there are. If `files` are given, the text of a source without contents is
+/// that of its file: there is one for each source, `None` where there is no file, or none that is a
+/// text. The only error is `OutOfMemory`.
+pub fn doubtful_tokens(
+    alloc: Global,
+    map: &SourceMap,
+    files: Option<&[Option<SourceView>]>,
+    doubt: Doubt,
+    most: usize,
+) -> Result<Places>
     ensures places { IfOk result (λ places. ArePlaces most
-        (marked (is_doubtful doubt map.now) (length map.now.tokens)) places) }
+        (marked (is_doubtful doubt map.now (option_copied files.entry)) (length map.now.tokens))
+        places) }
     ensures memory { IfErr result (λ e. e ≡ OutOfMemory) }
 {
     let mut places = Places {
@@ -197,7 +220,7 @@ pub fn doubtful_tokens(alloc: Global, map: &SourceMap, doubt: Doubt, most: usize
     let mut index = 0;
     while let Some(token) = map.get_token(index) {
         let raw = token.get_raw_token();
-        let holds = looks_wrong(map, doubt, before, raw);
+        let holds = looks_wrong(map, files, doubt, before, raw);
         add_place(&mut places, most, token.get_index(), holds)?;
         before = Some(raw);
         index += 1;

@@ -267,7 +267,7 @@ MAP:mappings by 0:1: SM241 names stand in the contents of sources after this shi
 0 invalid, 5 suspicious, 5 shown";
 
 // Keys of a map, the name and the text of the only file, and the output of `check --sources src`.
-static SOURCES: [(&str, &str, &str, &str); 9] = [
+static SOURCES: [(&str, &str, &str, &str); 12] = [
     (
         r#""sources":["a"],"sourcesContent":["x"],"mappings":"AAAA""#,
         "src/a",
@@ -315,6 +315,26 @@ static SOURCES: [(&str, &str, &str, &str); 9] = [
         "src/b/a",
         "x",
         "MAP:sources[1]: SM227 the source has neither contents nor a file\n0 invalid, 1 suspicious, 1 shown",
+    ),
+    (
+        r#""sources":["a"],"names":["n"],"mappings":"AAAA,CAAE,CACFA""#,
+        "src/a",
+        "x",
+        "MAP:mappings at 0:2: SM202 the contents of the source have no such line
+MAP:mappings at 0:1: SM203 the original line has fewer columns
+0 invalid, 2 suspicious, 2 shown",
+    ),
+    (
+        r#""sources":["a"],"sourcesContent":["xyz"],"mappings":"AAAE""#,
+        "src/a",
+        "x",
+        "MAP:sources[0]: SM226 the contents are not those of the file\n0 invalid, 1 suspicious, 1 shown",
+    ),
+    (
+        r#""sources":["a"],"names":["alpha","beta","gamma","delta"],"mappings":"AAAAA;AACAC;AACAC;AACAC""#,
+        "src/a",
+        " alpha\n beta\n gamma\n delta",
+        ONE_COLUMN_OFF_LINES,
     ),
     (
         r#""sections":[]"#,

@@ -1,7 +1,5 @@
-use Rattle.std.proofs.Common.{◌∙◌, ap, subst, [], ◌∷◌, cond, sym}
-use Rattle.std.specs.Prelude.{OnOk}
-use Rattle.sourcemap_check_suspicious.specs.Suspects.{Adds, is_range_doubt, item_suspect}
-use Rattle.sourcemap_check_suspicious.specs.declared.suspects.Suspicion.TheVariants.{Ranges}
+use Rattle.std.proofs.Common.{◌∙◌, ap, sym}
+use Rattle.sourcemap_check_suspicious.specs.Suspects.{is_range_doubt}
 use Rattle.sourcemap_check_suspicious.proofs.suspects.add_ranges.Goals as goal
 
 pub returns-clause-added : goal.returns-clause-added
