@@ -14,26 +14,6 @@ use sourcemap_headers::debug_id::DebugId;
 use sourcemap_references::detector::{SourceMapRef, is_data_url, locate_in_text};
 use std::alloc::Global;
 
-/// What looks wrong about the way in which a generated text names its map.
-#[derive(Clone, Copy, Debug, PartialEq, Eq)]
-pub enum LinkDoubt {
-    /// The text names another debug id.
-    OtherDebugId,
-    /// The reference of the text ends in another file name.
-    OtherReference,
-}
-
-/// The doubts, in the order of their codes.
-pub const LINK_DOUBTS: [LinkDoubt; 2] = [LinkDoubt::OtherDebugId, LinkDoubt::OtherReference];
-
-/// The number of the code of a doubt. The code is `SM` and this number.
-pub fn code_of(doubt: LinkDoubt) -> u32 {
-    match doubt {
-        LinkDoubt::OtherDebugId => 224,
-        LinkDoubt::OtherReference => 225,
-    }
-}
-
 // The text after the mark of a line, trimmed.
 fn id_text_on(line: &str) -> Option<&str>
     ensures { option_map (λ text. text.now) result ≡ id_text_on line.now }

@@ -23,20 +23,6 @@ pub enum ContentsDoubt {
     NoContents,
 }
 
-/// The doubts, in the order of their codes.
-pub const CONTENTS_DOUBTS: [ContentsDoubt; 2] = [
-    ContentsDoubt::OtherContents,
-    ContentsDoubt::NoContents,
-];
-
-/// The number of the code of a doubt. The code is `SM` and this number.
-pub fn code_of_contents(doubt: ContentsDoubt) -> u32 {
-    match doubt {
-        ContentsDoubt::OtherContents => 226,
-        ContentsDoubt::NoContents => 227,
-    }
-}
-
 /// What looks wrong about a source. `contents` are those that the map has for it, `file` is the text
 /// of its file.
 pub fn contents_doubt(contents: Option<&str>, file: Option<&str>) -> Option<ContentsDoubt>

@@ -37,17 +37,6 @@ pub const LIST_DOUBTS: [ListDoubt; 5] = [
     ListDoubt::RootWithoutEffect,
 ];
 
-/// The number of the code of a doubt. The code is `SM` and this number.
-pub fn code_of(doubt: ListDoubt) -> u32 {
-    match doubt {
-        ListDoubt::UnusedSource => 211,
-        ListDoubt::UnusedName => 212,
-        ListDoubt::EqualSource => 213,
-        ListDoubt::MissingContents => 214,
-        ListDoubt::RootWithoutEffect => 215,
-    }
-}
-
 // For each source, whether the map has no contents for it.
 fn missing_marks(alloc: Global, map: &SourceMap) -> Result<Vec<bool>>
     ensures marks { IfOk result (AreMarks (λ i. is_none (contents_of map.now i))

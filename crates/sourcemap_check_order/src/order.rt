@@ -9,9 +9,6 @@ use sourcemap_errors::errors::Result;
 use sourcemap_vlq::vlq::value_of_digit;
 use std::alloc::Global;
 
-/// The number of the code of a segment that goes back. The code is `SM` and this number.
-pub const BACK_CODE: u32 = 221;
-
 /// The place of a segment.
 #[derive(Clone, Copy, Debug, PartialEq, Eq)]
 pub struct SegmentPlace {

@@ -22,17 +22,6 @@ pub enum RangeDoubt {
     NoFormat,
 }
 
-/// The doubts, in the order of their codes.
-pub const RANGE_DOUBTS: [RangeDoubt; 2] = [RangeDoubt::OtherFormat, RangeDoubt::NoFormat];
-
-/// The number of the code of a doubt. The code is `SM` and this number.
-pub fn code_of(doubt: RangeDoubt) -> u32 {
-    match doubt {
-        RangeDoubt::OtherFormat => 222,
-        RangeDoubt::NoFormat => 223,
-    }
-}
-
 // The digits of so few bits have values below this.
 const LIMITS: [u8; 7] = [1, 2, 4, 8, 16, 32, 64];
 

@@ -1,7 +1,7 @@
 // Tokens that do not fit the generated text.
-use sourcemap_check_texts::generated::{
-    GENERATED_DOUBTS, GeneratedDoubt, code_of_generated, doubtful_positions,
-};
+use sourcemap_check_suspicious::codes::code_of;
+use sourcemap_check_suspicious::suspects::Suspicion;
+use sourcemap_check_texts::generated::{GENERATED_DOUBTS, GeneratedDoubt, doubtful_positions};
 use sourcemap_errors::errors::Result;
 use sourcemap_map_regular::map::SourceMap;
 use sourcemap_source_views::sourceview::SourceView;
@@ -49,7 +49,7 @@ fn doubts_text(alloc: Global, mappings: &str, generated: &str) -> Result<String>
     let mut text = String::new(alloc);
     for doubt in GENERATED_DOUBTS {
         let places = doubtful_positions(alloc, &map, &view, doubt, 9)?;
-        let code = code_of_generated(doubt);
+        let code = code_of(Suspicion::Generated(doubt));
         for index in &places.first {
             text.push_str(format!(in alloc; "{code}@{index} ")?.as_str())?;
         }

@@ -1,10 +1,12 @@
 // Items of lists that look wrong, contents beside files, segments that go back, range mappings, and
 // links.
 use sourcemap_check_links::links::{named_id, other_id, other_reference};
-use sourcemap_check_lists::contents::{code_of_contents, contents_doubt};
-use sourcemap_check_lists::lists::{LIST_DOUBTS, code_of, doubtful_items};
+use sourcemap_check_lists::contents::contents_doubt;
+use sourcemap_check_lists::lists::{LIST_DOUBTS, doubtful_items};
 use sourcemap_check_order::order::segments_back;
-use sourcemap_check_order::ranges::{code_of as code_of_ranges, doubtful_ranges};
+use sourcemap_check_order::ranges::doubtful_ranges;
+use sourcemap_check_suspicious::codes::code_of;
+use sourcemap_check_suspicious::suspects::Suspicion;
 use sourcemap_errors::errors::Result;
 use sourcemap_headers::debug_id::DebugId;
 use sourcemap_map_regular::map::SourceMap;
@@ -86,7 +88,7 @@ fn items_text(alloc: Global, keys: &str, most: usize) -> Result<String> {
     let mut text = String::new(alloc);
     for doubt in LIST_DOUBTS {
         let places = doubtful_items(alloc, &map, doubt, most)?;
-        let code = code_of(doubt);
+        let code = code_of(Suspicion::Item(doubt));
         for index in &places.first {
             text.push_str(format!(in alloc; "{code}@{index} ")?.as_str())?;
         }
@@ -116,7 +118,10 @@ static CONTENTS: [(&str, Option<&str>, Option<&str>, u32); 5] = [
 #[test]
 fn contents_look_wrong() -> Checked {
     for (name, contents, file, code) in &CONTENTS {
-        let found = contents_doubt(*contents, *file).map_or(0, code_of_contents);
+        let found = match contents_doubt(*contents, *file) {
+            Some(doubt) => code_of(Suspicion::Contents(doubt)),
+            None => 0,
+        };
         check_that(name, found == *code)?;
     }
     Ok(())
@@ -185,7 +190,10 @@ static RANGES: [(&str, &str, &str, u32); 14] = [
 ];
 
 fn range_code(alloc: Global, mappings: &str, ranges: &str) -> Result<String> {
-    let code = doubtful_ranges(alloc, mappings, ranges)?.map_or(0, code_of_ranges);
+    let code = match doubtful_ranges(alloc, mappings, ranges)? {
+        Some(doubt) => code_of(Suspicion::Ranges(doubt)),
+        None => 0,
+    };
     Ok(format!(in alloc; "{code}")?)
 }
 

@@ -1,5 +1,7 @@
 // Tokens that look wrong.
-use sourcemap_check_texts::tokens::{DOUBTS, code_of, doubtful_tokens};
+use sourcemap_check_suspicious::codes::code_of;
+use sourcemap_check_suspicious::suspects::Suspicion;
+use sourcemap_check_texts::tokens::{DOUBTS, doubtful_tokens};
 use sourcemap_errors::errors::Result;
 use sourcemap_map_regular::map::SourceMap;
 use sourcemap_source_views::sourceview::SourceView;
@@ -96,7 +98,7 @@ fn doubts_text(
     let mut text = String::new(alloc);
     for doubt in DOUBTS {
         let places = doubtful_tokens(alloc, map, files, doubt, 9)?;
-        let code = code_of(doubt);
+        let code = code_of(Suspicion::Token(doubt));
         for index in &places.first {
             text.push_str(format!(in alloc; "{code}@{index} ")?.as_str())?;
         }

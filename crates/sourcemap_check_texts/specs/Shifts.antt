@@ -120,7 +120,7 @@ AreBestMatches landmarks None = landmarks ≡ []
 AreBestMatches landmarks (Some m) = AreMatches landmarks m
 
 -- at least 4 words stand at their positions after the shift, more than twice as many as without it, and no fewer than a
--- quarter of all
+-- quarter of all, rounded down
 abbrev pub is_suspicious : Matches → Bool
 is_suspicious m =
     (nat_le 4 m.shifted && nat_lt (2 * m.unshifted) m.shifted) && nat_le (m.looked_at / 4) m.shifted

@@ -31,15 +31,6 @@ pub const GENERATED_DOUBTS: [GeneratedDoubt; 3] = [
     GeneratedDoubt::WithinPair,
 ];
 
-/// The number of the code of a doubt. The code is `SM` and this number.
-pub fn code_of_generated(doubt: GeneratedDoubt) -> u32 {
-    match doubt {
-        GeneratedDoubt::PastText => 231,
-        GeneratedDoubt::PastLine => 232,
-        GeneratedDoubt::WithinPair => 233,
-    }
-}
-
 // The spot of a generated position, from the last spot. `None` if the text has no such line.
 fn next_spot<'text>(
     generated: &'text SourceView,

@@ -97,7 +97,8 @@ pub struct Matches {
 
 impl Matches {
     /// Whether the map looks shifted: after the shift at least 4 words stand where it says, more
-    /// than twice as many as without, and no fewer than a quarter of all. Then the shift is not 0.
+    /// than twice as many as without, and no fewer than a quarter of all, rounded down. Then the
+    /// shift is not 0.
     pub fn is_suspicious(&self) -> bool
         ensures { result ≡ is_suspicious self.now }
     {

@@ -50,17 +50,6 @@ pub struct Places {
     pub count: usize,
 }
 
-/// The number of the code of a doubt. The code is `SM` and this number.
-pub fn code_of(doubt: Doubt) -> u32 {
-    match doubt {
-        Doubt::TwoOriginals => 201,
-        Doubt::PastSource => 202,
-        Doubt::PastLine => 203,
-        Doubt::WithinPair => 204,
-        Doubt::OtherName => 205,
-    }
-}
-
 fn has_two_originals(before: Option<RawToken>, token: RawToken) -> bool
     ensures { result ≡ has_two_originals before token }
 {
