@@ -373,6 +373,13 @@ export interface Report {
 export interface CheckOptions {
   /** The generated text, or its UTF-8 bytes. If it is given, a valid map is compared with it. */
   generated?: string | Uint8Array | null;
+  /**
+   * The folder of the files of sources, or the files by the names of sources, which are resolved against
+   * the `sourceRoot`. If it is given, a valid map is compared with them. In a folder, a name that begins
+   * with `/` or has a part `..` has no file. A file that is missing or not UTF-8 counts as none; another
+   * error of reading one is thrown.
+   */
+  sources?: string | Map<string, string | Uint8Array> | null;
   /** How many findings of each code the report has at most: 20 if it is not given; 0 counts as 1. */
   most?: number;
 }

@@ -176,6 +176,9 @@ typedef struct sm_text {
 
 #define SM_TEXT_EMPTY { (const uint8_t *)"", 0 }
 
+/* For sm_check_files(): no file. The byte is no UTF-8. */
+#define SM_NO_FILE { (const uint8_t *)"\377", 1 }
+
 /* Why a call failed. `text` holds the printed text and a zero byte after it. If the
 ** printed text has more than SM_ERROR_TEXT - 1 bytes, `text` holds only that many
 ** of its first bytes, and may end within a character. `text_length` is the length of
@@ -995,10 +998,21 @@ sm_code sm_compiled_file(const uint8_t *bytes, size_t length, sm_text *text);
 /* Fills `report` with what is found in the bytes, which are not kept. The report has at
 ** most `most` findings of each code, the first ones, and counts all; 0 counts as 1. Only in
 ** a valid map is looked for what looks wrong. If `has_generated` is true, `generated` is the
-** generated text, and a valid map is compared with it too; else it is not read. Returns SM_OK, also if the bytes are no map; SM_UTF8 if `has_generated` is true and
-** the generated text is not UTF-8. */
+** generated text, and a valid map is compared with it too; else it is not read. Returns
+** SM_OK, also if the bytes are no map; SM_UTF8 if `has_generated` is true and the generated
+** text is not UTF-8. */
 sm_code sm_check(sm_report *report, const uint8_t *bytes, size_t length, bool has_generated,
                  const uint8_t *generated, size_t generated_length, uint32_t most, sm_error *error);
+
+/* As sm_check(), but compares a valid map also with the files of its sources. `files[i]` has
+** the bytes of the file of the source that sm_source() returns for the id i. A source has no
+** file if the bytes are not UTF-8, as those of SM_NO_FILE, or if `count` is not above its id.
+** Original positions are looked at in the contents that the map has for their source, else
+** in its file. Finds SM226 and SM227 in place of SM214. The files are not kept. Returns the
+** codes of sm_check(). */
+sm_code sm_check_files(sm_report *report, const uint8_t *bytes, size_t length, bool has_generated,
+                       const uint8_t *generated, size_t generated_length, const sm_text *files, size_t count,
+                       uint32_t most, sm_error *error);
 
 /* Writes how many findings there are. `invalid` is 0 exactly if the bytes are a valid map.
 ** Counts stop at 2^64 - 1. SM_WRONG_KIND if the handle holds no report; then `counts` is

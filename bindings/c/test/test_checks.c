@@ -261,6 +261,49 @@ static void test_generated(void)
     sm_close(&report);
 }
 
+/* The first of two sources has contents. */
+#define TWO_SOURCES \
+    "{\"version\":3,\"sources\":[\"a.js\",\"b.js\"],\"sourcesContent\":[\"ab\"],\"mappings\":\"AAAA,CCAC\"}"
+
+static void check_files(sm_report *report, const sm_text *files, size_t count)
+{
+    sm_error error = { 0 };
+    CHECK_NUMBER(sm_check_files(report, BYTES(TWO_SOURCES), false, BYTES("\xff"), files, count, 20, &error), SM_OK);
+}
+
+/* A file is that of the source of its index, and stands for contents that the map lacks. */
+static void test_files(void)
+{
+    static const struct finding PAST = { 203, SM_SUSPICIOUS, SM_PLACE_TOKEN, 0, 1, "mappings",
+                                         "the original line has fewer columns" };
+    static const struct finding OTHER = { 226, SM_SUSPICIOUS, SM_PLACE_KEY, 0, 0, "sources[0]",
+                                          "the contents are not those of the file" };
+    static const struct finding MISSING = { 227, SM_SUSPICIOUS, SM_PLACE_KEY, 0, 0, "sources[1]",
+                                            "the source has neither contents nor a file" };
+    sm_text files[2] = { SM_NO_FILE, SM_NO_FILE };
+    sm_report report = SM_EMPTY;
+    sm_error error = { 0 };
+    size_t count;
+    for (count = 0; count <= 2; count++) {
+        check_files(&report, files, count);
+        check_counts(&report, 0, 1, 1);
+        check_finding(&report, 0, &MISSING);
+    }
+    files[0] = text_of("ab");
+    files[1] = text_of("x");
+    check_files(&report, files, 2);
+    check_counts(&report, 0, 0, 0);
+    files[0] = text_of("abc");
+    files[1] = text_of("");
+    check_files(&report, files, 2);
+    check_counts(&report, 0, 2, 2);
+    check_finding(&report, 0, &PAST);
+    check_finding(&report, 1, &OTHER);
+    CHECK_NUMBER(sm_check_files(&report, BYTES(TWO_SOURCES), true, BYTES("\xff"), files, 2, 20, &error), SM_UTF8);
+    check_counts(&report, 0, 2, 2);
+    sm_close(&report);
+}
+
 /* Texts stay where they are until the report is filled or closed. */
 static void test_borrowed(void)
 {
@@ -288,5 +331,6 @@ void test_checks(void)
     test_shift();
     test_absent();
     test_generated();
+    test_files();
     test_borrowed();
 }

@@ -220,6 +220,7 @@ static void prepare_odd_split(struct handles *h)
     }
 
 static const sm_text PREFIX = { (const uint8_t *)"root", 4 };
+static const sm_text NO_FILE = SM_NO_FILE;
 /* That of FULL_MAP. */
 static const sm_debug_id SMALL_ID = { { 0, 0, 0, 0, 0, 0, 0, 0, 0, 0, 0, 0, 0, 0, 0, 42 } };
 
@@ -268,6 +269,7 @@ CALL(invalid_split_map, sm_split_map(&h->subject, &h->other, 2, &h->out, error))
 CALL(check_map, sm_check(&h->out, BYTES(INVALID_MAP), false, BYTES("\xff"), 20, error))
 CALL(check_with_text, sm_check(&h->out, BYTES(README_MAP), true, BYTES(README_TEXT), 20, error))
 CALL(check_with_no_text, sm_check(&h->out, BYTES(README_MAP), true, BYTES("\xff"), 20, error))
+CALL(check_with_file, sm_check_files(&h->out, BYTES(README_MAP), false, BYTES("\xff"), &NO_FILE, 1, 20, error))
 
 /* A call that borrows a text, and fails: the text is as it was. */
 #define BORROW(name, expression)                            \
@@ -418,6 +420,8 @@ static const struct refusal_row ROWS[] = {
     { "check", prepare_none, check_map, SM_OK, NULL, INVALID_MAP_FINDINGS },
     { "check a valid map", prepare_none, check_with_text, SM_OK, NULL, README_MAP_FINDINGS },
     { "check with bytes that are no text", prepare_none, check_with_no_text, SM_UTF8, NULL, NULL },
+    { "check beside files", prepare_none, check_with_file, SM_OK, NULL,
+      "SM227 1 sources[0] 0:0 the source has neither contents nor a file\n" },
 };
 
 struct descriptions {

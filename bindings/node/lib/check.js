@@ -1,6 +1,7 @@
 'use strict';
 
 const { types } = require('node:util');
+const { filesOf } = require('./files.js');
 const { native } = require('./native.js');
 const { isObject, refuse } = require('./arguments.js');
 const { NONE } = require('./mappings.js');
@@ -46,9 +47,10 @@ function findingOf([code, severity, place, line, index, lines, columns, sections
   };
 }
 
-function check(map, { generated, most = 20 } = {}) {
+function check(map, { generated, sources, most = 20 } = {}) {
   if (!Number.isInteger(most) || most < 0 || most > NONE) refuse('`most`', 'a whole number from 0 to 4294967295', most);
-  const [invalid, suspicious, findings] = native.check(bytesOf(map), bytesOfText(generated), most);
+  const bytes = bytesOf(map);
+  const [invalid, suspicious, findings] = native.check(bytes, bytesOfText(generated), filesOf(bytes, sources), most);
   return { valid: invalid === 0, invalid, suspicious, findings: findings.map(findingOf) };
 }
 

@@ -884,25 +884,96 @@ static napi_value read_report(napi_env env, sm_report *report) {
     return array;
 }
 
-/* check(bytes, generated, most): what is found in the bytes of a map, as read_report()
-** returns it. `generated` is the bytes of the generated text, or null. */
-static napi_value check_bytes(napi_env env, napi_callback_info info) {
-    size_t count = 3;
-    napi_value arguments[3];
+/* sourceNames(bytes): the sources of the regular map in the bytes, resolved. There are none
+** if the bytes are no such map. */
+static napi_value source_names(napi_env env, napi_callback_info info) {
+    size_t count = 1;
+    napi_value argument;
+    byte_array bytes;
+    held_map held = {.map = SM_EMPTY};
+    sm_counts counts = {0};
+    sm_error error = {0};
+    TRY(napi_get_cb_info(env, info, &count, &argument, NULL, NULL));
+    TRY(take_bytes(env, argument, &bytes));
+    if (sm_open(&held.map, bytes.at, bytes.length, &error) == SM_OUT_OF_MEMORY) {
+        return throw_error(env, &error);
+    }
+    sm_count(&held.map, &counts);
+    napi_value names = read_texts(env, &held, counts.sources, sm_source);
+    sm_close(&held.map);
+    return names;
+}
+
+/* Reads an item of an array of files. It may be null. */
+static napi_status take_file(napi_env env, napi_value array, uint32_t index, sm_text *file) {
+    byte_array bytes;
+    napi_value value;
     napi_valuetype type;
+    napi_status status = napi_get_element(env, array, index, &value);
+    if (status == napi_ok) {
+        status = napi_typeof(env, value, &type);
+    }
+    if (status != napi_ok || type == napi_null) {
+        return status;
+    }
+    status = take_bytes(env, value, &bytes);
+    *file = (sm_text){bytes.at, bytes.length};
+    return status;
+}
+
+/* Returns the files in an array, or throws. The caller frees them. */
+static sm_text *take_files(napi_env env, napi_value array, uint32_t *count) {
+    static const sm_text none = SM_NO_FILE;
+    napi_status status = napi_get_array_length(env, array, count);
+    sm_text *files = calloc((size_t)*count + 1, sizeof *files);
+    if (!files) {
+        throw_out_of_memory(env);
+        return NULL;
+    }
+    for (uint32_t i = 0; i < *count && status == napi_ok; i++) {
+        files[i] = none;
+        status = take_file(env, array, i, &files[i]);
+    }
+    if (status != napi_ok) {
+        free(files);
+        throw_last(env);
+        return NULL;
+    }
+    return files;
+}
+
+/* check(bytes, generated, files, most): what is found in the bytes of a map, as read_report()
+** returns it. `generated` is the bytes of the generated text, `files` an array of those of the
+** files of sources, with null for none. Either may be null itself. */
+static napi_value check_bytes(napi_env env, napi_callback_info info) {
+    size_t count = 4;
+    napi_value arguments[4];
+    napi_valuetype type, files_type;
     byte_array bytes, generated = {(const uint8_t *)"", 0};
-    uint32_t most = 0;
+    uint32_t most = 0, file_count = 0;
     sm_report report = SM_EMPTY;
     sm_error error = {0};
+    sm_code code;
     TRY(napi_get_cb_info(env, info, &count, arguments, NULL, NULL));
     TRY(take_bytes(env, arguments[0], &bytes));
     TRY(napi_typeof(env, arguments[1], &type));
     if (type != napi_null) {
         TRY(take_bytes(env, arguments[1], &generated));
     }
-    TRY(napi_get_value_uint32(env, arguments[2], &most));
-    sm_code code = sm_check(&report, bytes.at, bytes.length, type != napi_null, generated.at, generated.length, most,
-                            &error);
+    TRY(napi_typeof(env, arguments[2], &files_type));
+    TRY(napi_get_value_uint32(env, arguments[3], &most));
+    if (files_type == napi_null) {
+        code = sm_check(&report, bytes.at, bytes.length, type != napi_null, generated.at, generated.length, most,
+                        &error);
+    } else {
+        sm_text *files = take_files(env, arguments[2], &file_count);
+        if (!files) {
+            return NULL;
+        }
+        code = sm_check_files(&report, bytes.at, bytes.length, type != napi_null, generated.at, generated.length, files,
+                              file_count, most, &error);
+        free(files);
+    }
     if (code != SM_OK) {
         return throw_error(env, &error);
     }
@@ -984,6 +1055,7 @@ NAPI_MODULE_INIT() {
         {"compiledLookup", compiled_lookup},
         {"compiledLookupMany", compiled_lookup_many},
         {"compiledScope", compiled_scope},
+        {"sourceNames", source_names},
         {"check", check_bytes},
     };
     if (sm_interface() != SM_INTERFACE) {

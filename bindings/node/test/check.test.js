@@ -1,7 +1,8 @@
 'use strict';
 
 const assert = require('node:assert/strict');
-const { existsSync, readdirSync, readFileSync } = require('node:fs');
+const { existsSync, mkdirSync, mkdtempSync, readdirSync, readFileSync, rmSync, symlinkSync, writeFileSync } = require('node:fs');
+const os = require('node:os');
 const path = require('node:path');
 const { test } = require('node:test');
 const { check, SourceMapError } = require('..');
@@ -100,10 +101,50 @@ test('a text that has a new first line', () => {
   ]);
 });
 
+// The codes are those that `./sourcemap check --sources` is tested to find.
+function codesBeside(map, sources) {
+  return check(map, { sources }).findings.map(({ code }) => code);
+}
+
+test('beside the files of sources', () => {
+  const map = mapOf('AAAE', { sourceRoot: 'lib' });
+  const rows = [
+    [[['lib/a.js', 'x']], ['SM203']],
+    [[['lib/a.js', Buffer.from('xyz')]], []],
+    [[['a.js', 'x']], ['SM227']],
+    [[['lib/a.js', Buffer.of(0xff)]], ['SM227']],
+    [[], ['SM227']],
+  ];
+  for (const [files, codes] of rows) assert.deepEqual(codesBeside(map, new Map(files)), codes);
+  for (const none of [undefined, null]) assert.deepEqual(codesBeside(map, none), ['SM214']);
+  const other = mapOf('AAAE', { sourcesContent: ['xyz'] });
+  assert.deepEqual(codesBeside(other, new Map([['a.js', 'x']])), ['SM226']);
+});
+
+test('beside a folder of sources', (t) => {
+  const top = mkdtempSync(path.join(os.tmpdir(), 'check-'));
+  t.after(() => rmSync(top, { recursive: true }));
+  const folder = path.join(top, 'src');
+  mkdirSync(path.join(folder, 'b'), { recursive: true });
+  const named = (name) => mapOf('AAAA', { sources: [name] });
+  for (const [bytes, codes] of [['x', []], ['', []], [Buffer.of(0xff), ['SM227']]]) {
+    writeFileSync(path.join(folder, 'a'), bytes);
+    writeFileSync(path.join(top, 'a'), bytes);
+    assert.deepEqual(codesBeside(named('a'), folder), codes);
+  }
+  for (const name of ['../a', 'b/../../a', '/a', path.join(top, 'a'), 'b', 'c\0', '', 'd'.repeat(300), 'none']) {
+    assert.deepEqual(codesBeside(named(name), folder), ['SM227'], name);
+  }
+  symlinkSync('loop', path.join(folder, 'loop'));
+  assert.throws(() => codesBeside(named('loop'), folder), { code: 'ELOOP' });
+  assert.deepEqual(codesBeside(indexOf(named('loop')), folder), []);
+});
+
 test('arguments of a wrong type', () => {
   for (const map of [undefined, null, 7]) assert.throws(() => check(map), TypeError);
   for (const most of [-1, 0.5, '3', 2 ** 32]) assert.throws(() => check('{}', { most }), TypeError);
   assert.throws(() => check('{}', { generated: 7 }), TypeError);
+  for (const sources of [7, {}, new Map([['a.js', 7]])]) assert.throws(() => check(mapOf(''), { sources }), TypeError);
 });
 
 test('the tests of the standard', { skip: !existsSync(STANDARD) }, () => {

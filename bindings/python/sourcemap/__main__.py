@@ -37,7 +37,7 @@ def check(arguments: argparse.Namespace) -> int:
     valid, or with `--strict` if anything was found."""
     data = sys.stdin.buffer.read() if arguments.map == '-' else Path(arguments.map).read_bytes()
     generated = None if arguments.generated is None else Path(arguments.generated).read_bytes()
-    report = check_bytes(data, generated, most=arguments.most)
+    report = check_bytes(data, generated, sources=arguments.sources, most=arguments.most)
     for finding in report.findings:
         print(f'{arguments.map}:{finding}')
     print(f'{report.invalid} invalid, {report.suspicious} suspicious, {len(report.findings)} shown')
@@ -62,6 +62,7 @@ def parser() -> argparse.ArgumentParser:
     word = words.add_parser('check', help='print where a map breaks the standard, and what looks wrong in it')
     word.add_argument('map', help='the map; - is standard input')
     word.add_argument('--generated', metavar='FILE', help='the generated text, which is compared with the map')
+    word.add_argument('--sources', metavar='DIR', help='the folder of the files of sources, which are compared too')
     word.add_argument('--most', type=int, default=20, metavar='N', help='how many findings of each code to print (20)')
     word.add_argument('--strict', action='store_true', help='end with status 1 also if something looks wrong')
     word.set_defaults(run=check)

@@ -6,7 +6,8 @@ from dataclasses import dataclass
 from typing import Literal, Optional, Tuple, Union
 
 from . import _library as library
-from ._handle import Data, HandleOwner, optional, pointer_to, run, uint32
+from ._files import Sources, files_of
+from ._handle import Data, HandleOwner, array_of, optional, pointer_to, run, uint32
 
 Severity = Literal['invalid', 'suspicious']
 
@@ -95,9 +96,14 @@ class Report:
 class _Handle(HandleOwner):
     """The report of the library."""
 
-    def __init__(self, data: Data, generated: Optional[Data], most: int) -> None:
+    def __init__(self, data: Data, generated: Optional[Data], sources: Optional[Sources], most: int) -> None:
         self._begin()
-        run(library.check, self._at, *pointer_to(data), *optional(generated), uint32('most', most))
+        texts = (*pointer_to(data), *optional(generated))
+        if sources is None:
+            run(library.check, self._at, *texts, uint32('most', most))
+            return
+        files = files_of(data, sources)
+        run(library.check_files, self._at, *texts, array_of(files), len(files), uint32('most', most))
 
     def read(self) -> Report:
         counts = library.ReportCounts()
@@ -129,10 +135,14 @@ def _position(found: library.Finding) -> Optional[Union[SegmentPosition, TokenPo
     return None
 
 
-def check(data: Data, generated: Optional[Data] = None, *, most: int = 20) -> Report:
+def check(data: Data, generated: Optional[Data] = None, *, sources: Optional[Sources] = None, most: int = 20) -> Report:
     """Checks whether bytes are a valid map by ECMA-426, the standard of source maps, and looks for what looks wrong in a
-    valid one, also beside the generated text, if it is given. The report has at most `most` findings of each code; 0 counts
-    as 1.
+    valid one, also beside the generated text and the files of its sources, if they are given. The report has at most
+    `most` findings of each code; 0 counts as 1.
+
+    `sources` is the folder of the files, or a mapping that has them by the names of sources, which are resolved against
+    the `sourceRoot`. In a folder, a name that begins with `/` or has a part `..` has no file. A file that is missing or
+    not UTF-8 counts as none; another error of reading one is raised.
 
     Any bytes give a report: bytes that are no JSON text are a finding. Raises `Utf8` if the generated text is not UTF-8.
 
@@ -144,6 +154,9 @@ def check(data: Data, generated: Optional[Data] = None, *, most: int = 20) -> Re
     ...     print(finding)
     version: SM105 version is a number, but not 3
     mappings: SM115 there is no mappings
+    >>> data = '{"version":3,"sources":["a.js"],"mappings":"AAAE"}'
+    >>> print(*sourcemap.check(data, sources={'a.js': 'x'}).findings)
+    mappings at 0:0: SM203 the original line has fewer columns
     """
-    with _Handle(data, generated, most) as report:
+    with _Handle(data, generated, sources, most) as report:
         return report.read()

@@ -95,6 +95,64 @@ class Findings(unittest.TestCase):
         self.assertEqual(found, [wanted] * 8)
 
 
+def codes_beside(data, sources):
+    return [each.code for each in sourcemap.check(data, sources=sources).findings]
+
+
+class Files(unittest.TestCase):
+    """The codes are those that `./sourcemap check --sources` is tested to find."""
+
+    MISSING = regular('AAAA', ['a'])
+
+    def setUp(self):
+        folder = tempfile.TemporaryDirectory()
+        self.addCleanup(folder.cleanup)
+        self.folder = Path(folder.name, 'src')
+        self.folder.mkdir()
+
+    def test_a_mapping(self):
+        data = regular('AAAE', ['a'], sourceRoot='lib')
+        for sources, codes in (({'lib/a': 'x'}, ['SM203']), ({'lib/a': b'xyz'}, []), ({'a': 'x'}, ['SM227']),
+                               ({}, ['SM227']), ({'lib/a': b'\xff'}, ['SM227'])):
+            self.assertEqual(codes_beside(data, sources), codes)
+        self.assertEqual(codes_beside(data, None), ['SM214'])
+
+    def test_contents(self):
+        data = regular('AAAE', ['a'], sourcesContent=['xyz'])
+        self.assertEqual(codes_beside(data, {'a': 'x'}), ['SM226'])
+        self.assertEqual(codes_beside(data, {'a': 'xyz'}), [])
+        self.assertEqual(codes_beside(data, {}), [])
+
+    def test_a_folder(self):
+        for bytes_in_file, codes in ((b'x', []), (b'', []), (b'\xff', ['SM227'])):
+            (self.folder / 'a').write_bytes(bytes_in_file)
+            self.assertEqual(codes_beside(self.MISSING, self.folder), codes)
+            self.assertEqual(codes_beside(self.MISSING, str(self.folder)), codes)
+        (self.folder / 'a').unlink()
+        self.assertEqual(codes_beside(self.MISSING, self.folder), ['SM227'])
+        self.assertEqual(codes_beside(self.MISSING, self.folder / 'none'), ['SM227'])
+
+    def test_names_without_a_file(self):
+        (self.folder.parent / 'a').write_bytes(b'x')
+        (self.folder / 'b').mkdir()
+        for name in '../a', 'b/../../a', '/a', str(self.folder.parent / 'a'), 'b', 'c\0', '', 'd' * 300:
+            self.assertEqual(codes_beside(regular('AAAA', [name]), self.folder), ['SM227'], name)
+
+    def test_a_file_that_cannot_be_read(self):
+        (self.folder / 'a').symlink_to('a')
+        with self.assertRaises(OSError):
+            codes_beside(self.MISSING, self.folder)
+
+    def test_no_regular_map(self):
+        for data in '', '{}', index(section(0, 0, self.MISSING)):
+            self.assertEqual(sourcemap.check(data, sources={}), sourcemap.check(data))
+
+    def test_shift(self):
+        data = regular('AAAAA;AACAC;AACAC;AACAC', ['a'], names=['one', 'two', 'three', 'four'])
+        shift = sourcemap.check(data, sources={'a': '/* */\none\ntwo\nthree\nfour\n'}).findings[-1]
+        self.assertEqual((shift.code, shift.position), ('SM241', sourcemap.Shift(1, 0)))
+
+
 class Standard(unittest.TestCase):
     @unittest.skipUnless(STANDARD.is_dir(), 'the tests of the standard are not here')
     def test_codes(self):
@@ -139,6 +197,12 @@ class Program(unittest.TestCase):
             '0 invalid, 1 suspicious, 1 shown\n'
         self.assertEqual(run('check', '-', data=data), (printed, 0, ''))
         self.assertEqual(run('check', '-', '--strict', data=data), (printed, 1, ''))
+
+    def test_sources(self):
+        with tempfile.TemporaryDirectory() as folder:
+            printed, status, error = run('check', '-', '--sources', folder, data=regular('AAAA', ['a']))
+        self.assertEqual((printed, status, error), (
+            '-:sources[0]: SM227 the source has neither contents nor a file\n0 invalid, 1 suspicious, 1 shown\n', 0, ''))
 
     def test_files_that_cannot_be_read(self):
         with tempfile.TemporaryDirectory() as folder:

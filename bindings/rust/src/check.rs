@@ -1,24 +1,32 @@
 //! Checks: whether bytes are a valid map by ECMA-426, and what looks wrong in a valid one.
 
-use std::fmt;
+use std::path::Path;
+use std::{fmt, fs, io};
 
-use crate::errors::Result;
+use crate::decoder::decode_slice;
+use crate::errors::{Error, Result};
 use crate::handle::ReportHandle;
+use crate::types::{DecodedMap, SourceMap};
 
 /// What a check looks at.
 #[derive(Clone, Copy, Debug, PartialEq, Eq)]
 pub struct CheckOptions<'a> {
     /// The generated text. If it is given, a valid map is compared with it.
     pub generated: Option<&'a str>,
+    /// The bytes of the file of each source, by id. If they are given, a valid map is compared
+    /// with them. A source has no file if its item is `None` or not UTF-8, or if there is no such
+    /// item. [`source_files`] reads them from a folder.
+    pub files: Option<&'a [Option<Vec<u8>>]>,
     /// How many findings of each code the report has at most. 0 counts as 1.
     pub most: u32,
 }
 
 impl Default for CheckOptions<'_> {
-    /// No generated text, and 20 findings of each code.
+    /// No generated text, no files, and 20 findings of each code.
     fn default() -> Self {
         CheckOptions {
             generated: None,
+            files: None,
             most: 20,
         }
     }
@@ -143,4 +151,44 @@ pub fn check(bytes: &[u8], options: &CheckOptions<'_>) -> Result<Report> {
         invalid: counts.invalid,
         suspicious: counts.suspicious,
     })
+}
+
+/// Reads the files of the sources of a map, for [`CheckOptions::files`]. A source has the file
+/// that its name, resolved against `sourceRoot`, names below the folder, or `None` if there is no
+/// such file. A name that begins with `/` or has a part `..` has none. There are no files if the
+/// bytes are no regular map. Any other error of reading a file is returned.
+pub fn source_files(bytes: &[u8], folder: impl AsRef<Path>) -> io::Result<Vec<Option<Vec<u8>>>> {
+    let folder = folder.as_ref();
+    match decode_slice(bytes) {
+        Ok(DecodedMap::Regular(map)) => files_of(&map, folder),
+        Ok(DecodedMap::Hermes(map)) => files_of(&map, folder),
+        Err(Error::OutOfMemory) => Err(io::ErrorKind::OutOfMemory.into()),
+        Ok(DecodedMap::Index(_)) | Err(_) => Ok(Vec::new()),
+    }
+}
+
+fn files_of(map: &SourceMap, folder: &Path) -> io::Result<Vec<Option<Vec<u8>>>> {
+    map.sources().map(|name| file_below(folder, name)).collect()
+}
+
+fn file_below(folder: &Path, name: &str) -> io::Result<Option<Vec<u8>>> {
+    if name.starts_with('/') || name.split('/').any(|part| part == "..") {
+        return Ok(None);
+    }
+    match fs::read(folder.join(name)) {
+        Ok(bytes) => Ok(Some(bytes)),
+        Err(error) if is_missing(&error) => Ok(None),
+        Err(error) => Err(error),
+    }
+}
+
+/// Whether there is no file of a name.
+fn is_missing(error: &io::Error) -> bool {
+    const ENOTDIR: i32 = 20;
+    const EISDIR: i32 = 21;
+    const ENAMETOOLONG: i32 = 36;
+    matches!(
+        error.kind(),
+        io::ErrorKind::NotFound | io::ErrorKind::InvalidInput
+    ) || matches!(error.raw_os_error(), Some(ENOTDIR | EISDIR | ENAMETOOLONG))
 }

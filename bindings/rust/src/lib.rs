@@ -43,7 +43,9 @@
 #![warn(missing_docs)]
 
 pub use crate::builder::SourceMapBuilder;
-pub use crate::check::{check, CheckOptions, Finding, FindingPosition, Report, Severity};
+pub use crate::check::{
+    check, source_files, CheckOptions, Finding, FindingPosition, Report, Severity,
+};
 pub use crate::compiled::{CompiledMap, CompiledMapError, CompiledToken, WithContents};
 pub use crate::debug_id::{DebugId, ParseDebugIdError};
 pub use crate::decoder::{decode, decode_data_url, decode_slice};

@@ -1,15 +1,16 @@
 -- The report of a check in a handle.
 use Rattle.std.specs.Prelude.{ℕ, List, length, max, Option, Some, None, option_map, slice_get, string_bytes}
+use Rattle.sourcemap_check_suspicious.specs.Suspects.{Files}
 use Rattle.sourcemap_c_check.specs.Report.{IsReportOn}
 use Rattle.sourcemap_c_handles.specs.declared.report.CheckReport.{CheckReport}
 use Rattle.sourcemap_c_handles.specs.declared.report.FindingNumbers.{FindingNumbers}
 use Rattle.sourcemap_c_handles.specs.declared.report.ReportFinding.{ReportFinding}
 use Rattle.sourcemap_c.specs.Segments.{overwritten}
 
--- the handle has the report on these bytes, beside a generated text if there is one
-abbrev pub HoldsReport : (most : ℕ) → (bytes : List ℕ) → (generated : Option (List ℕ)) → Option CheckReport → Type 0
-HoldsReport most bytes generated (Some report) = IsReportOn (max most 1) bytes generated report
-HoldsReport most bytes generated None = ⊥
+-- the handle has the report on these bytes, beside a generated text and files of sources, if they are given
+abbrev pub HoldsReport : (most : ℕ) → (bytes : List ℕ) → (generated : Option (List ℕ)) → Files → Option CheckReport → Type 0
+HoldsReport most bytes generated files (Some report) = IsReportOn (max most 1) bytes generated files report
+HoldsReport most bytes generated files None = ⊥
 
 abbrev pub finding_at : ℕ → CheckReport → Option ReportFinding
 finding_at index report = slice_get report.findings.items index

@@ -1,7 +1,8 @@
 //! Checks of bytes, and their reports.
-ghost use Rattle.std.specs.Prelude.{◌≡◌, Some, option_map};
+ghost use Rattle.std.specs.Prelude.{◌≡◌, None, Some, map as list_map, option_map};
 ghost use Rattle.std.specs.Borrow.{sem};
 ghost use Rattle.std.specs.Option.{option_copied};
+ghost use Rattle.sourcemap_c_check.specs.Files.{file_texts};
 ghost use Rattle.sourcemap_c_handles.specs.Handles.{EndsAsBefore, held_in};
 ghost use Rattle.sourcemap_c.specs.Checks.{HoldsReport, finding_at, key_at, numbers_at, sections_at, sentence_at, written};
 ghost use Rattle.sourcemap_c.specs.Codes.{Answers, Does, IsNoTextIf, ReturnsValue, text_if};
@@ -10,9 +11,11 @@ ghost use Rattle.sourcemap_c.specs.Kinds.{report_in};
 use crate::codes::{ABSENT, OK, WRONG_KIND, put_text, text_if};
 use crate::segments::overwrite;
 use sourcemap_c_check::checks::report_on;
+use sourcemap_c_check::files::file_texts;
 use sourcemap_c_handles::errors::{ErrorReport, Outcome, finish};
 use sourcemap_c_handles::report::{CheckReport, FindingNumbers, ReportCounts, ReportFinding};
 use sourcemap_c_handles::{Handle, Held};
+use sourcemap_source_views::sourceview::SourceView;
 use std::alloc::Global;
 
 fn report_in<'a>(handle: &'a mut Handle) -> Option<&'a CheckReport>
@@ -39,14 +42,61 @@ pub extern "C" fn sm_check(
     error: &mut ErrorReport,
 ) -> u32
     ensures { Answers result error.old error.new
-        (HoldsReport most bytes.now (text_if has_generated generated.now) (report_in (held_in report.new)))
+        (HoldsReport most bytes.now (text_if has_generated generated.now) None
+        (report_in (held_in report.new)))
         (IsNoTextIf has_generated generated.now) (held_in report.new ≡ held_in report.old) }
 {
     finish(
         alloc,
-        fill(alloc, report, bytes, has_generated, generated, most),
+        fill(alloc, report, bytes, has_generated, generated, None, most),
         error,
     )
+}
+
+/// As `sm_check`, also beside the files of sources. The file of the source with an id is that of this
+/// index; a source has none where it is not UTF-8, or where the list ends.
+#[unsafe(no_mangle)]
+pub extern "C" fn sm_check_files(
+    alloc: Global,
+    report: &mut Handle,
+    bytes: &[u8],
+    has_generated: bool,
+    generated: &[u8],
+    files: &[&[u8]],
+    most: u32,
+    error: &mut ErrorReport,
+) -> u32
+    ensures { let texts = file_texts (list_map (λ file. file.now) files.now) in
+        Answers result error.old error.new
+        (HoldsReport most bytes.now (text_if has_generated generated.now) (Some texts)
+        (report_in (held_in report.new)))
+        (IsNoTextIf has_generated generated.now) (held_in report.new ≡ held_in report.old) }
+{
+    finish(
+        alloc,
+        fill_beside(alloc, report, bytes, has_generated, generated, files, most),
+        error,
+    )
+}
+
+fn fill_beside(
+    alloc: Global,
+    report: &mut Handle,
+    bytes: &[u8],
+    has_generated: bool,
+    generated: &[u8],
+    files: &[&[u8]],
+    most: u32,
+) -> Outcome<()>
+    ensures { let texts = file_texts (list_map (λ file. file.now) files.now) in
+        Does result
+        (HoldsReport most bytes.now (text_if has_generated generated.now) (Some texts)
+        (report_in (held_in report.new)))
+        (IsNoTextIf has_generated generated.now) (held_in report.new ≡ held_in report.old) }
+{
+    let texts = file_texts(alloc, files)?;
+    let files = Some(texts.as_slice());
+    fill(alloc, report, bytes, has_generated, generated, files, most)
 }
 
 fn fill(
@@ -55,14 +105,16 @@ fn fill(
     bytes: &[u8],
     has_generated: bool,
     generated: &[u8],
+    files: Option<&[Option<SourceView>]>,
     most: u32,
 ) -> Outcome<()>
     ensures { Does result
-        (HoldsReport most bytes.now (text_if has_generated generated.now) (report_in (held_in report.new)))
+        (HoldsReport most bytes.now (text_if has_generated generated.now)
+        (option_copied files.entry) (report_in (held_in report.new)))
         (IsNoTextIf has_generated generated.now) (held_in report.new ≡ held_in report.old) }
 {
     let text = text_if(has_generated, generated)?;
-    let made = report_on(alloc, bytes, text, most)?;
+    let made = report_on(alloc, bytes, text, files, most)?;
     report.fill(alloc, Held::Report(made))?;
     Ok(())
 }

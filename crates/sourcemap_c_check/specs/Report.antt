@@ -1,7 +1,8 @@
 -- The report of a check as C sees it: the findings, and how many there are.
-use Rattle.std.specs.Prelude.{◌≡◌, ◌↔◌, ℕ, pos, List, length, map, string_bytes, Option, None}
+use Rattle.std.specs.Prelude.{◌≡◌, ◌↔◌, ℕ, pos, List, length, map, string_bytes, Option}
 use Rattle.sourcemap_check.specs.Validity.{IsValid}
 use Rattle.sourcemap_check.specs.declared.tree.MapPlace.{MapPlace}
+use Rattle.sourcemap_check_suspicious.specs.Suspects.{Files}
 use Rattle.sourcemap_check_print.specs.Entries.{code_of, position_of, sentence_of}
 use Rattle.sourcemap_check_print.specs.Findings.{Shows}
 use Rattle.sourcemap_check_print.specs.Places.{key_text, map_of, sections_of}
@@ -65,10 +66,11 @@ pub record IsReportOf (found : Findings) (report : CheckReport) : Type 0 where
   pub suspicious : report.counts.suspicious ≡ found.counts.suspicious
   pub kept : report.counts.findings ≡ length found.entries.items
 
--- the report on these bytes beside a generated text, if there is one: the first `most` findings of each code, and counts
--- of all. The bytes are a valid map exactly if none is invalid
-pub record IsReportOn (most : ℕ) (bytes : List ℕ) (generated : Option (List ℕ)) (report : CheckReport) : Type 0 where
+-- the report on these bytes beside a generated text and the files of sources, if they are given: the first `most` findings
+-- of each code, and counts of all. The bytes are a valid map exactly if none is invalid
+pub record IsReportOn (most : ℕ) (bytes : List ℕ) (generated : Option (List ℕ)) (files : Files) (report : CheckReport)
+    : Type 0 where
   pub found : Findings
-  pub shows : Shows most bytes generated None found
+  pub shows : Shows most bytes generated files found
   pub reported : IsReportOf found report
   pub valid : (report.counts.invalid ≡ 0) ↔ IsValid bytes

@@ -3,3 +3,4 @@
 #![tactic(auto)]
 
 pub mod checks;
+pub mod files;

@@ -12,6 +12,13 @@ pub(crate) struct ReportHandle(Handle);
 
 impl ReportHandle {
     pub fn of(bytes: &[u8], options: &CheckOptions<'_>) -> Result<ReportHandle> {
+        match options.files {
+            Some(files) => ReportHandle::beside(bytes, options, files),
+            None => ReportHandle::alone(bytes, options),
+        }
+    }
+
+    fn alone(bytes: &[u8], options: &CheckOptions<'_>) -> Result<ReportHandle> {
         let (has_text, at, length) = optional(options.generated);
         // SAFETY: both are where they say.
         let report = Handle::fill(|report, error| unsafe {
@@ -22,6 +29,31 @@ impl ReportHandle {
                 has_text,
                 at,
                 length,
+                options.most,
+                error,
+            )
+        })?;
+        Ok(ReportHandle(report))
+    }
+
+    fn beside(
+        bytes: &[u8],
+        options: &CheckOptions<'_>,
+        files: &[Option<Vec<u8>>],
+    ) -> Result<ReportHandle> {
+        let (has_text, at, length) = optional(options.generated);
+        let texts: Vec<ffi::Text> = files.iter().map(text_of_file).collect();
+        // SAFETY: all are where they say.
+        let report = Handle::fill(|report, error| unsafe {
+            ffi::sm_check_files(
+                report,
+                bytes.as_ptr(),
+                bytes.len(),
+                has_text,
+                at,
+                length,
+                texts.as_ptr(),
+                texts.len(),
                 options.most,
                 error,
             )
@@ -91,6 +123,11 @@ impl ReportHandle {
             .unwrap_or_default()
             .to_owned()
     }
+}
+
+/// A file as a call takes it. What is not UTF-8 is none.
+fn text_of_file(file: &Option<Vec<u8>>) -> ffi::Text {
+    ffi::Text::of(file.as_deref().unwrap_or(b"\xff"))
 }
 
 fn severity_of(found: &ffi::Finding) -> Severity {

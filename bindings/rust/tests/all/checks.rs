@@ -3,7 +3,7 @@ use std::fs;
 use std::path::Path;
 use std::thread;
 
-use sourcemap::{check, CheckOptions, Finding, FindingPosition, Report, Severity};
+use sourcemap::{check, source_files, CheckOptions, Finding, FindingPosition, Report, Severity};
 
 fn check_text(json: &str) -> Report {
     check(json.as_bytes(), &CheckOptions::default()).expect("a report")
@@ -141,6 +141,53 @@ fn a_text_with_a_new_first_line() {
             "mappings by 1:0: SM242 words stand in the generated text after this shift"
         ]
     );
+}
+
+/// The codes of what is found beside files. They are those that `./sourcemap check --sources` is
+/// tested to find.
+fn codes_beside(json: &str, files: &[Option<Vec<u8>>]) -> Vec<u32> {
+    let options = CheckOptions {
+        files: Some(files),
+        ..CheckOptions::default()
+    };
+    let report = check(json.as_bytes(), &options).expect("a report");
+    report.findings.iter().map(|found| found.code).collect()
+}
+
+#[test]
+fn beside_files() {
+    let json = of_mappings("AAAE");
+    let rows: [(&[Option<Vec<u8>>], &[u32]); 5] = [
+        (&[Some(b"x".to_vec())], &[203]),
+        (&[Some(b"xyz".to_vec())], &[]),
+        (&[Some(b"\xff".to_vec())], &[227]),
+        (&[None], &[227]),
+        (&[], &[227]),
+    ];
+    for (files, codes) in rows {
+        assert_eq!(codes_beside(&json, files), codes);
+    }
+    let other = r#"{"version":3,"sources":["a.js"],"sourcesContent":["xyz"],"mappings":"AAAE"}"#;
+    assert_eq!(codes_beside(other, &[Some(b"x".to_vec())]), [226]);
+}
+
+#[test]
+fn files_in_a_folder() {
+    let top = std::env::temp_dir().join(format!("check-{}", std::process::id()));
+    let folder = top.join("src");
+    fs::create_dir_all(folder.join("b")).expect("a folder");
+    fs::write(top.join("a"), "x").expect("a file");
+    fs::write(folder.join("a"), "y").expect("a file");
+    let names = r#"["a","../a","b/../../a","/a","b","c\u0000","","none",null]"#;
+    let json = format!(r#"{{"version":3,"sources":{names},"mappings":""}}"#);
+    let found = source_files(json.as_bytes(), &folder);
+    let index = source_files(wrapped(&json).as_bytes(), &folder);
+    fs::remove_dir_all(&top).expect("no folder");
+    let mut wanted = vec![None; 9];
+    wanted[0] = Some(b"y".to_vec());
+    assert_eq!(found.expect("files"), wanted);
+    assert!(index.expect("no files").is_empty());
+    assert!(source_files(b"", &folder).expect("no files").is_empty());
 }
 
 #[test]

@@ -1,0 +1,10 @@
+-- The files of sources that C passes.
+use Rattle.std.specs.Prelude.{ℕ, List, map, cond, Option, Some, None}
+use Rattle.std.specs.Str.{is_utf8}
+
+-- the text of a file; none if its bytes are not UTF-8
+abbrev pub file_text : (bytes : List ℕ) → Option (List ℕ)
+file_text bytes = cond (is_utf8 bytes) (Some bytes) None
+
+abbrev pub file_texts : (files : List (List ℕ)) → List (Option (List ℕ))
+file_texts files = map file_text files
