@@ -4,7 +4,7 @@ ghost use Rattle.sourcemap_compiled.specs.Layout.{refusal};
 ghost use Rattle.sourcemap_compiled.specs.Lookup.{token_at};
 ghost use Rattle.sourcemap_compiled.specs.Stored.{bytes_of, token_value};
 ghost use Rattle.sourcemap_c_compiled.specs.Codes.{OnCompiled};
-ghost use Rattle.sourcemap_c_compiled.specs.Lookups.{AreAnswered, IsAnswer, ReturnsClosest, ReturnsScope};
+ghost use Rattle.sourcemap_c_compiled.specs.Lookups.{AreAnswered, IsAnswer, IsFound, ReturnsClosest, ReturnsScope};
 ghost use Rattle.sourcemap_c_compiled.specs.Lookups.{ReturnsToken, found_of};
 
 use crate::codes::{ABSENT, OK, code_of};
@@ -28,7 +28,16 @@ pub fn look_up(bytes: &[u8], line: u32, column: u32, found: &mut Found) -> u32
 fn put_closest(map: &CompiledMap<'_>, line: u32, column: u32, found: &mut Found) -> u32
     ensures { ReturnsClosest (bytes_of map.now) (line, column) result found.old found.new }
 {
-    put_found(map.lookup_token(line, column), found)
+    put_found(closest(map, line, column), found)
+}
+
+// One copy of the search for single lookups: with a copy for each, the compiler would make none for
+// many positions, and call it.
+#[inline(never)]
+fn closest<'a>(map: &CompiledMap<'a>, line: u32, column: u32) -> Option<CompiledToken<'a>>
+    ensures { IsFound (bytes_of map.now) (line, column) (option_map token_value result) }
+{
+    map.lookup_token(line, column)
 }
 
 /// Writes the token with this index to `found`.
@@ -101,7 +110,7 @@ fn look_up_each(map: &CompiledMap<'_>, positions: &[Position], found: &mut [Foun
 fn answer(map: &CompiledMap<'_>, position: Position, found: &mut Found)
     ensures { IsAnswer (bytes_of map.now) position found.new }
 {
-    match map.lookup_token(position.line, position.column) {
+    match map.lookup_token_in_loop(position.line, position.column) {
         Some(token) => write_found(&token, found),
         None => *found = Found::none(),
     }
@@ -122,7 +131,7 @@ pub fn put_scope<'a>(bytes: &'a [u8], line: u32, column: u32, text: &mut &'a [u8
 fn put_closest_scope<'a>(map: &CompiledMap<'a>, line: u32, column: u32, text: &mut &'a [u8]) -> u32
     ensures { ReturnsScope (bytes_of map.now) (line, column) result text.old.now text.new.now }
 {
-    match map.lookup_token(line, column) {
+    match closest(map, line, column) {
         Some(token) => put_text(token.get_scope(), text),
         None => ABSENT,
     }

@@ -1,9 +1,10 @@
 //! The tokens of a compiled map, by index and by position.
-ghost use Rattle.std.specs.Prelude.{◌≡◌, IfSome, MatchOption, option_map};
+ghost use Rattle.std.specs.Prelude.{◌≡◌, ◌<◌, IfSome, MatchOption, option_map};
 ghost use Rattle.sourcemap_compose.specs.Moved.{distance};
 ghost use Rattle.sourcemap_compiled.specs.Blocks.{compiled_token};
 ghost use Rattle.sourcemap_compiled.specs.Lookup.{IsInOrder, IsNextTo, StartsAfter, compiled_meaning, lookup};
-ghost use Rattle.sourcemap_compiled.specs.Lookup.{token_at};
+ghost use Rattle.sourcemap_compiled.specs.Layout.{token_count};
+ghost use Rattle.sourcemap_compiled.specs.Lookup.{position_of, token_at};
 ghost use Rattle.sourcemap_compiled.specs.Numbers.{position_number};
 
 use crate::map::CompiledMap;
@@ -39,8 +40,6 @@ impl<'a> CompiledMap<'a> {
     /// order. In a file out of order, the result is a token at the position, with the token ahead of
     /// it elsewhere, or a token before the position, with the next token after it; `None` only if
     /// the first token is after the position.
-    // A call would write its result to memory, for its caller to read.
-    #[inline(always)]
     pub fn lookup_token(&self, line: u32, column: u32) -> Option<CompiledToken<'a>>
         ensures value { IsInOrder (bytes_of self.now)
             → option_map token_value result ≡ lookup (bytes_of self.now) (line, column) }
@@ -51,14 +50,43 @@ impl<'a> CompiledMap<'a> {
             (λ found. IsNextTo (bytes_of self.now) (position_number (line, column)) found.index) }
     {
         let (index, position) = self.closest_index(line, column)?;
+        Some(self.answer(index, position, line, column))
+    }
+
+    /// As `lookup_token`, for one loop over many positions: where a program calls it once, its code
+    /// becomes part of the loop.
+    // A call would write its result to memory, for its caller to read.
+    pub fn lookup_token_in_loop(&self, line: u32, column: u32) -> Option<CompiledToken<'a>>
+        ensures value { IsInOrder (bytes_of self.now)
+            → option_map token_value result ≡ lookup (bytes_of self.now) (line, column) }
+        ensures meaning { IsInOrder (bytes_of self.now)
+            → option_map meaning_of_token result ≡ compiled_meaning (bytes_of self.now) (line, column) }
+        ensures own { IfSome result (λ found. found.raw ≡ compiled_token (bytes_of self.now) found.index) }
+        ensures next { MatchOption result (StartsAfter (bytes_of self.now) (position_number (line, column)))
+            (λ found. IsNextTo (bytes_of self.now) (position_number (line, column)) found.index) }
+    {
+        let (index, position) = self.closest_index(line, column)?;
+        Some(self.answer(index, position, line, column))
+    }
+
+    // The token with this index and generated position, as a lookup of a position answers it.
+    #[inline(always)]
+    fn answer(&self, index: usize, position: u64, line: u32, column: u32) -> CompiledToken<'a>
+        requires within { index < token_count (bytes_of self.now) }
+        requires position { position ≡ position_of (bytes_of self.now) index }
+        ensures map { bytes_of result.map ≡ bytes_of self.now }
+        ensures index { result.index ≡ index }
+        ensures raw { result.raw ≡ compiled_token (bytes_of self.now) index }
+        ensures extra { result.extra_columns ≡ distance (compiled_token (bytes_of self.now) index) (line, column) }
+    {
         let raw = self.token(index, position);
         let extra_columns = distance(&raw, line, column);
-        Some(CompiledToken {
+        CompiledToken {
             map: *self,
             raw,
             index,
             extra_columns,
-        })
+        }
     }
 }
 
