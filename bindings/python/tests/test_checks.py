@@ -201,8 +201,8 @@ class Program(unittest.TestCase):
     def test_sources(self):
         with tempfile.TemporaryDirectory() as folder:
             printed, status, error = run('check', '-', '--sources', folder, data=regular('AAAA', ['a']))
-        self.assertEqual((printed, status, error), (
-            '-:sources[0]: SM227 the source has neither contents nor a file\n0 invalid, 1 suspicious, 1 shown\n', 0, ''))
+        wanted = '-:sources[0]: SM227 the source has neither contents nor a file\n0 invalid, 1 suspicious, 1 shown\n'
+        self.assertEqual((printed, status, error), (wanted, 0, ''))
 
     def test_files_that_cannot_be_read(self):
         with tempfile.TemporaryDirectory() as folder:
