@@ -4,7 +4,7 @@ ghost use Rattle.sourcemap_compiled.specs.Layout.{refusal};
 ghost use Rattle.sourcemap_compiled.specs.Lookup.{token_at};
 ghost use Rattle.sourcemap_compiled.specs.Stored.{bytes_of, token_value};
 ghost use Rattle.sourcemap_c_compiled.specs.Codes.{OnCompiled};
-ghost use Rattle.sourcemap_c_compiled.specs.Lookups.{AreAnswered, IsAnswer, IsFound, ReturnsClosest, ReturnsScope};
+ghost use Rattle.sourcemap_c_compiled.specs.Lookups.{AreAnswered, IsFound, ReturnsClosest, ReturnsScope};
 ghost use Rattle.sourcemap_c_compiled.specs.Lookups.{ReturnsToken, found_of};
 
 use crate::codes::{ABSENT, OK, code_of};
@@ -101,16 +101,18 @@ fn look_up_each(map: &CompiledMap<'_>, positions: &[Position], found: &mut [Foun
 {
     let count = positions.len().min(found.len());
     for i in 0..count {
-        answer(map, positions[i], &mut found[i]);
+        let position = positions[i];
+        let token = map.lookup_token_in_loop(position.line, position.column);
+        put_answer(token, &mut found[i]);
     }
     count
 }
 
 #[inline(always)]
-fn answer(map: &CompiledMap<'_>, position: Position, found: &mut Found)
-    ensures { IsAnswer (bytes_of map.now) position found.new }
+fn put_answer(token: Option<CompiledToken<'_>>, found: &mut Found)
+    ensures { found.new ≡ found_of (option_map token_value token.entry) }
 {
-    match map.lookup_token_in_loop(position.line, position.column) {
+    match token {
         Some(token) => write_found(&token, found),
         None => *found = Found::none(),
     }

@@ -1,6 +1,6 @@
 // Lookups in maps that are in order, and their tokens by index.
 use crate::maps::{EMPTY, GREATEST, ONE, map_named};
-use crate::texts::{indexed_text, lookup_text, parsed_counts, parsed_texts, verified};
+use crate::texts::{indexed_text, lookup_text, looped_text, parsed_counts, parsed_texts, verified};
 use sourcemap_compiled::map::{COMPILED_MAGIC, COMPILED_VERSION, CompiledMap};
 use sourcemap_test_support::checks::{Checked, check, check_that};
 use sourcemap_tokens::tokens::{NO_ID, RawToken};
@@ -90,11 +90,9 @@ static MAPS: [(&str, &str, &str); 8] = [
 #[test]
 fn closest_tokens(rt: HostRuntime) -> Checked {
     for (name, line, column, want) in &LOOKUPS {
-        check(
-            name,
-            lookup_text(rt.alloc(), map_named(name), *line, *column),
-            want,
-        )?;
+        let bytes = map_named(name);
+        check(name, lookup_text(rt.alloc(), bytes, *line, *column), want)?;
+        check(name, looped_text(rt.alloc(), bytes, *line, *column), want)?;
     }
     Ok(())
 }

@@ -79,6 +79,20 @@ pub fn lookup_text(
     found_text(alloc, map.lookup_token(line, column))
 }
 
+/// As `lookup_text`, by the call that is for loops.
+pub fn looped_text(
+    alloc: Global,
+    bytes: &[u8],
+    line: u32,
+    column: u32,
+) -> Result<String, AllocError> {
+    let map = match CompiledMap::parse(bytes) {
+        Ok(map) => map,
+        Err(error) => return format!(in alloc; "{error}"),
+    };
+    found_text(alloc, map.lookup_token_in_loop(line, column))
+}
+
 /// Returns the `token_text` of the token with this index, or `none`; or the text of the error of
 /// parsing.
 pub fn indexed_text(alloc: Global, bytes: &[u8], index: usize) -> Result<String, AllocError> {
