@@ -169,9 +169,11 @@ fn counts_text(alloc: Global, found: Option<Matches>) -> Result<String> {
     }
 }
 
+// No source has a file.
 fn source_counts(alloc: Global, contents: &str, mappings: &str) -> Result<String> {
     let map = map_of(alloc, contents, mappings)?;
-    counts_text(alloc, original_shift(alloc, &map, None)?)
+    let files: Vec<Option<SourceView>> = Vec::new(alloc);
+    counts_text(alloc, original_shift(alloc, &map, Some(files.as_slice()))?)
 }
 
 fn text_counts(alloc: Global, generated: &str, mappings: &str) -> Result<String> {
