@@ -47,8 +47,14 @@ def _bytes_of(file: Optional[Data]) -> bytes:
     return file.encode() if isinstance(file, str) else memoryview(file).tobytes()
 
 
+def _finder(sources: Sources) -> Callable[[str], Optional[Data]]:
+    """What finds the file of a source by its resolved name."""
+    if isinstance(sources, Mapping):
+        return sources.get
+    return partial(_file_below, os.fspath(sources))
+
+
 def files_of(data: Data, sources: Sources) -> List[bytes]:
     """The bytes of the file of each source of a map, by id."""
-    find: Callable[[str], Optional[Data]]
-    find = sources.get if isinstance(sources, Mapping) else partial(_file_below, os.fspath(sources))
+    find = _finder(sources)
     return [_bytes_of(find(name)) for name in _names(data)]
