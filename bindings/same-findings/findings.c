@@ -1,20 +1,55 @@
-/* findings MAP [GENERATED]: prints what a check finds in MAP, beside the generated text, as `./sourcemap check` does. */
+/* findings MAP FOLDER [GENERATED]: prints what a check finds in MAP, beside the generated text and the files of sources in
+** FOLDER unless it is empty, as `./sourcemap check` does. What it reads is not freed before it ends. */
 #include <sourcemap.h>
 #include <stdio.h>
 #include <stdlib.h>
 
-static uint8_t *read_file(const char *path, size_t *length)
+#define MOST_SOURCES 64
+
+/* The bytes of a file, SM_NO_FILE if there is none. */
+static sm_text read_file(const char *path)
 {
+    sm_text text = SM_NO_FILE;
     FILE *file = fopen(path, "rb");
-    size_t size = 1 << 24;
+    size_t size = 1 << 24, length;
     uint8_t *bytes = malloc(size);
-    if (!file || !bytes) {
-        perror(path);
-        exit(2);
+    if (!file || !bytes)
+        return text;
+    length = fread(bytes, 1, size, file);
+    if (!ferror(file)) {
+        text.at = bytes;
+        text.length = length;
     }
-    *length = fread(bytes, 1, size, file);
     fclose(file);
-    return bytes;
+    return text;
+}
+
+/* The files of the sources of a map, and how many there are. No name of these maps leads out of the folder. */
+static size_t read_files(sm_text bytes, const char *folder, sm_text *files)
+{
+    sm_map map = SM_EMPTY;
+    sm_error error = { 0 };
+    sm_text name = SM_TEXT_EMPTY;
+    char path[4096];
+    uint32_t id = 0;
+    if (sm_open(&map, bytes.at, bytes.length, &error) != SM_OK)
+        return 0;
+    for (; id < MOST_SOURCES && sm_source(&map, id, &name) == SM_OK; id++) {
+        snprintf(path, sizeof path, "%s/%.*s", folder, (int)name.length, (const char *)name.at);
+        files[id] = read_file(path);
+    }
+    sm_close(&map);
+    return id;
+}
+
+static sm_code check(sm_report *report, sm_text map, const char *folder, const char *generated, sm_error *error)
+{
+    sm_text files[MOST_SOURCES], text = read_file(generated ? generated : "");
+    size_t count;
+    if (!*folder)
+        return sm_check(report, map.at, map.length, generated != NULL, text.at, text.length, 20, error);
+    count = read_files(map, folder, files);
+    return sm_check_files(report, map.at, map.length, generated != NULL, text.at, text.length, files, count, 20, error);
 }
 
 static void print_sections(sm_report *report, uint32_t index)
@@ -53,14 +88,10 @@ int main(int count, char **words)
     sm_error error = { 0 };
     sm_finding found = { 0 };
     sm_report_counts counts = { 0 };
-    size_t length = 0, text_length = 0;
-    uint8_t *bytes, *text;
     uint32_t index;
-    if (count < 2)
+    if (count < 3)
         return 2;
-    bytes = read_file(words[1], &length);
-    text = read_file(words[count - 1], &text_length);
-    if (sm_check(&report, bytes, length, count > 2, text, text_length, 20, &error) != SM_OK) {
+    if (check(&report, read_file(words[1]), words[2], count > 3 ? words[3] : NULL, &error) != SM_OK) {
         fprintf(stderr, "%s: %s\n", words[1], (const char *)error.text);
         return 2;
     }
@@ -70,7 +101,5 @@ int main(int count, char **words)
     printf("%lu invalid, %lu suspicious, %lu shown\n", (unsigned long)counts.invalid, (unsigned long)counts.suspicious,
            (unsigned long)counts.findings);
     sm_close(&report);
-    free(bytes);
-    free(text);
     return counts.invalid > 0;
 }

@@ -1,4 +1,5 @@
-// findings.mjs MAP [GENERATED]: prints what a check finds in MAP, beside the generated text, as `./sourcemap check` does.
+// findings.mjs MAP FOLDER [GENERATED]: prints what a check finds in MAP, beside the generated text and the files of sources in
+// FOLDER unless it is empty, as `./sourcemap check` does.
 import { readFileSync } from 'node:fs';
 import { check } from '../node/lib/index.mjs';
 
@@ -9,8 +10,11 @@ function positionText(position) {
   return column === undefined ? ` by ${lines}:${columns}` : ` at ${line}:${column}`;
 }
 
-const [map, text] = process.argv.slice(2).map((path) => readFileSync(path));
-const { valid, invalid, suspicious, findings } = check(map, { generated: text });
+const [map, folder, text] = process.argv.slice(2);
+const { valid, invalid, suspicious, findings } = check(readFileSync(map), {
+  generated: text && readFileSync(text),
+  sources: folder || null,
+});
 for (const { code, sections, key, position, sentence } of findings) {
   const path = sections.map((section) => `sections[${section}].map.`).join('');
   console.log(`MAP:${path}${key}${positionText(position)}: ${code} ${sentence}`);

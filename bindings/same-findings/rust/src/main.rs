@@ -1,18 +1,23 @@
-//! findings MAP [GENERATED]: prints what a check finds in MAP, beside the generated text, as `./sourcemap check` does.
+//! findings MAP FOLDER [GENERATED]: prints what a check finds in MAP, beside the generated text and the files of sources in
+//! FOLDER unless it is empty, as `./sourcemap check` does.
 use std::error::Error;
 use std::process::ExitCode;
 use std::{env, fs};
 
-use sourcemap::{check, CheckOptions};
+use sourcemap::{check, source_files, CheckOptions};
 
 fn main() -> Result<ExitCode, Box<dyn Error>> {
     let paths: Vec<String> = env::args().skip(1).collect();
-    let text = paths.get(1).map(fs::read_to_string).transpose()?;
+    let map = fs::read(&paths[0])?;
+    let text = paths.get(2).map(fs::read_to_string).transpose()?;
+    let folder = Some(&paths[1]).filter(|path| !path.is_empty());
+    let files = folder.map(|path| source_files(&map, path)).transpose()?;
     let options = CheckOptions {
         generated: text.as_deref(),
+        files: files.as_deref(),
         ..CheckOptions::default()
     };
-    let report = check(&fs::read(&paths[0])?, &options)?;
+    let report = check(&map, &options)?;
     for finding in &report.findings {
         println!("MAP:{finding}");
     }
