@@ -143,9 +143,12 @@ impl Shared {
     #[inline(never)]
     pub fn take_other(&self) -> Taken<'_> {
         let number = number_of_thread();
+        if let Some(taken) = self.own(number) {
+            return taken;
+        }
         loop {
-            let free = self.free_of(number).or_else(|| self.first.take());
-            if let Some(taken) = free.or_else(|| self.free()).or_else(|| self.added(number)) {
+            let free = self.first.take().or_else(|| self.free());
+            if let Some(taken) = free.or_else(|| self.added(number)) {
                 return taken;
             }
             // Another thread is making a share, or memory ran out.
@@ -153,9 +156,17 @@ impl Shared {
         }
     }
 
-    /// The share of this number, if there is one that is free.
-    fn free_of(&self, number: usize) -> Option<Taken<'_>> {
-        self.more.get()?.slots[number - 1].get()?.take()
+    /// The share of this number, unless another call has it. It is made if there is none: a
+    /// thread that took what others left free would take their cache lines from them.
+    fn own(&self, number: usize) -> Option<Taken<'_>> {
+        let slot = self
+            .more
+            .get()
+            .and_then(|table| table.slots[number - 1].get());
+        match slot {
+            Some(slot) => slot.take(),
+            None => self.added(number),
+        }
     }
 
     /// Any share that is free.
