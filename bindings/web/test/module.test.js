@@ -9,6 +9,7 @@ import { fileURLToPath, pathToFileURL } from 'node:url';
 import { gzipSync } from 'node:zlib';
 import { CompiledMap, NONE, SourceMapError, parseSegment } from '../out/sourcemap.js';
 import { ALL, make } from './made.js';
+import { Random } from './random.js';
 
 const here = path.dirname(fileURLToPath(import.meta.url));
 const wasm = path.join(here, '../out/sourcemap.wasm');
@@ -267,6 +268,63 @@ test('damaged texts are errors where they are read', async () => {
   await refuses('UTF8', () => map.originalPositionFor({ line: 1, column: 2 }));
   assert.equal(map.originalPositionFor({ line: 1, column: 9 }).source, 'src/ü😀.js');
   map.close();
+});
+
+/** Characters at the edges of the lengths of UTF-8, and bytes at the edges of what may stand where. */
+const CHARACTERS = [0, 0x41, 0x7f, 0x80, 0x7ff, 0x800, 0xfff, 0x1000, 0xcfff, 0xd000, 0xd7ff, 0xe000, 0xfeff, 0xffff,
+  0x10000, 0x3ffff, 0x40000, 0xfffff, 0x100000, 0x10ffff];
+const EDGES = [0, 0x7f, 0x80, 0x8f, 0x90, 0x9f, 0xa0, 0xbf, 0xc0, 0xc1, 0xc2, 0xdf, 0xe0, 0xe1, 0xec, 0xed, 0xee, 0xef, 0xf0,
+  0xf1, 0xf3, 0xf4, 0xf5, 0xff];
+
+/** A text of up to 200 characters in UTF-8, of which a byte may be changed, or others left out at the end. */
+function nearlyUtf8(random) {
+  const length = random.below(200);
+  const isAscii = random.below(2) === 0;
+  const characters = Array.from({ length }, () => (isAscii && random.below(10) > 0 ? 0x61 : random.pick(CHARACTERS)));
+  const bytes = new TextEncoder().encode(String.fromCodePoint(...characters));
+  if (bytes.length === 0 || random.below(3) === 0) return bytes;
+  const at = random.below(bytes.length);
+  if (random.below(3) === 0) return bytes.subarray(0, at);
+  bytes[at] = random.pick(EDGES);
+  return bytes;
+}
+
+/** The text of bytes, or the code of the error that there is none. */
+function decoded(bytes) {
+  try {
+    return new TextDecoder('utf-8', { fatal: true, ignoreBOM: true }).decode(bytes);
+  } catch {
+    return 'UTF8';
+  }
+}
+
+function contentOf(map) {
+  try {
+    return map.sourceContent(0);
+  } catch (error) {
+    return error.code;
+  }
+}
+
+test('a text is one exactly if it is UTF-8', async () => {
+  const random = new Random(1);
+  let errors = 0;
+  for (let i = 0; i < 5000; i += 1) {
+    const text = nearlyUtf8(random);
+    const bytes = make({ contents: ['a'.repeat(text.length)] });
+    bytes.set(text, bytes.length - 1 - text.length);
+    const map = await CompiledMap.load(bytes);
+    const wanted = decoded(text);
+    assert.equal(contentOf(map), wanted, Buffer.from(text).toString('hex'));
+    if (wanted === 'UTF8') {
+      errors += 1;
+      await refuses('UTF8', () => map.verify());
+    } else {
+      map.verify();
+    }
+    map.close();
+  }
+  assert.ok(errors > 1000 && errors < 4000, `${errors} of 5000`);
 });
 
 test('arguments of wrong types are refused', async () => {
