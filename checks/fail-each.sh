@@ -12,8 +12,7 @@
 #
 # For each way to fail, each call of a test or of a command fails in turn. If this would take more than N
 # processor milliseconds, only some of the calls fail, spread over all, but at least 40. The number of the
-# other calls is printed. N is 1000 by default. Then all crates take less than ten processor minutes.
-# `--millis all` leaves no call out.
+# other calls is printed. N is 4000 by default.
 #
 # The last line is `N passed, M failed`, and counts runs. The exit status is 1 if a run failed, or if none
 # passed. If a program is not built, is older than its sources or cannot be started, or if no C compiler

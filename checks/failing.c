@@ -1,6 +1,7 @@
 /* A library that is loaded with LD_PRELOAD. It replaces functions of the C library, and makes the
  * allocations, the reads or the writes of a program fail, each in another run. The program is
- * started once. It is forked for each run, before `main` runs.
+ * started once. It is forked for each run: where the allocation fails, so that no run does again
+ * what comes before it; or before `main` runs, for reads, for writes and where runs share files.
  *
  *   FAILING_CALL     which calls fail: allocation, read or write
  *   FAILING_HOW      fails: this call alone fails. onward: this call and all later ones fail.
@@ -11,8 +12,8 @@
  *   FAILING_SHORT    if it is set, each read, or each write, moves at most one byte
  *   FAILING_INPUT    the file that is the standard input of each run
  *   FAILING_MILLIS   about how many processor milliseconds all runs may take together, by the time
- *                    of the run in which no call fails. This limits the number of runs, but not
- *                    below 40. The runs are spread over the calls.
+ *                    of the first of them. This limits the number of runs, but not below 40. The
+ *                    runs are spread over the calls.
  *   FAILING_SECONDS  the number of seconds after which a run is ended
  *
  * Prints a line with the number of calls of a run in which none fails. Then prints a line for each
@@ -50,6 +51,79 @@ static long at;
 /* the number of calls so far, in memory that the forked runs share */
 static long *calls;
 
+/* the calls that fail: so many of a number of calls, spread over them */
+struct choice {
+    long runs, whole;
+};
+
+/* The number of the call that fails in run `i`, counted from 0. */
+static long chosen(struct choice choice, long i) {
+    long more = choice.whole % choice.runs;
+    return 1 + i * (choice.whole / choice.runs) + (i < more ? i : more);
+}
+
+/* In a run that forks at its calls: how to tell the process that started it of each, and the next of them. */
+static struct {
+    int on, tells, hears, seconds;
+    struct choice choice;
+    long next;
+} forking;
+
+/* the number of a call that failed, and how the run ended */
+struct message {
+    long number;
+    int status;
+};
+
+enum { MOST_FILES = 64 };
+
+static void give_up(const char *why) {
+    dprintf(2, "failing.c: %s\n", why);
+    _exit(99);
+}
+
+static int status_of(pid_t run) {
+    int status;
+    while (waitpid(run, &status, 0) < 0)
+        if (errno != EINTR) give_up("a run is lost");
+    return WIFEXITED(status) ? WEXITSTATUS(status) : 128 + WTERMSIG(status);
+}
+
+/* Tells of a run that has ended, and waits until what it wrote was read. */
+static void tell(long number, int status) {
+    struct message message = {number, status};
+    char heard;
+    if (syscall(SYS_write, forking.tells, &message, sizeof message) != sizeof message) give_up("nobody listens");
+    if (syscall(SYS_read, forking.hears, &heard, 1) != 1) give_up("nobody answers");
+}
+
+/* Forks a run in which this call fails. Returns 1 in it. Returns 0 where none fails, when that run has ended and open
+ * files are again where they were. */
+static int fork_here(long number) {
+    if (number != chosen(forking.choice, forking.next)) return 0;
+    if (++forking.next == forking.choice.runs) forking.on = 0;
+    int before = errno;
+    off_t places[MOST_FILES];
+    for (int file = 0; file < MOST_FILES; file++) places[file] = lseek(file, 0, SEEK_CUR);
+    /* `fork` would free locks that are held here, in a call of the C library that allocates */
+    pid_t made = _Fork();
+    if (made < 0) give_up("no process");
+    if (made == 0) {
+        forking.on = 0;
+        alarm(forking.seconds);
+        at = number;
+        return 1;
+    }
+    tell(number, status_of(made));
+    for (int file = 1; file <= 2; file++)
+        if (ftruncate(file, places[file])) give_up("what a run wrote cannot be taken back");
+    for (int file = 0; file < MOST_FILES; file++)
+        if (places[file] >= 0) lseek(file, places[file], SEEK_SET);
+    *calls = number;
+    errno = before;
+    return 0;
+}
+
 static void *(*next_malloc)(size_t);
 static void *(*next_calloc)(size_t, size_t);
 static void *(*next_realloc)(void *, size_t);
@@ -60,6 +134,7 @@ static void *(*next_aligned)(size_t, size_t);
 static int is_failing(enum call call) {
     if (call != failing) return 0;
     long number = ++*calls;
+    if (forking.on) return fork_here(number);
     if (at == 0 || how == NOTHING) return 0;
     if (how == EACH_INTERRUPTED) return number % 2 == 1;
     return how == ONWARD || how == ENDS ? number >= at : number == at;
@@ -159,11 +234,6 @@ static const char *setting(const char *name, const char *otherwise) {
     return given ? given : otherwise;
 }
 
-static void give_up(const char *why) {
-    dprintf(2, "failing.c: %s\n", why);
-    _exit(99);
-}
-
 static unsigned char *text_of(int file, size_t *size) {
     *size = lseek(file, 0, SEEK_END);
     unsigned char *text = next_malloc(*size + 1);
@@ -218,40 +288,110 @@ static void report(long count) {
     fflush(stdout);
 }
 
-/* Forks the run in which call `number` fails. Returns 1 in the run, which continues as the program.
- * Returns 0 in the parent when the run has ended. */
-static int run(enum call call, long number, const char *input, int seconds, int const files[2]) {
+/* what all runs have in common */
+struct runs {
+    enum call call;
+    const char *input;
+    int seconds;
+    int files[2];
+};
+
+/* Forks a run, which continues as the program. Returns 0 in it. */
+static pid_t start(const struct runs *all, long number) {
     for (int i = 0; i < 2; i++)
-        if (ftruncate(files[i], 0) || lseek(files[i], 0, SEEK_SET)) give_up("no room for what runs write");
+        if (ftruncate(all->files[i], 0) || lseek(all->files[i], 0, SEEK_SET)) give_up("no room for what runs write");
     *calls = 0;
     pid_t made = fork();
     if (made < 0) give_up("no process");
-    if (made == 0) {
-        struct rlimit no_core = {0, 0};
-        setrlimit(RLIMIT_CORE, &no_core);
-        int from = open(input, O_RDONLY);
-        if (from < 0) give_up("no input");
-        dup2(from, 0);
-        close(from);
-        dup2(files[0], 1);
-        dup2(files[1], 2);
-        alarm(seconds);
-        at = number;
-        failing = call;
-        return 1;
-    }
-    int status;
-    while (waitpid(made, &status, 0) < 0)
-        if (errno != EINTR) give_up("a run is lost");
-    note(number, WIFEXITED(status) ? WEXITSTATUS(status) : 128 + WTERMSIG(status), files);
+    if (made > 0) return made;
+    struct rlimit no_core = {0, 0};
+    setrlimit(RLIMIT_CORE, &no_core);
+    int from = open(all->input, O_RDONLY);
+    if (from < 0) give_up("no input");
+    dup2(from, 0);
+    close(from);
+    dup2(all->files[0], 1);
+    dup2(all->files[1], 2);
+    at = number;
+    failing = all->call;
     return 0;
 }
 
-/* The processor milliseconds of the only run so far, plus 0.5 for its start. */
-static double millis_of_run(void) {
+/* Makes the run in which call `number` fails. Returns 1 in the run, and 0 in the parent when the run has ended. */
+static int run(const struct runs *all, long number) {
+    pid_t made = start(all, number);
+    if (made == 0) {
+        alarm(all->seconds);
+        return 1;
+    }
+    note(number, status_of(made), all->files);
+    return 0;
+}
+
+enum after { ENDED, IN_RUN, CHANGED };
+
+/* Makes one run in which no call fails, and that forks at the calls that are chosen. Returns IN_RUN in these runs, and
+ * ENDED in the parent when all have ended. If the run itself does not end as the first one, the others have changed what
+ * it reads, as runs do that share files: all but the first one are forgotten, and CHANGED is returned. */
+static enum after run_from_calls(const struct runs *all, struct choice choice, long count) {
+    int told[2], heard[2];
+    if (pipe2(told, O_CLOEXEC) || pipe2(heard, O_CLOEXEC)) give_up("no pipe");
+    struct ending *first = endings;
+    pid_t made = start(all, 0);
+    if (made == 0) {
+        close(told[0]);
+        close(heard[1]);
+        forking.tells = told[1];
+        forking.hears = heard[0];
+        forking.seconds = all->seconds;
+        forking.choice = choice;
+        forking.on = choice.runs > 0;
+        return IN_RUN;
+    }
+    close(told[1]);
+    close(heard[0]);
+    struct message message;
+    while (syscall(SYS_read, told[0], &message, sizeof message) == sizeof message) {
+        note(message.number, message.status, all->files);
+        if (syscall(SYS_write, heard[1], "", 1) != 1) give_up("a run is gone");
+    }
+    close(told[0]);
+    close(heard[1]);
+    note(0, status_of(made), all->files);
+    if (first->failed[first->runs - 1] == 0 && *calls == count) {
+        first->runs--;
+        return ENDED;
+    }
+    first->runs = 1;
+    first->next = NULL;
+    return CHANGED;
+}
+
+/* The processor milliseconds of all runs so far. */
+static double millis_of_runs(void) {
     struct rusage used;
     getrusage(RUSAGE_CHILDREN, &used);
-    return 0.5 + 1e3 * (used.ru_utime.tv_sec + used.ru_stime.tv_sec) + 1e-3 * (used.ru_utime.tv_usec + used.ru_stime.tv_usec);
+    return 1e3 * (used.ru_utime.tv_sec + used.ru_stime.tv_sec) + 1e-3 * (used.ru_utime.tv_usec + used.ru_stime.tv_usec);
+}
+
+enum { FEWEST = 40 };
+
+/* How many runs may be made if one takes so long, of a number of calls. */
+static long within(double most, double millis, long calls) {
+    double runs = most / millis;
+    if (runs < FEWEST) runs = FEWEST;
+    return runs < calls ? (long)runs : calls;
+}
+
+/* Makes the runs in which an allocation fails, each forked where it fails. Some of them come first, to see how long one
+ * takes. */
+static enum after fail_allocations(const struct runs *all, long count, double most) {
+    long few = count < FEWEST ? count : FEWEST;
+    double before = millis_of_runs();
+    enum after after = run_from_calls(all, (struct choice){few, count}, count);
+    if (after != ENDED || few == count) return after;
+    double each = (millis_of_runs() - before) / few;
+    return run_from_calls(all, (struct choice){within(most, each, count), count}, count);
 }
 
 __attribute__((constructor)) static void begin(void) {
@@ -268,18 +408,20 @@ __attribute__((constructor)) static void begin(void) {
     int seconds = atoi(setting("FAILING_SECONDS", "60"));
     unsetenv("FAILING_CALL");
     unsetenv("LD_PRELOAD");
-    int files[2] = {memfd_create("output", 0), memfd_create("errors", 0)};
+    struct runs all = {call, input, seconds, {memfd_create("output", 0), memfd_create("errors", 0)}};
     calls = mmap(NULL, sizeof *calls, PROT_READ | PROT_WRITE, MAP_SHARED | MAP_ANONYMOUS, -1, 0);
-    if (files[0] < 0 || files[1] < 0 || calls == MAP_FAILED) give_up("no room");
+    if (all.files[0] < 0 || all.files[1] < 0 || calls == MAP_FAILED) give_up("no room");
     /* the run in which no call fails */
-    if (run(call, 0, input, seconds, files)) return;
-    most /= millis_of_run();
-    if (most < 40) most = 40;
+    if (run(&all, 0)) return;
     long count = *calls;
     /* these two ways make only one run, whatever the number of its call */
-    long whole = how == EACH_INTERRUPTED || how == NOTHING ? 1 : count, runs = whole < most ? whole : (long)most;
-    for (long i = 0; i < runs; i++)
-        if (run(call, 1 + i * (whole / runs) + (i < whole % runs ? i : whole % runs), input, seconds, files)) return;
+    long whole = how == EACH_INTERRUPTED || how == NOTHING ? 1 : count;
+    /* half a millisecond is for the start of a run */
+    struct choice choice = {within(most, 0.5 + millis_of_runs(), whole), whole};
+    enum after after = call == ALLOCATION ? fail_allocations(&all, count, most) : CHANGED;
+    if (after == IN_RUN) return;
+    for (long i = 0; after == CHANGED && i < choice.runs; i++)
+        if (run(&all, chosen(choice, i))) return;
     report(count);
     _exit(0);
 }

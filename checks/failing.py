@@ -73,7 +73,8 @@ CASES = [
     Case('lookup --from-1 1 6', MAP), Case('trace --from-1 FILE', INDEX, POSITIONS_FROM_1),
     Case('compile', FULL), Case('compile', HERMES), Case('compile --without-contents', INDEX), Case('compile', LINKED),
     Case('check', INDEX), Case('check --json', FULL), Case('check --strict', MAP), Case('check', HERMES),
-    Case('check --json --generated FILE', FULL, 'x\n😀'), Case('check --generated FILE', MAP, ''),
+    Case('check --json --generated FILE', FULL, 'x\n😀'),
+    Case('check --generated FILE --name a.map', MAP, '//# sourceMappingURL=b.map'),
     Case('check --json --generated FILE --sources FILE', FULL, 'x\n😀'), Case('check --sources FILE', HERMES, ''),
     Case('lookup 0 4', COMPILED), Case('trace --from-1 FILE', COMPILED, POSITIONS_FROM_1),
     Case('lookup 0 4', COMPILED[:-1]), Case('trace FILE', COMPILED[:140] + b'\x01' + COMPILED[141:], POSITIONS),
@@ -292,16 +293,12 @@ def steps_of(name, work):
     return [(f'{name} {test}', sweep_test, program, test, way) for test in tests_of(program) for way in WAYS_OF_TESTS]
 
 
-def millis_of(word):
-    return 1e12 if word == 'all' else float(word)
-
-
 def main():
     words = argparse.ArgumentParser(prog='fail-each.sh', description='See the head of fail-each.sh.')
     words.add_argument('work')
     words.add_argument('crates', nargs='*')
     words.add_argument('--build', action='store_true')
-    words.add_argument('--millis', type=millis_of, default=1000, metavar='N|all')
+    words.add_argument('--millis', type=float, default=4000, metavar='N')
     words.add_argument('--jobs', type=int, default=os.cpu_count() or 1)
     given = words.parse_intermixed_args()
     failing, tally, steps = Failing(f'{given.work}/failing.so', given.millis), Tally(), []
@@ -320,7 +317,7 @@ def main():
             except (OSError, Unswept) as why:
                 tally.add_unswept(begun[done], why)
     if tally.left_out:
-        print(f'{tally.left_out} calls of long tests were left out; --millis all takes all of them')
+        print(f'{tally.left_out} calls of long tests were left out')
     spent = resource.getrusage(resource.RUSAGE_CHILDREN)
     print(f'{(spent.ru_utime + spent.ru_stime) / 60:.1f} processor minutes')
     print(f'{tally.passed} passed, {tally.failed} failed')

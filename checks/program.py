@@ -16,7 +16,7 @@ HOME = CRATES.parent
 MAP = HOME / 'examples/readme.map'
 USAGE = (b'usage: lookup [--from-1] LINE COL | tokens | rewrite | flatten | compose FILE | shift ROWS'
          b' | trace [--from-1] FILE | compile [--without-contents]'
-         b' | check [--json] [--strict] [--generated FILE] [--sources DIR]\n')
+         b' | check [--json] [--strict] [--generated FILE] [--name NAME] [--sources DIR]\n')
 WRAPPER_USAGE = b'usage: sourcemap WORDS < MAP'
 ANSWER = b'coolstuff.js:0:4 name=x\n'
 LOOKUP = [b'lookup', b'0', b'5']

@@ -8,7 +8,7 @@ from index_maps import LAST, in_order, offset_of, absolute_position
 
 USAGE = ('usage: lookup [--from-1] LINE COL | tokens | rewrite | flatten | compose FILE | shift ROWS'
          ' | trace [--from-1] FILE | compile [--without-contents]'
-         ' | check [--json] [--strict] [--generated FILE] [--sources DIR]\n')
+         ' | check [--json] [--strict] [--generated FILE] [--name NAME] [--sources DIR]\n')
 FROM_1 = '--from-1'
 WITHOUT_CONTENTS = '--without-contents'
 CHECKS = [['check'], ['check', '--json'], ['check', '--strict'], ['check', '--json', '--strict']]

@@ -351,7 +351,7 @@ export interface Finding {
   severity: 'invalid' | 'suspicious';
   /** The indexes of the sections that lead to its map, the outermost first; empty for the whole map. */
   sections: number[];
-  /** The key of the map. It is empty if the bytes are no JSON object. */
+  /** The key of the map. It is empty where there is none. */
   key: string;
   /** Null if the key says it all. */
   position: SegmentPosition | TokenPosition | Shift | null;
@@ -373,6 +373,11 @@ export interface Report {
 export interface CheckOptions {
   /** The generated text, or its UTF-8 bytes. If it is given, a valid map is compared with it. */
   generated?: string | Uint8Array | null;
+  /**
+   * The name of the map's file, without folders. If it is given, the reference of the generated text is
+   * to end in it. An empty name is none.
+   */
+  name?: string | null;
   /**
    * The folder of the files of sources, or the files by the names of sources, which are resolved against
    * the `sourceRoot`. If it is given, a valid map is compared with them. In a folder, a name that begins

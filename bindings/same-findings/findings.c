@@ -1,8 +1,10 @@
-/* findings MAP FOLDER [GENERATED]: prints what a check finds in MAP, beside the generated text and the files of sources in
-** FOLDER unless it is empty, as `./sourcemap check` does. What it reads is not freed before it ends. */
+/* findings MAP FOLDER NAME [GENERATED]: prints what a check finds in MAP, beside the generated text, the name of the map's
+** file and the files of sources in FOLDER, as `./sourcemap check` does. FOLDER and NAME may be empty. What it reads is not
+** freed before it ends. */
 #include <sourcemap.h>
 #include <stdio.h>
 #include <stdlib.h>
+#include <string.h>
 
 #define MOST_SOURCES 64
 
@@ -32,8 +34,8 @@ static size_t read_files(sm_text bytes, const char *folder, sm_text *files)
     sm_text name = SM_TEXT_EMPTY;
     char path[4096];
     uint32_t id = 0;
-    if (sm_open(&map, bytes.at, bytes.length, &error) != SM_OK)
-        return 0;
+    if (sm_open(&map, bytes.at, bytes.length, &error) == SM_OK && sm_kind(&map) == SM_KIND_INDEX)
+        sm_flatten(&map, &error);
     for (; id < MOST_SOURCES && sm_source(&map, id, &name) == SM_OK; id++) {
         snprintf(path, sizeof path, "%s/%.*s", folder, (int)name.length, (const char *)name.at);
         files[id] = read_file(path);
@@ -42,14 +44,16 @@ static size_t read_files(sm_text bytes, const char *folder, sm_text *files)
     return id;
 }
 
-static sm_code check(sm_report *report, sm_text map, const char *folder, const char *generated, sm_error *error)
+static sm_code check(sm_report *report, sm_text map, const char *folder, const char *name, const char *generated,
+                     sm_error *error)
 {
-    sm_text files[MOST_SOURCES], text = read_file(generated ? generated : "");
+    sm_text files[MOST_SOURCES] = { SM_TEXT_EMPTY }, text = read_file(generated ? generated : "");
     size_t count;
-    if (!*folder)
+    if (!*folder && !*name)
         return sm_check(report, map.at, map.length, generated != NULL, text.at, text.length, 20, error);
-    count = read_files(map, folder, files);
-    return sm_check_files(report, map.at, map.length, generated != NULL, text.at, text.length, files, count, 20, error);
+    count = *folder ? read_files(map, folder, files) : 0;
+    return sm_check_files(report, map.at, map.length, generated != NULL, text.at, text.length, (const uint8_t *)name,
+                          strlen(name), *folder != 0, files, count, 20, error);
 }
 
 static void print_sections(sm_report *report, uint32_t index)
@@ -89,9 +93,9 @@ int main(int count, char **words)
     sm_finding found = { 0 };
     sm_report_counts counts = { 0 };
     uint32_t index;
-    if (count < 3)
+    if (count < 4)
         return 2;
-    if (check(&report, read_file(words[1]), words[2], count > 3 ? words[3] : NULL, &error) != SM_OK) {
+    if (check(&report, read_file(words[1]), words[2], words[3], count > 4 ? words[4] : NULL, &error) != SM_OK) {
         fprintf(stderr, "%s: %s\n", words[1], (const char *)error.text);
         return 2;
     }

@@ -1,5 +1,5 @@
-// findings.mjs MAP FOLDER [GENERATED]: prints what a check finds in MAP, beside the generated text and the files of sources in
-// FOLDER unless it is empty, as `./sourcemap check` does.
+// findings.mjs MAP FOLDER NAME [GENERATED]: prints what a check finds in MAP, beside the generated text, the name of the map's
+// file and the files of sources in FOLDER, as `./sourcemap check` does. FOLDER and NAME may be empty.
 import { readFileSync } from 'node:fs';
 import { check } from '../node/lib/index.mjs';
 
@@ -10,9 +10,10 @@ function positionText(position) {
   return column === undefined ? ` by ${lines}:${columns}` : ` at ${line}:${column}`;
 }
 
-const [map, folder, text] = process.argv.slice(2);
+const [map, folder, name, text] = process.argv.slice(2);
 const { valid, invalid, suspicious, findings } = check(readFileSync(map), {
   generated: text && readFileSync(text),
+  name: name || null,
   sources: folder || null,
 });
 for (const { code, sections, key, position, sentence } of findings) {

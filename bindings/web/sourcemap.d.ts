@@ -85,6 +85,13 @@ export declare class CompiledMap {
    */
   static load(from: CompiledMapInput): Promise<CompiledMap>;
 
+  /**
+   * Opens a compiled map in a buffer that the page gives up, in a time that does not grow with its length. The
+   * buffer is empty afterwards, as after `postMessage`, unless the map is refused; its bytes are copied when a
+   * call first reads the map. Throws a TypeError for what is no such buffer.
+   */
+  static load(from: ArrayBuffer | ArrayBufferView, options: { transfer: true }): Promise<CompiledMap>;
+
   readonly file: string | null;
   /** The debug id as it is printed: hyphenated, in lower case. */
   readonly debugId: string | null;

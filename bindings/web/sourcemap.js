@@ -58,6 +58,8 @@ const MEMORY64 = new Uint8Array([0, 0x61, 0x73, 0x6d, 1, 0, 0, 0, 5, 3, 1, 4, 0]
 
 const PAGE = 65536;
 const GRAIN = 16;
+/** What the module reads of a compiled map to check it. */
+const HEADER_LENGTH = 64;
 /** What a part that grows has to spare, so that streams that come at once do not move one another at each piece. */
 const SPARE = 2 ** 18;
 /** How many positions are looked up in one call: they and their tokens stay in the nearest cache. */
@@ -215,6 +217,13 @@ class Heap {
     const kept = Math.max(rounded(length, GRAIN), GRAIN);
     if (kept < size) this.give({ at: at + kept, size: size - kept });
     return { at, size: kept };
+  }
+
+  /** Takes a part for bytes of which the header alone is copied. */
+  reserve(bytes) {
+    const part = this.take(bytes.length);
+    this.bytes.set(bytes.subarray(0, HEADER_LENGTH), part.at);
+    return { part, length: bytes.length };
   }
 
   /** Takes a part for bytes that come in pieces. Returns it, and how many bytes there were. */
@@ -382,6 +391,19 @@ async function inputOf(from) {
   }
 }
 
+/** The bytes of a buffer that can be taken over. */
+function transferable(from) {
+  const bytes = ArrayBuffer.isView(from) ? bytesIn(from) : from;
+  if (bytes instanceof ArrayBuffer) return new Uint8Array(bytes);
+  if (bytes?.buffer instanceof ArrayBuffer) return bytes;
+  throw new TypeError('with `transfer`, a compiled map is an ArrayBuffer or a view of one');
+}
+
+/** Takes a buffer over: its owner is left with an empty one, and cannot change these bytes. */
+function takenOver({ buffer, byteOffset, length }) {
+  return new Uint8Array(structuredClone(buffer, { transfer: [buffer] }), byteOffset, length);
+}
+
 /*
  * Arguments
  */
@@ -429,6 +451,8 @@ export class CompiledMap {
   // the bytes of the map, as the module takes them
   #at;
   #length;
+  // the bytes as they were taken over, until a call reads them
+  #waiting = null;
   #sources = new Map();
   #names = new Map();
   #lists = {};
@@ -442,10 +466,22 @@ export class CompiledMap {
     source = module;
   }
 
-  static async load(from) {
+  static async load(from, { transfer = false } = {}) {
     checkSupport();
+    if (transfer) return CompiledMap.#takeOver(transferable(from), await theHeap());
     const [opened, input] = await Promise.all([theHeap(), inputOf(from)]);
     return new CompiledMap(opened, await opened.receive(input));
+  }
+
+  static #takeOver(bytes, opened) {
+    const map = new CompiledMap(opened, opened.reserve(bytes));
+    try {
+      map.#waiting = takenOver(bytes);
+    } catch (error) {
+      map.close();
+      throw error;
+    }
+    return map;
   }
 
   constructor(opened, received) {
@@ -464,6 +500,10 @@ export class CompiledMap {
 
   #opened() {
     if (this.#part === null) throw new SourceMapError('the map is closed', 'CLOSED');
+    if (this.#waiting !== null) {
+      this.#heap.bytes.set(this.#waiting, this.#part.at);
+      this.#waiting = null;
+    }
     return this.#heap;
   }
 
@@ -721,6 +761,7 @@ export class CompiledMap {
     if (this.#part === null) return;
     this.#heap.give(this.#part);
     this.#part = null;
+    this.#waiting = null;
     this.#lists = {};
     this.#sources.clear();
     this.#names.clear();

@@ -997,22 +997,25 @@ sm_code sm_compiled_file(const uint8_t *bytes, size_t length, sm_text *text);
 
 /* Fills `report` with what is found in the bytes, which are not kept. The report has at
 ** most `most` findings of each code, the first ones, and counts all; 0 counts as 1. Only in
-** a valid map is looked for what looks wrong. If `has_generated` is true, `generated` is the
-** generated text, and a valid map is compared with it too; else it is not read. Returns
-** SM_OK, also if the bytes are no map; SM_UTF8 if `has_generated` is true and the generated
-** text is not UTF-8. */
+** a valid map is looked for what looks wrong, in an index map as sm_flatten() makes it. If
+** `has_generated` is true, `generated` is the generated text, and a valid map is compared
+** with it too; else it is not read. Returns SM_OK, also if the bytes are no map; SM_UTF8 if
+** `has_generated` is true and the generated text is not UTF-8. */
 sm_code sm_check(sm_report *report, const uint8_t *bytes, size_t length, bool has_generated,
                  const uint8_t *generated, size_t generated_length, uint32_t most, sm_error *error);
 
-/* As sm_check(), but compares a valid map also with the files of its sources. `files[i]` has
-** the bytes of the file of the source that sm_source() returns for the id i. A source has no
-** file if the bytes are not UTF-8, as those of SM_NO_FILE, or if `count` is not above its id.
-** Original positions are looked at in the contents that the map has for their source, else
-** in its file. Finds SM226 and SM227 in place of SM214. The files are not kept. Returns the
-** codes of sm_check(). */
+/* As sm_check(), but compares a valid map also with its name and the files of its sources.
+** `name` is the name of the map's file, without folders; there is none if `name_length` is 0.
+** The reference of the generated text is to end in it (SM225). If `has_files` is true,
+** `files[i]` has the bytes of the file of the source that sm_source() returns for the id i, of
+** an index map after sm_flatten(); else `files` is not read. A source has no file if the bytes are not UTF-8, as those of
+** SM_NO_FILE, or if `count` is not above its id. Original positions are looked at in the
+** contents that the map has for their source, else in its file. With files, finds SM226 and
+** SM227 in place of SM214. Neither name nor files are kept. Returns the codes of sm_check();
+** SM_UTF8 also if the name is not UTF-8. */
 sm_code sm_check_files(sm_report *report, const uint8_t *bytes, size_t length, bool has_generated,
-                       const uint8_t *generated, size_t generated_length, const sm_text *files, size_t count,
-                       uint32_t most, sm_error *error);
+                       const uint8_t *generated, size_t generated_length, const uint8_t *name, size_t name_length,
+                       bool has_files, const sm_text *files, size_t count, uint32_t most, sm_error *error);
 
 /* Writes how many findings there are. `invalid` is 0 exactly if the bytes are a valid map.
 ** Counts stop at 2^64 - 1. SM_WRONG_KIND if the handle holds no report; then `counts` is
@@ -1030,8 +1033,8 @@ sm_code sm_report_finding(sm_report *report, uint32_t index, sm_finding *finding
 sm_code sm_report_sections(sm_report *report, uint32_t index, size_t *sections, size_t capacity, size_t *count);
 
 /* The key of the map that a finding is on, for example `mappings` or
-** `sections[1].offset.line`; empty if the bytes are no JSON object. The text is borrowed
-** from `report`. Returns the codes of sm_report_finding(). */
+** `sections[1].offset.line`; empty if it is on no key, as if the bytes are no JSON object.
+** The text is borrowed from `report`. Returns the codes of sm_report_finding(). */
 sm_code sm_report_key(sm_report *report, uint32_t index, sm_text *text);
 
 /* A sentence in English that says how the rule is broken, or what looks wrong, without the

@@ -225,6 +225,26 @@ static void test_suspicious(void)
     sm_close(&report);
 }
 
+/* An index map is looked at as its flat map: the sections of the section start on line 3. */
+static void test_index_map(void)
+{
+    static const struct finding UNUSED = { 211, SM_SUSPICIOUS, SM_PLACE_KEY, 0, 0, "sources[1]", "no token has the source" };
+    static const struct finding PAST = { 203, SM_SUSPICIOUS, SM_PLACE_TOKEN, 3, 0, "mappings",
+                                         "the original line has fewer columns" };
+    static const char MAP[] =
+        "{\"version\":3,\"sections\":["
+        SECTION("0", "{\"version\":3,\"sources\":[\"a\",\"b\"],\"sourcesContent\":[\"x\",\"\"],\"mappings\":\"AAAA\"}") ","
+        SECTION("1", "{\"version\":3,\"sections\":["
+                SECTION("2", "{\"version\":3,\"sources\":[\"a\"],\"mappings\":\"AAAE\"}") "]}") "]}";
+    sm_report report = SM_EMPTY;
+    check_map(&report, MAP, 20);
+    check_counts(&report, 0, 2, 2);
+    check_finding(&report, 0, &PAST);
+    check_finding(&report, 1, &UNUSED);
+    check_sections(&report, 0, 0, 9, 9);
+    sm_close(&report);
+}
+
 /* Four names, each at the start of a line, in a text that has a new first line. */
 #define FOUR_LINES \
     "{\"version\":3,\"sources\":[\"a.js\"],\"names\":[\"one\",\"two\",\"three\",\"four\"]," \
@@ -261,6 +281,46 @@ static void test_generated(void)
     sm_close(&report);
 }
 
+#define NO_SEGMENTS "{\"version\":3,\"sources\":[],\"mappings\":\"\"}"
+
+static const sm_text NO_FILES[1] = { SM_NO_FILE };
+
+static void check_name(sm_report *report, const char *generated, const char *name)
+{
+    sm_error error = { 0 };
+    CHECK_NUMBER(sm_check_files(report, BYTES(NO_SEGMENTS), true, (const uint8_t *)generated, strlen(generated),
+                                (const uint8_t *)name, strlen(name), false, NO_FILES, 0, 20, &error),
+                 SM_OK);
+}
+
+/* The reference of the generated text is to end in the name of the map's file, if there is one. */
+static void test_names(void)
+{
+    static const struct finding OTHER = { 225, SM_SUSPICIOUS, SM_PLACE_KEY, 0, 0, "",
+                                          "the reference of the generated text ends in another file name" };
+    static const char *const RIGHT[][2] = { { "//# sourceMappingURL=maps/a%20b.map?v=1", "a b.map" },
+                                            { "//# sourceMappingURL=data:application/json;base64,e30=", "a.map" },
+                                            { "//# sourceMappingURL=b.map", "" },
+                                            { "x", "a.map" } };
+    sm_report report = SM_EMPTY;
+    sm_error error = { 0 };
+    size_t row;
+    for (row = 0; row < sizeof RIGHT / sizeof RIGHT[0]; row++) {
+        check_name(&report, RIGHT[row][0], RIGHT[row][1]);
+        check_counts(&report, 0, 0, 0);
+    }
+    check_name(&report, "x\n//# sourceMappingURL=b.map", "a.map");
+    check_counts(&report, 0, 1, 1);
+    check_finding(&report, 0, &OTHER);
+    /* bytes that are no text are refused, also where there is no generated text */
+    CHECK_NUMBER(sm_check_files(&report, BYTES(NO_SEGMENTS), false, BYTES("\xff"), BYTES("\xff"), false, NO_FILES, 0,
+                                20, &error),
+                 SM_UTF8);
+    CHECK_NUMBER(error.code, SM_UTF8);
+    check_counts(&report, 0, 1, 1);
+    sm_close(&report);
+}
+
 /* The first of two sources has contents. */
 #define TWO_SOURCES \
     "{\"version\":3,\"sources\":[\"a.js\",\"b.js\"],\"sourcesContent\":[\"ab\"],\"mappings\":\"AAAA,CCAC\"}"
@@ -268,7 +328,9 @@ static void test_generated(void)
 static void check_files(sm_report *report, const sm_text *files, size_t count)
 {
     sm_error error = { 0 };
-    CHECK_NUMBER(sm_check_files(report, BYTES(TWO_SOURCES), false, BYTES("\xff"), files, count, 20, &error), SM_OK);
+    CHECK_NUMBER(sm_check_files(report, BYTES(TWO_SOURCES), false, BYTES("\xff"), NO_TEXT, 0, true, files, count, 20,
+                                &error),
+                 SM_OK);
 }
 
 /* A file is that of the source of its index, and stands for contents that the map lacks. */
@@ -299,7 +361,9 @@ static void test_files(void)
     check_counts(&report, 0, 2, 2);
     check_finding(&report, 0, &PAST);
     check_finding(&report, 1, &OTHER);
-    CHECK_NUMBER(sm_check_files(&report, BYTES(TWO_SOURCES), true, BYTES("\xff"), files, 2, 20, &error), SM_UTF8);
+    CHECK_NUMBER(sm_check_files(&report, BYTES(TWO_SOURCES), true, BYTES("\xff"), NO_TEXT, 0, true, files, 2, 20,
+                                &error),
+                 SM_UTF8);
     check_counts(&report, 0, 2, 2);
     sm_close(&report);
 }
@@ -328,9 +392,11 @@ void test_checks(void)
     test_sections_of();
     test_valid();
     test_suspicious();
+    test_index_map();
     test_shift();
     test_absent();
     test_generated();
+    test_names();
     test_files();
     test_borrowed();
 }

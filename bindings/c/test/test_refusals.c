@@ -221,6 +221,8 @@ static void prepare_odd_split(struct handles *h)
 
 static const sm_text PREFIX = { (const uint8_t *)"root", 4 };
 static const sm_text NO_FILE = SM_NO_FILE;
+/* README_TEXT, and a reference to another map than a.map. */
+#define REFERRING README_TEXT "\n//# sourceMappingURL=b.map"
 /* That of FULL_MAP. */
 static const sm_debug_id SMALL_ID = { { 0, 0, 0, 0, 0, 0, 0, 0, 0, 0, 0, 0, 0, 0, 0, 42 } };
 
@@ -269,7 +271,12 @@ CALL(invalid_split_map, sm_split_map(&h->subject, &h->other, 2, &h->out, error))
 CALL(check_map, sm_check(&h->out, BYTES(INVALID_MAP), false, BYTES("\xff"), 20, error))
 CALL(check_with_text, sm_check(&h->out, BYTES(README_MAP), true, BYTES(README_TEXT), 20, error))
 CALL(check_with_no_text, sm_check(&h->out, BYTES(README_MAP), true, BYTES("\xff"), 20, error))
-CALL(check_with_file, sm_check_files(&h->out, BYTES(README_MAP), false, BYTES("\xff"), &NO_FILE, 1, 20, error))
+CALL(check_with_file,
+     sm_check_files(&h->out, BYTES(README_MAP), false, BYTES("\xff"), BYTES(""), true, &NO_FILE, 1, 20, error))
+CALL(check_with_name,
+     sm_check_files(&h->out, BYTES(README_MAP), true, BYTES(REFERRING), BYTES("a.map"), false, &NO_FILE, 1, 20, error))
+CALL(check_with_no_name,
+     sm_check_files(&h->out, BYTES(README_MAP), false, BYTES(""), BYTES("\xff"), true, &NO_FILE, 1, 20, error))
 
 /* A call that borrows a text, and fails: the text is as it was. */
 #define BORROW(name, expression)                            \
@@ -422,6 +429,9 @@ static const struct refusal_row ROWS[] = {
     { "check with bytes that are no text", prepare_none, check_with_no_text, SM_UTF8, NULL, NULL },
     { "check beside files", prepare_none, check_with_file, SM_OK, NULL,
       "SM227 1 sources[0] 0:0 the source has neither contents nor a file\n" },
+    { "check beside a name", prepare_none, check_with_name, SM_OK, NULL,
+      README_MAP_FINDINGS "SM225 1  0:0 the reference of the generated text ends in another file name\n" },
+    { "check beside a name that is no text", prepare_none, check_with_no_name, SM_UTF8, NULL, NULL },
 };
 
 struct descriptions {

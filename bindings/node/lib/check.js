@@ -27,6 +27,12 @@ function bytesOfText(generated) {
   return Buffer.from(generated);
 }
 
+function bytesOfName(name) {
+  if (name === undefined || name === null) return Buffer.alloc(0);
+  if (typeof name !== 'string') refuse('`name`', 'a string', name);
+  return Buffer.from(name);
+}
+
 function positionOf(place, line, index, lines, columns) {
   switch (place) {
     case SEGMENT: return { line, index };
@@ -47,10 +53,12 @@ function findingOf([code, severity, place, line, index, lines, columns, sections
   };
 }
 
-function check(map, { generated, sources, most = 20 } = {}) {
+function check(map, { generated, name, sources, most = 20 } = {}) {
   if (!Number.isInteger(most) || most < 0 || most > NONE) refuse('`most`', 'a whole number from 0 to 4294967295', most);
   const bytes = bytesOf(map);
-  const [invalid, suspicious, findings] = native.check(bytes, bytesOfText(generated), filesOf(bytes, sources), most);
+  const texts = [bytes, bytesOfText(generated), bytesOfName(name)];
+  const files = filesOf(bytes, sources);
+  const [invalid, suspicious, findings] = native.check(...texts, files !== null, files ?? [], most);
   return { valid: invalid === 0, invalid, suspicious, findings: findings.map(findingOf) };
 }
 

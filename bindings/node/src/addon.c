@@ -884,8 +884,8 @@ static napi_value read_report(napi_env env, sm_report *report) {
     return array;
 }
 
-/* sourceNames(bytes): the sources of the regular map in the bytes, resolved. There are none
-** if the bytes are no such map. */
+/* sourceNames(bytes): the sources of the map in the bytes, resolved, of an index map those of
+** its flat map. There are none if the bytes are no map, or the index map has no flat one. */
 static napi_value source_names(napi_env env, napi_callback_info info) {
     size_t count = 1;
     napi_value argument;
@@ -895,10 +895,17 @@ static napi_value source_names(napi_env env, napi_callback_info info) {
     sm_error error = {0};
     TRY(napi_get_cb_info(env, info, &count, &argument, NULL, NULL));
     TRY(take_bytes(env, argument, &bytes));
-    if (sm_open(&held.map, bytes.at, bytes.length, &error) == SM_OUT_OF_MEMORY) {
+    sm_code code = sm_open(&held.map, bytes.at, bytes.length, &error);
+    if (code == SM_OK && sm_kind(&held.map) == SM_KIND_INDEX) {
+        code = sm_flatten(&held.map, &error);
+    }
+    if (code == SM_OUT_OF_MEMORY) {
+        sm_close(&held.map);
         return throw_error(env, &error);
     }
-    sm_count(&held.map, &counts);
+    if (code == SM_OK) {
+        sm_count(&held.map, &counts);
+    }
     napi_value names = read_texts(env, &held, counts.sources, sm_source);
     sm_close(&held.map);
     return names;
@@ -942,38 +949,35 @@ static sm_text *take_files(napi_env env, napi_value array, uint32_t *count) {
     return files;
 }
 
-/* check(bytes, generated, files, most): what is found in the bytes of a map, as read_report()
-** returns it. `generated` is the bytes of the generated text, `files` an array of those of the
-** files of sources, with null for none. Either may be null itself. */
+/* check(bytes, generated, name, hasFiles, files, most): what is found in the bytes of a map, as
+** read_report() returns it. `generated` is the bytes of the generated text, or null; `name` those
+** of the name of the map's file. `files` is an array of those of the files of sources, with null
+** for none. It counts if `hasFiles` is true. */
 static napi_value check_bytes(napi_env env, napi_callback_info info) {
-    size_t count = 4;
-    napi_value arguments[4];
-    napi_valuetype type, files_type;
-    byte_array bytes, generated = {(const uint8_t *)"", 0};
+    size_t count = 6;
+    napi_value arguments[6];
+    napi_valuetype type;
+    byte_array bytes, name, generated = {(const uint8_t *)"", 0};
+    bool has_files = false;
     uint32_t most = 0, file_count = 0;
     sm_report report = SM_EMPTY;
     sm_error error = {0};
-    sm_code code;
     TRY(napi_get_cb_info(env, info, &count, arguments, NULL, NULL));
     TRY(take_bytes(env, arguments[0], &bytes));
     TRY(napi_typeof(env, arguments[1], &type));
     if (type != napi_null) {
         TRY(take_bytes(env, arguments[1], &generated));
     }
-    TRY(napi_typeof(env, arguments[2], &files_type));
-    TRY(napi_get_value_uint32(env, arguments[3], &most));
-    if (files_type == napi_null) {
-        code = sm_check(&report, bytes.at, bytes.length, type != napi_null, generated.at, generated.length, most,
-                        &error);
-    } else {
-        sm_text *files = take_files(env, arguments[2], &file_count);
-        if (!files) {
-            return NULL;
-        }
-        code = sm_check_files(&report, bytes.at, bytes.length, type != napi_null, generated.at, generated.length, files,
-                              file_count, most, &error);
-        free(files);
+    TRY(take_bytes(env, arguments[2], &name));
+    TRY(napi_get_value_bool(env, arguments[3], &has_files));
+    TRY(napi_get_value_uint32(env, arguments[5], &most));
+    sm_text *files = take_files(env, arguments[4], &file_count);
+    if (!files) {
+        return NULL;
     }
+    sm_code code = sm_check_files(&report, bytes.at, bytes.length, type != napi_null, generated.at, generated.length,
+                                  name.at, name.length, has_files, files, file_count, most, &error);
+    free(files);
     if (code != SM_OK) {
         return throw_error(env, &error);
     }

@@ -94,6 +94,39 @@ test('what looks wrong in a valid map', () => {
   }
 });
 
+test('the name of the file of a map', () => {
+  const rows = [
+    ['b.js.map', 'a.js.map', ['SM225']],
+    ['a.js.map', 'a.js.map', []],
+    ['maps/a.js.map?v=1', 'a.js.map', []],
+    ['a%20b.js.map', 'a b.js.map', []],
+    ['data:application/json;base64,e30=', 'a.js.map', []],
+    ['b.js.map', null, []],
+    ['b.js.map', undefined, []],
+    ['b.js.map', '', []],
+  ];
+  const map = mapOf('', { sources: [] });
+  for (const [reference, name, codes] of rows) {
+    const { findings } = check(map, { generated: `x\n//# sourceMappingURL=${reference}`, name });
+    assert.deepEqual(findings.map(({ code }) => code), codes, reference);
+  }
+  for (const generated of [undefined, 'x']) assert.deepEqual(check(map, { generated, name: 'a.js.map' }).findings, []);
+});
+
+test('the name of the file of a map, without files of sources', () => {
+  const { findings } = check(mapOf('AAAA'), { generated: '//# sourceMappingURL=b.map', name: 'a.map' });
+  assert.deepEqual(findings.map(({ code, key, position, sentence }) => [code, key, position, sentence]), [
+    ['SM214', 'sources[0]', null, 'the map has no contents for the source'],
+    ['SM225', '', null, 'the reference of the generated text ends in another file name'],
+  ]);
+});
+
+test('what looks wrong in an index map', () => {
+  const map = indexOf(mapOf('A', { sources: [] }), mapOf('E', { sources: [] }));
+  const { findings } = check(map, { generated: ['', ...Array(9), 'a'].join('\n') });
+  assert.deepEqual(findings.map(({ code, position }) => [code, position]), [['SM232', { line: 10, column: 2 }]]);
+});
+
 test('a text that has a new first line', () => {
   const map = mapOf('AAAAA;AACAC;AACAC;AACAC', { names: ['one', 'two', 'three', 'four'] });
   const { findings } = check(map, { generated: '/* */\none\ntwo\nthree\nfour\n' });
@@ -117,7 +150,10 @@ test('beside the files of sources', () => {
     [[['lib/a.js', Buffer.of(0xff)]], ['SM227']],
     [[], ['SM227']],
   ];
-  for (const [files, codes] of rows) assert.deepEqual(codesBeside(map, new Map(files)), codes);
+  for (const [files, codes] of rows) {
+    assert.deepEqual(codesBeside(map, new Map(files)), codes);
+    assert.deepEqual(codesBeside(indexOf(map), new Map(files)), codes);
+  }
   for (const none of [undefined, null]) assert.deepEqual(codesBeside(map, none), ['SM214']);
   const other = mapOf('AAAE', { sourcesContent: ['xyz'] });
   assert.deepEqual(codesBeside(other, new Map([['a.js', 'x']])), ['SM226']);
@@ -139,13 +175,14 @@ test('beside a folder of sources', (t) => {
   }
   symlinkSync('loop', path.join(folder, 'loop'));
   assert.throws(() => codesBeside(named('loop'), folder), { code: 'ELOOP' });
-  assert.deepEqual(codesBeside(indexOf(named('loop')), folder), []);
+  assert.throws(() => codesBeside(indexOf(named('loop')), folder), { code: 'ELOOP' });
 });
 
 test('arguments of a wrong type', () => {
   for (const map of [undefined, null, 7]) assert.throws(() => check(map), TypeError);
   for (const most of [-1, 0.5, '3', 2 ** 32]) assert.throws(() => check('{}', { most }), TypeError);
   assert.throws(() => check('{}', { generated: 7 }), TypeError);
+  assert.throws(() => check('{}', { name: 7 }), TypeError);
   for (const sources of [7, {}, new Map([['a.js', 7]])]) assert.throws(() => check(mapOf(''), { sources }), TypeError);
 });
 

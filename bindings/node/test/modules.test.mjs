@@ -88,13 +88,15 @@ const texts: (string | null)[] = [compiled.file, compiled.debugId, compiled.sour
 const answers: Uint32Array = compiled.originalPositionsFor(new Uint32Array(2));
 const position = compiled.originalPositionFor({ line: 1, column: 0 });
 if (position.line !== null) { const line: number = position.line + texts.length + answers.length; }
-const report: Report = check(encodedMap(map), { generated: new Uint8Array(0), most: 3 });
+const report: Report = check(encodedMap(map), { generated: new Uint8Array(0), name: 'a.map', most: 3 });
 const finding: Finding | undefined = check(new Uint8Array(0)).findings[0] ?? report.findings[0];
 if (finding && finding.severity === 'invalid' && finding.position && 'index' in finding.position) { const index: number = finding.position.index; }
 // @ts-expect-error: a report has findings
 check('').length;
 // @ts-expect-error: a number is no map
 check(3);
+// @ts-expect-error: a name is a text
+check('', { name: new Uint8Array(0) });
 // @ts-expect-error: a compiled map finds no token after the position
 compiled.originalPositionFor({ line: 1, column: 0, bias: LEAST_UPPER_BOUND });
 try { new TraceMap('') } catch (error) { if (error instanceof SourceMapError && error.code === 'BAD_JSON') { error.number } }

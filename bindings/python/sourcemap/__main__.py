@@ -32,12 +32,23 @@ def tokens(arguments: argparse.Namespace) -> int:
     return 0
 
 
+def name_of(arguments: argparse.Namespace) -> Optional[str]:
+    """The name of the map's file, None if it has none, or one that is not UTF-8."""
+    path = '' if arguments.map == '-' else arguments.map
+    name: str = os.path.basename(path) if arguments.name is None else arguments.name
+    try:
+        name.encode()
+    except UnicodeEncodeError:
+        return None
+    return name or None
+
+
 def check(arguments: argparse.Namespace) -> int:
     """Prints a line for each finding, as compilers print them, and a line with counts. The status is 1 if the map is not
     valid, or with `--strict` if anything was found."""
     data = sys.stdin.buffer.read() if arguments.map == '-' else Path(arguments.map).read_bytes()
     generated = None if arguments.generated is None else Path(arguments.generated).read_bytes()
-    report = check_bytes(data, generated, sources=arguments.sources, most=arguments.most)
+    report = check_bytes(data, generated, name=name_of(arguments), sources=arguments.sources, most=arguments.most)
     for finding in report.findings:
         print(f'{arguments.map}:{finding}')
     print(f'{report.invalid} invalid, {report.suspicious} suspicious, {len(report.findings)} shown')
@@ -62,6 +73,7 @@ def parser() -> argparse.ArgumentParser:
     word = words.add_parser('check', help='print where a map breaks the standard, and what looks wrong in it')
     word.add_argument('map', help='the map; - is standard input')
     word.add_argument('--generated', metavar='FILE', help='the generated text, which is compared with the map')
+    word.add_argument('--name', help="the name of the map's file, which the text is to refer to, if it is not that of MAP")
     word.add_argument('--sources', metavar='DIR', help='the folder of the files of sources, which are compared too')
     word.add_argument('--most', type=int, default=20, metavar='N', help='how many findings of each code to print (20)')
     word.add_argument('--strict', action='store_true', help='end with status 1 also if something looks wrong')

@@ -52,7 +52,7 @@ class Finding:
     """A place where a map breaks a rule of the standard, or where something looks wrong.
 
     `code` is the one of `docs/CHECK.md`, such as `SM132`. `severity` is `invalid` if a rule is broken, `suspicious` if
-    the map is valid but something looks wrong. `key` is the key of the map; it is empty if the bytes are no JSON object.
+    the map is valid but something looks wrong. `key` is the key of the map; it is empty where there is none.
     `sections` has the indexes of the sections that lead to the map, the outermost first; it is empty for the whole map.
     `position` is None where the key says it all. `sentence` says in English what is wrong.
 
@@ -96,14 +96,11 @@ class Report:
 class _Handle(HandleOwner):
     """The report of the library."""
 
-    def __init__(self, data: Data, generated: Optional[Data], sources: Optional[Sources], most: int) -> None:
+    def __init__(self, data: Data, generated: Optional[Data], name: str, sources: Optional[Sources], most: int) -> None:
         self._begin()
-        texts = (*pointer_to(data), *optional(generated))
-        if sources is None:
-            run(library.check, self._at, *texts, uint32('most', most))
-            return
-        files = files_of(data, sources)
-        run(library.check_files, self._at, *texts, array_of(files), len(files), uint32('most', most))
+        files = [] if sources is None else files_of(data, sources)
+        run(library.check_files, self._at, *pointer_to(data), *optional(generated), *pointer_to(name),
+            sources is not None, array_of(files), len(files), uint32('most', most))
 
     def read(self) -> Report:
         counts = library.ReportCounts()
@@ -135,10 +132,13 @@ def _position(found: library.Finding) -> Optional[Union[SegmentPosition, TokenPo
     return None
 
 
-def check(data: Data, generated: Optional[Data] = None, *, sources: Optional[Sources] = None, most: int = 20) -> Report:
+def check(data: Data, generated: Optional[Data] = None, *, name: Optional[str] = None, sources: Optional[Sources] = None,
+          most: int = 20) -> Report:
     """Checks whether bytes are a valid map by ECMA-426, the standard of source maps, and looks for what looks wrong in a
     valid one, also beside the generated text and the files of its sources, if they are given. The report has at most
     `most` findings of each code; 0 counts as 1.
+
+    `name` is the name of the map's file, without folders: the reference of the generated text is to end in it.
 
     `sources` is the folder of the files, or a mapping that has them by the names of sources, which are resolved against
     the `sourceRoot`. In a folder, a name that begins with `/` or has a part `..` has no file. A file that is missing or
@@ -154,9 +154,12 @@ def check(data: Data, generated: Optional[Data] = None, *, sources: Optional[Sou
     ...     print(finding)
     version: SM105 version is a number, but not 3
     mappings: SM115 there is no mappings
+    >>> data = '{"version":3,"sources":[],"mappings":""}'
+    >>> print(*sourcemap.check(data, '//# sourceMappingURL=b.js.map', name='a.js.map').findings)
+    : SM225 the reference of the generated text ends in another file name
     >>> data = '{"version":3,"sources":["a.js"],"mappings":"AAAE"}'
     >>> print(*sourcemap.check(data, sources={'a.js': 'x'}).findings)
     mappings at 0:0: SM203 the original line has fewer columns
     """
-    with _Handle(data, generated, sources, most) as report:
+    with _Handle(data, generated, name or '', sources, most) as report:
         return report.read()

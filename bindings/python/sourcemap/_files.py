@@ -20,9 +20,11 @@ _MISSING = (errno.ENOENT, errno.EISDIR, errno.ENOTDIR, errno.EINVAL, errno.ENAME
 
 
 def _names(data: Data) -> List[str]:
-    """The resolved names of the sources of a map, by id; none of what is no regular map."""
+    """The resolved names of the sources that a check looks at, by id: of an index map those of its flat map."""
     try:
         with Map.loads(data) as map:
+            if map.kind == 'index':
+                map.flatten()
             return list(map.sources)
     except SourceMapError:
         return []

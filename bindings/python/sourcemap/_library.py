@@ -223,8 +223,8 @@ bundle_module = _call(_short, 'sm_bundle_module', CODE, P, c_size_t, P, P)
 split_open = _call(_long, 'sm_split_open', CODE, P, P, P)
 split_map = _call(_long, 'sm_split_map', CODE, P, P, c_size_t, P, P)
 
-check = _call(_long, 'sm_check', CODE, P, P, c_size_t, c_bool, P, c_size_t, c_uint32, P)
-check_files = _call(_long, 'sm_check_files', CODE, P, P, c_size_t, c_bool, P, c_size_t, P, c_size_t, c_uint32, P)
+check_files = _call(_long, 'sm_check_files', CODE, P, P, c_size_t, c_bool, P, c_size_t, P, c_size_t, c_bool, P, c_size_t,
+                    c_uint32, P)
 report_count = _call(_short, 'sm_report_count', CODE, P, P)
 report_finding = _call(_short, 'sm_report_finding', CODE, P, c_uint32, P)
 report_sections = _call(_short, 'sm_report_sections', CODE, P, c_uint32, P, c_size_t, P)

@@ -69,6 +69,26 @@ class Findings(unittest.TestCase):
         self.assertTrue(sourcemap.check(README, 'let x;').is_valid)
         self.assertTrue(sourcemap.check(README, '').is_valid)
 
+    def test_names(self):
+        rows = [('b.js.map', 'a.js.map', ['SM225']), ('a.js.map', 'a.js.map', []), ('maps/a.js.map?v=1', 'a.js.map', []),
+                ('a%20b.js.map', 'a b.js.map', []), ('data:application/json;base64,e30=', 'a.js.map', []),
+                ('b.js.map', None, []), ('b.js.map', '', [])]
+        for reference, name, codes in rows:
+            with self.subTest(reference, name=name):
+                text = f'x\n//# sourceMappingURL={reference}'
+                report = sourcemap.check(regular('', []), text, name=name)
+                self.assertEqual([each.code for each in report.findings], codes)
+        for text in None, 'x':
+            self.assertEqual(sourcemap.check(regular('', []), text, name='a.js.map').findings, ())
+
+    def test_a_name_without_files(self):
+        report = sourcemap.check(regular('AAAA', ['a']), '//# sourceMappingURL=b.map', name='a.map')
+        self.assertEqual([str(each) for each in report.findings], [
+            'sources[0]: SM214 the map has no contents for the source',
+            ': SM225 the reference of the generated text ends in another file name'])
+        with self.assertRaises(TypeError):
+            sourcemap.check(README, name=7)
+
     def test_suspicious(self):
         rows = [(('K,D', ()), None, 'mappings 0:1: SM221 the segment has a lower column than the one before it'),
                 (('E', ()), 'a', 'mappings at 0:2: SM232 the generated line has fewer columns')]
@@ -143,8 +163,17 @@ class Files(unittest.TestCase):
         with self.assertRaises(OSError):
             codes_beside(self.MISSING, self.folder)
 
-    def test_no_regular_map(self):
-        for data in '', '{}', index(section(0, 0, self.MISSING)):
+    def test_an_index_map(self):
+        data = index(section(0, 0, regular('AAAA', ['b'], sourcesContent=['x'])),
+                     section(1, 0, index(section(1, 0, regular('AAAE', ['a'], sourceRoot='lib')))))
+        finding, = sourcemap.check(data, sources={'lib/a': 'x'}).findings
+        self.assertEqual(str(finding), 'mappings at 2:0: SM203 the original line has fewer columns')
+        self.assertEqual(codes_beside(data, {'lib/a': 'xyz'}), [])
+        self.assertEqual(codes_beside(data, {}), ['SM227'])
+
+    def test_no_map(self):
+        far = index(section(0, 0, self.MISSING), section(4294967295, 0, regular(';A', [])))
+        for data in '', '{}', far:
             self.assertEqual(sourcemap.check(data, sources={}), sourcemap.check(data))
 
     def test_shift(self):
@@ -203,6 +232,21 @@ class Program(unittest.TestCase):
             printed, status, error = run('check', '-', '--sources', folder, data=regular('AAAA', ['a']))
         wanted = '-:sources[0]: SM227 the source has neither contents nor a file\n0 invalid, 1 suspicious, 1 shown\n'
         self.assertEqual((printed, status, error), (wanted, 0, ''))
+
+    def test_name(self):
+        found = '{}:: SM225 the reference of the generated text ends in another file name\n' \
+            '0 invalid, 1 suspicious, 1 shown\n'
+        nothing = '0 invalid, 0 suspicious, 0 shown\n'
+        with tempfile.TemporaryDirectory() as folder:
+            text, same, other = (str(Path(folder, name)) for name in ('a.js', 'a.map', 'b.map'))
+            Path(text).write_text('//# sourceMappingURL=a.map')
+            for path, words, printed in ((same, (), nothing), (other, (), found.format(other)), ('-', (), nothing),
+                                         ('-', ('--name', 'b.map'), found.format('-')),
+                                         (same, ('--name', 'b.map'), found.format(same)),
+                                         (other, ('--name', 'a.map'), nothing)):
+                if path != '-':
+                    Path(path).write_text(regular('', []))
+                self.assertEqual(run('check', path, '--generated', text, *words, data=regular('', [])), (printed, 0, ''))
 
     def test_files_that_cannot_be_read(self):
         with tempfile.TemporaryDirectory() as folder:

@@ -66,7 +66,7 @@ def modules(bundle: Bundle, index: Map) -> List[str]:
     return [module.name + module.text for module in found if module is not None]
 
 def findings(data: bytes, text: str) -> List[int]:
-    report: Report = sourcemap.check(data, text, most=3)
+    report: Report = sourcemap.check(data, text, name='a.map', most=3)
     found: Tuple[Finding, ...] = report.findings
     return [each.position.line for each in found if isinstance(each.position, SegmentPosition)]
 
@@ -92,6 +92,7 @@ sourcemap.CompiledMap(b'').lookup('0', 5)
 sourcemap.CompiledMap.from_bytes('text')
 sourcemap.check(1)
 sourcemap.check(b'', b'', 3)
+sourcemap.check(b'', name=b'a.map')
 '''
 
 

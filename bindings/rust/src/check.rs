@@ -13,6 +13,9 @@ use crate::types::{DecodedMap, SourceMap};
 pub struct CheckOptions<'a> {
     /// The generated text. If it is given, a valid map is compared with it.
     pub generated: Option<&'a str>,
+    /// The name of the map's file, without folders. If it is given, the reference of the generated
+    /// text is to end in it. An empty name is none.
+    pub name: Option<&'a str>,
     /// The bytes of the file of each source, by id. If they are given, a valid map is compared
     /// with them. A source has no file if its item is `None` or not UTF-8, or if there is no such
     /// item. [`source_files`] reads them from a folder.
@@ -22,10 +25,11 @@ pub struct CheckOptions<'a> {
 }
 
 impl Default for CheckOptions<'_> {
-    /// No generated text, no files, and 20 findings of each code.
+    /// No generated text, no name, no files, and 20 findings of each code.
     fn default() -> Self {
         CheckOptions {
             generated: None,
+            name: None,
             files: None,
             most: 20,
         }
@@ -155,15 +159,26 @@ pub fn check(bytes: &[u8], options: &CheckOptions<'_>) -> Result<Report> {
 
 /// Reads the files of the sources of a map, for [`CheckOptions::files`]. A source has the file
 /// that its name, resolved against `sourceRoot`, names below the folder, or `None` if there is no
-/// such file. A name that begins with `/` or has a part `..` has none. There are no files if the
-/// bytes are no regular map. Any other error of reading a file is returned.
+/// such file. A name that begins with `/` or has a part `..` has none. The sources of an index map
+/// are those of its flat map. There are no files if the bytes are no map, or an index map that
+/// cannot be flattened. Any other error of reading a file is returned.
 pub fn source_files(bytes: &[u8], folder: impl AsRef<Path>) -> io::Result<Vec<Option<Vec<u8>>>> {
     let folder = folder.as_ref();
     match decode_slice(bytes) {
         Ok(DecodedMap::Regular(map)) => files_of(&map, folder),
         Ok(DecodedMap::Hermes(map)) => files_of(&map, folder),
-        Err(Error::OutOfMemory) => Err(io::ErrorKind::OutOfMemory.into()),
-        Ok(DecodedMap::Index(_)) | Err(_) => Ok(Vec::new()),
+        Ok(DecodedMap::Index(map)) => match map.flatten() {
+            Ok(flat) => files_of(&flat, folder),
+            Err(error) => no_files_after(&error),
+        },
+        Err(error) => no_files_after(&error),
+    }
+}
+
+fn no_files_after(error: &Error) -> io::Result<Vec<Option<Vec<u8>>>> {
+    match error {
+        Error::OutOfMemory => Err(io::ErrorKind::OutOfMemory.into()),
+        _ => Ok(Vec::new()),
     }
 }
 

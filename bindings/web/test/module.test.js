@@ -200,6 +200,48 @@ test('opens all kinds of inputs', async (t) => {
   for (const input of [undefined, null, 7, {}, [1]]) await assert.rejects(CompiledMap.load(input), TypeError);
 });
 
+test('takes a buffer over', async () => {
+  const padded = new Uint8Array(ALL.length + 9);
+  padded.set(ALL, 5);
+  const inputs = [ALL.slice(), ALL.slice().buffer, padded.subarray(5, 5 + ALL.length), new DataView(ALL.slice().buffer)];
+  const places = Array.from({ length: 24 }, (_, i) => ({ line: 1 + (i >> 3), column: i % 8 }));
+  const copied = await CompiledMap.load(ALL);
+  const answers = places.map((place) => copied.originalPositionFor(place));
+  assert.ok(answers.some(({ source }) => source === 'src/a.js'));
+  copied.close();
+  for (const input of inputs) {
+    const map = await CompiledMap.load(input, { transfer: true });
+    assert.equal((input.buffer ?? input).byteLength, 0);
+    assert.deepEqual(places.map((place) => map.originalPositionFor(place)), answers);
+    assert.equal(map.file, 'out.js');
+    map.verify();
+    map.close();
+    assert.throws(() => map.file, { code: 'CLOSED' });
+  }
+  const sizes = [0, 100000, 300000];
+  const maps = [];
+  for (const size of sizes) maps.push(await CompiledMap.load(named(`source ${size}`, size), { transfer: true }));
+  (await CompiledMap.load(ALL.slice(), { transfer: true })).close();
+  for (const [i, size] of sizes.entries()) {
+    assert.equal(maps[i].originalPositionFor({ line: 1, column: 0 }).source, `source ${size}`);
+    assert.equal(maps[i].sourceContent(0), 'x'.repeat(size));
+    maps[i].close();
+  }
+});
+
+test('a buffer that is refused stays as it was', async () => {
+  const wrong = ALL.slice();
+  wrong[0] = 0;
+  await refuses('COMPILED_MAGIC', () => CompiledMap.load(wrong, { transfer: true }));
+  assert.deepEqual(wrong.subarray(1), ALL.subarray(1));
+  await refuses('COMPILED_TRUNCATED', () => CompiledMap.load(ALL.slice(0, -1).buffer, { transfer: true }));
+  await refuses('COMPILED_TRUNCATED', () => CompiledMap.load(new ArrayBuffer(0), { transfer: true }));
+  const shared = new SharedArrayBuffer(ALL.length);
+  for (const input of [shared, new Uint8Array(shared), new Blob([ALL]), new Response(ALL), 'all.smc', null, undefined, 7]) {
+    await assert.rejects(CompiledMap.load(input, { transfer: true }), TypeError);
+  }
+});
+
 /** A stream of bytes in pieces of this length. Between two of them, other streams go on. */
 function inPieces(bytes, length, error = null) {
   let at = 0;
@@ -488,10 +530,10 @@ test('the module is taken from bytes, as a module, or from a URL', () => {
   }
 });
 
-test('the module has no imports, one memory, and at most 40 kB', () => {
+test('the module has no imports, one memory, and at most 41 kB', () => {
   const bytes = readFileSync(wasm);
   const module = new WebAssembly.Module(bytes);
-  assert.ok(bytes.length <= 40000, `${bytes.length} bytes`);
+  assert.ok(bytes.length <= 41000, `${bytes.length} bytes`);
   assert.deepEqual(WebAssembly.Module.imports(module), []);
   assert.deepEqual(WebAssembly.Module.exports(module).filter(({ kind }) => kind === 'memory').length, 1);
 });

@@ -66,6 +66,17 @@ async function answerOnce(input) {
   map.close();
 }
 
+/** The time until a map in a buffer that is given up is open, or has answered. */
+async function afterTransfer(bytes, answers) {
+  const { buffer } = bytes.slice();
+  const begun = performance.now();
+  const map = await CompiledMap.load(buffer, { transfer: true });
+  if (answers) map.originalPositionFor({ line: 1, column: 1000 });
+  const taken = performance.now() - begun;
+  map.close();
+  return taken;
+}
+
 /** The time from the end of a stream of the bytes until a map that is loaded from it has answered. */
 async function afterStream(bytes) {
   let [at, ended] = [0, 0];
@@ -94,6 +105,8 @@ export async function speed(path) {
   const opening = await compared({
     'load bytes, one answer': elapsed(() => answerOnce(bytes)),
     'of which the copy': elapsed(() => room.set(bytes)),
+    'open a buffer that is given up': () => afterTransfer(bytes, false),
+    'the same, one answer': () => afterTransfer(bytes, true),
     'load a stream, one answer, from its end': () => afterStream(bytes),
     'new TraceMap of a text': elapsed(() => new peer.TraceMap(text)),
     'new TraceMap of bytes': elapsed(() => new peer.TraceMap(utf8.decode(json))),

@@ -1,17 +1,18 @@
 //! Checks of bytes, and their reports.
-ghost use Rattle.std.specs.Prelude.{◌≡◌, None, Some, map as list_map, option_map};
+ghost use Rattle.std.specs.Prelude.{◌≡◌, MatchResult, None, Some, map as list_map, option_map};
 ghost use Rattle.std.specs.Borrow.{sem};
 ghost use Rattle.std.specs.Option.{option_copied};
-ghost use Rattle.sourcemap_c_check.specs.Files.{file_texts};
+ghost use Rattle.sourcemap_c_check.specs.Files.{files_if};
 ghost use Rattle.sourcemap_c_handles.specs.Handles.{EndsAsBefore, held_in};
-ghost use Rattle.sourcemap_c.specs.Checks.{HoldsReport, finding_at, key_at, numbers_at, sections_at, sentence_at, written};
-ghost use Rattle.sourcemap_c.specs.Codes.{Answers, Does, IsNoTextIf, ReturnsValue, text_if};
+ghost use Rattle.sourcemap_c.specs.Checks.{HoldsReport, finding_at, key_at, name_in, numbers_at, sections_at, sentence_at, written};
+ghost use Rattle.sourcemap_c.specs.Codes.{Answers, Does, IsNoText, IsNoTextIf, OfLibrary, OrNoText, ReturnsValue, text_if};
 ghost use Rattle.sourcemap_c.specs.Kinds.{report_in};
 
-use crate::codes::{ABSENT, OK, WRONG_KIND, put_text, text_if};
+use crate::codes::{ABSENT, OK, WRONG_KIND, put_text, text_if, text_in};
 use crate::segments::overwrite;
+use sourcemap::Result;
 use sourcemap_c_check::checks::report_on;
-use sourcemap_c_check::files::file_texts;
+use sourcemap_c_check::files::files_if;
 use sourcemap_c_handles::errors::{ErrorReport, Outcome, finish};
 use sourcemap_c_handles::report::{CheckReport, FindingNumbers, ReportCounts, ReportFinding};
 use sourcemap_c_handles::{Handle, Held};
@@ -42,19 +43,29 @@ pub extern "C" fn sm_check(
     error: &mut ErrorReport,
 ) -> u32
     ensures { Answers result error.old error.new
-        (HoldsReport most bytes.now (text_if has_generated generated.now) None
+        (HoldsReport most bytes.now (text_if has_generated generated.now) None None
         (report_in (held_in report.new)))
         (IsNoTextIf has_generated generated.now) (held_in report.new ≡ held_in report.old) }
 {
     finish(
         alloc,
-        fill(alloc, report, bytes, has_generated, generated, None, most),
+        fill(
+            alloc,
+            report,
+            bytes,
+            has_generated,
+            generated,
+            None,
+            None,
+            most,
+        ),
         error,
     )
 }
 
-/// As `sm_check`, also beside the files of sources. The file of the source with an id is that of this
-/// index; a source has none where it is not UTF-8, or where the list ends.
+/// As `sm_check`, also beside the name of the map's file, if it has bytes, and the files of sources, if
+/// `has_files` is true. The file of the source with an id is that of this index; a source has none where
+/// it is not UTF-8, or where the list ends. The error is `Utf8` also if the name is not UTF-8.
 #[unsafe(no_mangle)]
 pub extern "C" fn sm_check_files(
     alloc: Global,
@@ -62,21 +73,43 @@ pub extern "C" fn sm_check_files(
     bytes: &[u8],
     has_generated: bool,
     generated: &[u8],
+    name: &[u8],
+    has_files: bool,
     files: &[&[u8]],
     most: u32,
     error: &mut ErrorReport,
 ) -> u32
-    ensures { let texts = file_texts (list_map (λ file. file.now) files.now) in
+    ensures { let texts = files_if has_files (list_map (λ file. file.now) files.now) in
         Answers result error.old error.new
-        (HoldsReport most bytes.now (text_if has_generated generated.now) (Some texts)
-        (report_in (held_in report.new)))
-        (IsNoTextIf has_generated generated.now) (held_in report.new ≡ held_in report.old) }
+        (HoldsReport most bytes.now (text_if has_generated generated.now) (name_in name.now)
+        texts (report_in (held_in report.new)))
+        (OrNoText has_generated generated.now (OfLibrary (IsNoText name.now))) (held_in report.new ≡ held_in report.old) }
 {
     finish(
         alloc,
-        fill_beside(alloc, report, bytes, has_generated, generated, files, most),
+        fill_beside(
+            alloc,
+            report,
+            bytes,
+            has_generated,
+            generated,
+            name,
+            has_files,
+            files,
+            most,
+        ),
         error,
     )
+}
+
+// The name of the map's file: none if there are no bytes.
+fn name_in(bytes: &[u8]) -> Result<Option<&str>>
+    ensures { MatchResult result (λ name. option_copied name ≡ name_in bytes.now) (IsNoText bytes.now) }
+{
+    if bytes.is_empty() {
+        return Ok(None);
+    }
+    Ok(Some(text_in(bytes)?))
 }
 
 fn fill_beside(
@@ -85,18 +118,29 @@ fn fill_beside(
     bytes: &[u8],
     has_generated: bool,
     generated: &[u8],
+    name: &[u8],
+    has_files: bool,
     files: &[&[u8]],
     most: u32,
 ) -> Outcome<()>
-    ensures { let texts = file_texts (list_map (λ file. file.now) files.now) in
+    ensures { let texts = files_if has_files (list_map (λ file. file.now) files.now) in
         Does result
-        (HoldsReport most bytes.now (text_if has_generated generated.now) (Some texts)
-        (report_in (held_in report.new)))
-        (IsNoTextIf has_generated generated.now) (held_in report.new ≡ held_in report.old) }
+        (HoldsReport most bytes.now (text_if has_generated generated.now) (name_in name.now)
+        texts (report_in (held_in report.new)))
+        (OrNoText has_generated generated.now (OfLibrary (IsNoText name.now))) (held_in report.new ≡ held_in report.old) }
 {
-    let texts = file_texts(alloc, files)?;
-    let files = Some(texts.as_slice());
-    fill(alloc, report, bytes, has_generated, generated, files, most)
+    let name = name_in(name)?;
+    let texts = files_if(alloc, has_files, files)?;
+    fill(
+        alloc,
+        report,
+        bytes,
+        has_generated,
+        generated,
+        name,
+        texts.as_deref(),
+        most,
+    )
 }
 
 fn fill(
@@ -105,16 +149,17 @@ fn fill(
     bytes: &[u8],
     has_generated: bool,
     generated: &[u8],
+    name: Option<&str>,
     files: Option<&[Option<SourceView>]>,
     most: u32,
 ) -> Outcome<()>
     ensures { Does result
         (HoldsReport most bytes.now (text_if has_generated generated.now)
-        (option_copied files.entry) (report_in (held_in report.new)))
+        (option_copied name.entry) (option_copied files.entry) (report_in (held_in report.new)))
         (IsNoTextIf has_generated generated.now) (held_in report.new ≡ held_in report.old) }
 {
     let text = text_if(has_generated, generated)?;
-    let made = report_on(alloc, bytes, text, files, most)?;
+    let made = report_on(alloc, bytes, text, name, files, most)?;
     report.fill(alloc, Held::Report(made))?;
     Ok(())
 }

@@ -66,11 +66,11 @@ pub record IsReportOf (found : Findings) (report : CheckReport) : Type 0 where
   pub suspicious : report.counts.suspicious ≡ found.counts.suspicious
   pub kept : report.counts.findings ≡ length found.entries.items
 
--- the report on these bytes beside a generated text and the files of sources, if they are given: the first `most` findings
--- of each code, and counts of all. The bytes are a valid map exactly if none is invalid
-pub record IsReportOn (most : ℕ) (bytes : List ℕ) (generated : Option (List ℕ)) (files : Files) (report : CheckReport)
+-- the report on these bytes beside a generated text, the name of the map's file and the files of sources, if they are
+-- given: the first `most` findings of each code, and counts of all. The bytes are a valid map exactly if none is invalid
+pub record IsReportOn (most : ℕ) (bytes : List ℕ) (generated name : Option (List ℕ)) (files : Files) (report : CheckReport)
     : Type 0 where
   pub found : Findings
-  pub shows : Shows most bytes generated files found
+  pub shows : Shows most bytes generated name files found
   pub reported : IsReportOf found report
   pub valid : (report.counts.invalid ≡ 0) ↔ IsValid bytes

@@ -133,39 +133,42 @@ fn report_beside(
     alloc: Global,
     bytes: &[u8],
     generated: Option<&SourceView>,
+    name: Option<&str>,
     files: Option<&[Option<SourceView>]>,
     most: usize,
 ) -> Result<CheckReport>
     requires { 0 < most }
     ensures { MatchResult result (IsReportOn most bytes.now (option_copied generated.entry)
-        (option_copied files.entry)) (λ e. e ≡ OutOfMemory) }
+        (option_copied name.entry) (option_copied files.entry)) (λ e. e ≡ OutOfMemory) }
 {
     validity_is_decided(); // prover: a report without findings is that of a valid map
-    let found = check_findings(alloc, bytes, generated, files, most)?;
+    let found = check_findings(alloc, bytes, generated, name, files, most)?;
     let report = report_of(alloc, &found)?; // prover: bound before it is returned
     Ok(report)
 }
 
 /// Checks whether bytes are a valid map by ECMA-426, and looks in a valid map for what looks wrong,
-/// also beside a generated text and the files of its sources, if they are given. Of files there is
-/// one for each source. The report has at most `most` findings of each code; 0 counts as 1. The map
-/// is valid exactly if no finding is invalid. The only error is `OutOfMemory`.
+/// also beside a generated text and the files of its sources, if they are given. `name` is that of
+/// the map's file, if it is known. Of files there is one for each source. The report has at most
+/// `most` findings of each code; 0 counts as 1. The map is valid exactly if no finding is invalid.
+/// The only error is `OutOfMemory`.
 pub fn report_on(
     alloc: Global,
     bytes: &[u8],
     generated: Option<&str>,
+    name: Option<&str>,
     files: Option<&[Option<SourceView>]>,
     most: u32,
 ) -> Result<CheckReport>
     ensures { MatchResult result (IsReportOn (max most 1) bytes.now (option_copied generated.entry)
-        (option_copied files.entry)) (λ e. e ≡ OutOfMemory) }
+        (option_copied name.entry) (option_copied files.entry)) (λ e. e ≡ OutOfMemory) }
 {
     let most = most.max(1) as usize;
     match generated {
         Some(text) => {
             let view = SourceView::new(alloc, text)?;
-            report_beside(alloc, bytes, Some(&view), files, most)
+            report_beside(alloc, bytes, Some(&view), name, files, most)
         }
-        None => report_beside(alloc, bytes, None, files, most),
+        None => report_beside(alloc, bytes, None, name, files, most),
     }
 }

@@ -2,8 +2,7 @@
 use Rattle.std.proofs.Common.{◌≡◌, ◌≢◌, ◌≤◌, ◌<◌, ◌+◌, ◌∙◌, ℕ, zero, suc, List, [], ◌∷◌, Option, Some, None, IfSome, MatchOption, option_map, ap, arith, get_or, length, refl, slice_get, slice_set, subst, sym, inl, inr}
 use Rattle.std.proofs.lemmas.Bool.{cases_eq}
 use Rattle.std.proofs.lemmas.Option.{slice_get-get_or}
-use Rattle.sourcemap_compiled.specs.Blocks.{compiled_token}
-use Rattle.sourcemap_compiled.specs.Lookup.{IsInOrder, IsNextTo, StartsAfter, lookup}
+use Rattle.sourcemap_compiled.specs.Lookup.{IsInOrder, IsNextTo, StartsAfter, answer_by, lookup}
 use Rattle.sourcemap_compiled.specs.Numbers.{position_number}
 use Rattle.sourcemap_compiled.specs.Stored.{token_value}
 use Rattle.sourcemap_compiled.specs.declared.token.CompiledToken.{CompiledToken}
@@ -13,13 +12,13 @@ use Rattle.sourcemap_c_compiled.specs.Lookups.{AreAnswered, IsAnswer, IsAnswerTo
 
 pub one_found : (bytes : List ℕ) (p : ℕ × ℕ) (token : CompiledToken)
     → (IsInOrder bytes → Some (token_value token) ≡ lookup bytes p)
-    → token.raw ≡ compiled_token bytes token.index → IsNextTo bytes (position_number p) token.index
+    → token_value token ≡ answer_by bytes p token.index → IsNextTo bytes (position_number p) token.index
     → IsFound bytes p (Some (token_value token))
 one_found bytes p token closest own next = record { closest = closest; near = (own, next) }
 
 pub is_found : (bytes : List ℕ) (p : ℕ × ℕ) (token : Option CompiledToken)
     → (IsInOrder bytes → option_map token_value token ≡ lookup bytes p)
-    → IfSome token (λ t. t.raw ≡ compiled_token bytes t.index)
+    → IfSome token (λ t. token_value t ≡ answer_by bytes p t.index)
     → MatchOption token (StartsAfter bytes (position_number p)) (λ t. IsNextTo bytes (position_number p) t.index)
     → IsFound bytes p (option_map token_value token)
 is_found bytes p None closest own next = record { closest = closest; near = next }

@@ -1,7 +1,7 @@
 -- What lookups in a compiled map find and write.
 use Rattle.std.specs.Prelude.{◌≡◌, ◌<◌, ℕ, List, true, Option, Some, None, option_map, Result, Ok, slice_get}
-use Rattle.sourcemap_compiled.specs.Blocks.{compiled_token}
-use Rattle.sourcemap_compiled.specs.Lookup.{CompiledTokenValue, IsInOrder, IsNextTo, StartsAfter, lookup, says}
+use Rattle.sourcemap_compiled.specs.Lookup.{CompiledTokenValue, IsInOrder, IsNextTo, StartsAfter, answer_by, lookup}
+use Rattle.sourcemap_compiled.specs.Lookup.{says}
 use Rattle.sourcemap_compiled.specs.Numbers.{position_number}
 use Rattle.sourcemap_compiled.specs.declared.errors.CompiledMapError.{CompiledMapError}
 use Rattle.sourcemap_c_handles.specs.Layout.{found_in, map_token}
@@ -9,11 +9,11 @@ use Rattle.sourcemap_c_handles.specs.declared.layout.Found.{Found}
 use Rattle.sourcemap_c_handles.specs.declared.layout.Position.{Position}
 use Rattle.sourcemap_c_compiled.specs.Codes.{ReturnsOption, ReturnsText}
 
--- a token next to a position, with the fields that it has in the file; none if the first token is after the position
+-- a token next to a position, as the file has it; none if the first token is after the position
 abbrev pub IsNear : List ℕ → ℕ × ℕ → Option CompiledTokenValue → Type 0
 IsNear bytes p None = StartsAfter bytes (position_number p)
 IsNear bytes p (Some token) =
-    (token.raw ≡ compiled_token bytes token.index) × IsNextTo bytes (position_number p) token.index
+    (token ≡ answer_by bytes p token.index) × IsNextTo bytes (position_number p) token.index
 
 -- what a lookup finds: the closest token if the file is in order; in any file a token next to the position
 pub record IsFound (bytes : List ℕ) (p : ℕ × ℕ) (token : Option CompiledTokenValue) : Type 0 where

@@ -27,19 +27,19 @@ nil_if_none : (all : List Finding) → has_none all ≡ true → all ≡ []
 nil_if_none [] is = refl
 nil_if_none (finding ∷ findings) is = absurd cc
 
-module _ (most : ℕ) (all : List Finding) (bytes : List ℕ) (generated : Option (List ℕ)) (files : Files)
+module _ (most : ℕ) (all : List Finding) (bytes : List ℕ) (generated name : Option (List ℕ)) (files : Files)
     (found : Suspicious) (decided : (all ≡ []) ↔ (IsValid bytes)) where
   none : (count : ℕ) → nat_lt 0 count ≡ false → count ≡ 0
   none count is = let least = ltb-false 0 count is in omega arith
 
-  by_count : IsValid bytes → AreShown most true bytes generated files found → (b : Bool)
-      → nat_lt 0 (count_of found) ≡ b → HasVerdict most (verdict_of true (count_of found)) bytes generated files
+  by_count : IsValid bytes → AreShown most true bytes generated name files found → (b : Bool)
+      → nat_lt 0 (count_of found) ≡ b → HasVerdict most (verdict_of true (count_of found)) bytes generated name files
   by_count valid shown true e = rw e (valid, (found, shown, ltb-true 0 (count_of found) e))
   by_count valid shown false e = rw e (valid, (found, shown, none (count_of found) e))
 
   pub verdict_holds : (is_valid : Bool) → is_valid ≡ has_none all
-      → AreShown most is_valid bytes generated files found
-      → HasVerdict most (verdict_of is_valid (count_of found)) bytes generated files
+      → AreShown most is_valid bytes generated name files found
+      → HasVerdict most (verdict_of is_valid (count_of found)) bytes generated name files
   verdict_holds false is shown = λ valid. let no : false ≡ true = is ∙ ap has_none (decided.1 valid) in cc
   verdict_holds true is shown =
       by_count (decided.0 (nil_if_none all (sym is))) shown (nat_lt 0 (count_of found)) refl

@@ -11,7 +11,7 @@ use Rattle.sourcemap_check_suspicious.specs.declared.shifted.Shifted.TheVariants
 use Rattle.sourcemap_check_suspicious.specs.declared.suspects.Suspect.{Suspect}
 use Rattle.sourcemap_check_suspicious.specs.declared.suspects.Suspicion.{Suspicion}
 use Rattle.sourcemap_check_suspicious.specs.declared.suspects.Suspicion.TheVariants.{Token as TokenSuspicion, Item}
-use Rattle.sourcemap_check_suspicious.specs.declared.suspects.Suspicion.TheVariants.{SegmentBack, Ranges, OtherDebugId, Contents}
+use Rattle.sourcemap_check_suspicious.specs.declared.suspects.Suspicion.TheVariants.{SegmentBack, Ranges, OtherDebugId, OtherReference, Contents}
 use Rattle.sourcemap_check_suspicious.specs.declared.suspects.Suspicion.TheVariants.{Generated as GeneratedSuspicion}
 use Rattle.sourcemap_check_suspicious.specs.declared.suspects.Suspicious.{Suspicious}
 use Rattle.sourcemap_check_print.specs.Suspicions.{shift_sentence, suspicion_sentence}
@@ -52,6 +52,7 @@ suspicion_position SegmentBack line index = Segment line index
 suspicion_position (Item doubt) line index = Nowhere
 suspicion_position (Ranges doubt) line index = Nowhere
 suspicion_position OtherDebugId line index = Nowhere
+suspicion_position OtherReference line index = Nowhere
 suspicion_position (Contents doubt) line index = Nowhere
 
 abbrev pub shift_position : Shifted → Position

@@ -21,22 +21,22 @@ abbrev pub count_of : Suspicious → ℕ
 count_of found = min (found.places.count + length found.shifts.items) 18446744073709551615
 
 -- what looks wrong is shown of a valid map alone
-abbrev pub AreShown : (most : ℕ) → (is_valid : Bool) → (bytes : List ℕ) → (generated : Option (List ℕ)) → Files → Suspicious → Type 0
-AreShown most true bytes generated files found = LooksWrongOf most bytes generated files found
-AreShown most false bytes generated files found = HasNone found
+abbrev pub AreShown : (most : ℕ) → (is_valid : Bool) → (bytes : List ℕ) → (generated name : Option (List ℕ)) → Files → Suspicious → Type 0
+AreShown most true bytes generated name files found = LooksWrongOf most bytes generated name files found
+AreShown most false bytes generated name files found = HasNone found
 
 abbrev pub has_none : List Finding → Bool
 has_none [] = true
 has_none (finding ∷ findings) = false
 
 -- the findings on these bytes: of each code the first `most`; the counts are of all
-pub record Shows (most : ℕ) (bytes : List ℕ) (generated : Option (List ℕ)) (files : Files) (shown : Findings) : Type 0 where
+pub record Shows (most : ℕ) (bytes : List ℕ) (generated name : Option (List ℕ)) (files : Files) (shown : Findings) : Type 0 where
   pub all : List Finding
   pub report : Report
   pub found : Suspicious
   pub findings : AreFindings bytes all
   pub reports : Reports most all report
-  pub looks_wrong : AreShown most (has_none all) bytes generated files found
+  pub looks_wrong : AreShown most (has_none all) bytes generated name files found
   pub places : ArePlaces bytes shown.maps.items
   pub entries_are : shown.entries.items ≡ entries report.findings.items found
   pub invalid : shown.counts.invalid ≡ total report
@@ -47,12 +47,12 @@ verdict_of false count = Invalid
 verdict_of true count = if nat_lt 0 count then Doubtful else Right
 
 -- what looks wrong in these bytes is as many as `Has` says
-abbrev pub HasCount : (most : ℕ) → (bytes : List ℕ) → (generated : Option (List ℕ)) → Files → (Has : ℕ → Type 0) → Type 0
-HasCount most bytes generated files Has =
-    (found : Suspicious) × LooksWrongOf most bytes generated files found × Has (count_of found)
+abbrev pub HasCount : (most : ℕ) → (bytes : List ℕ) → (generated name : Option (List ℕ)) → Files → (Has : ℕ → Type 0) → Type 0
+HasCount most bytes generated name files Has =
+    (found : Suspicious) × LooksWrongOf most bytes generated name files found × Has (count_of found)
 
 -- whether the bytes are a valid map, and whether something looks wrong in it
-abbrev pub HasVerdict : (most : ℕ) → Verdict → (bytes : List ℕ) → (generated : Option (List ℕ)) → Files → Type 0
-HasVerdict most Invalid bytes generated files = ¬ IsValid bytes
-HasVerdict most Doubtful bytes generated files = IsValid bytes × HasCount most bytes generated files (λ count. 0 < count)
-HasVerdict most Right bytes generated files = IsValid bytes × HasCount most bytes generated files (λ count. count ≡ 0)
+abbrev pub HasVerdict : (most : ℕ) → Verdict → (bytes : List ℕ) → (generated name : Option (List ℕ)) → Files → Type 0
+HasVerdict most Invalid bytes generated name files = ¬ IsValid bytes
+HasVerdict most Doubtful bytes generated name files = IsValid bytes × HasCount most bytes generated name files (λ count. 0 < count)
+HasVerdict most Right bytes generated name files = IsValid bytes × HasCount most bytes generated name files (λ count. count ≡ 0)

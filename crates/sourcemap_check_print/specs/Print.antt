@@ -14,8 +14,8 @@ report_text Lines found = lines_text found.maps.items found.entries.items found.
 report_text Json found = json_text found.maps.items found.entries.items found.counts
 
 -- the text is the report on these bytes: of their findings, `MOST` are shown of each code, and all are counted
-pub record IsReportOf (form : Form) (bytes : List ℕ) (generated : Option (List ℕ)) (files : Files) (text : List ℕ)
+pub record IsReportOf (form : Form) (bytes : List ℕ) (generated name : Option (List ℕ)) (files : Files) (text : List ℕ)
     : Type 0 where
   pub found : Findings
-  pub shows : Shows MOST bytes generated files found
+  pub shows : Shows MOST bytes generated name files found
   pub printed : text ≡ report_text form found

@@ -1,5 +1,5 @@
 -- The key and the sentence of what looks wrong.
-use Rattle.std.specs.Prelude.{ℕ, List, ◌++◌, codes}
+use Rattle.std.specs.Prelude.{ℕ, List, [], ◌++◌, codes}
 use Rattle.std.specs.Fmt.{decimal}
 use Rattle.sourcemap_check_lists.specs.declared.contents.ContentsDoubt.{ContentsDoubt}
 use Rattle.sourcemap_check_lists.specs.declared.contents.ContentsDoubt.TheVariants.{OtherContents, NoContents}
@@ -20,11 +20,11 @@ use Rattle.sourcemap_check_suspicious.specs.declared.shifted.Shifted.TheVariants
 use Rattle.sourcemap_check_suspicious.specs.declared.suspects.Suspect.{Suspect}
 use Rattle.sourcemap_check_suspicious.specs.declared.suspects.Suspicion.{Suspicion}
 use Rattle.sourcemap_check_suspicious.specs.declared.suspects.Suspicion.TheVariants.{Token, Item, SegmentBack, Ranges}
-use Rattle.sourcemap_check_suspicious.specs.declared.suspects.Suspicion.TheVariants.{OtherDebugId, Contents, Generated}
+use Rattle.sourcemap_check_suspicious.specs.declared.suspects.Suspicion.TheVariants.{OtherDebugId, OtherReference, Contents, Generated}
 
 abbrev pub token_sentence : Doubt → List ℕ
 token_sentence TwoOriginals = codes "the token before is at the same position, with another original"
-token_sentence PastSource = codes "the contents of the source have no such line"
+token_sentence PastSource = codes "the source has no such line"
 token_sentence PastLine = codes "the original line has fewer columns"
 token_sentence WithinPair = codes "the original column is in the middle of a surrogate pair"
 token_sentence OtherName = codes "the name does not stand at the original position"
@@ -56,12 +56,13 @@ suspicion_sentence (Item doubt) = item_sentence doubt
 suspicion_sentence SegmentBack = codes "the segment has a lower column than the one before it"
 suspicion_sentence (Ranges doubt) = range_sentence doubt
 suspicion_sentence OtherDebugId = codes "the generated text names another debug id"
+suspicion_sentence OtherReference = codes "the reference of the generated text ends in another file name"
 suspicion_sentence (Contents doubt) = contents_sentence doubt
 suspicion_sentence (Generated doubt) = generated_sentence doubt
 
 -- which positions are off
 abbrev pub shift_sentence : Shifted → List ℕ
-shift_sentence (Original shift) = codes "names stand in the contents of sources after this shift"
+shift_sentence (Original shift) = codes "names stand in the sources after this shift"
 shift_sentence (GeneratedShift shift) = codes "words stand in the generated text after this shift"
 
 -- a key and an index in it
@@ -75,13 +76,14 @@ item_key EqualSource index = indexed_key (codes "sources") index
 item_key MissingContents index = indexed_key (codes "sources") index
 item_key RootWithoutEffect index = codes "sourceRoot"
 
--- the key that looks wrong; the index is that of an item
+-- the key that looks wrong; the index is that of an item. A reference is on no key of the map
 abbrev pub suspicion_key : Suspicion → (index : ℕ) → List ℕ
 suspicion_key (Token doubt) index = codes "mappings"
 suspicion_key (Item doubt) index = item_key doubt index
 suspicion_key SegmentBack index = codes "mappings"
 suspicion_key (Ranges doubt) index = codes "rangeMappings"
 suspicion_key OtherDebugId index = codes "debugId"
+suspicion_key OtherReference index = []
 suspicion_key (Contents doubt) index = indexed_key (codes "sources") index
 suspicion_key (Generated doubt) index = codes "mappings"
 

@@ -70,18 +70,19 @@ fn suspicious_if_valid(
     alloc: Global,
     bytes: &[u8],
     generated: Option<&SourceView>,
+    name: Option<&str>,
     files: Option<&[Option<SourceView>]>,
     most: usize,
     is_valid: bool,
 ) -> Result<Suspicious>
     ensures shown { IfOk result (AreShown most is_valid bytes.now
-        (option_copied generated.entry) (option_copied files.entry)) }
+        (option_copied generated.entry) (option_copied name.entry) (option_copied files.entry)) }
     ensures memory { IfErr result (λ e. e ≡ OutOfMemory) }
 {
     if !is_valid {
         return Ok(nothing(alloc));
     }
-    suspicious_beside(alloc, bytes, generated, files, most)
+    suspicious_beside(alloc, bytes, generated, name, files, most)
 }
 
 fn verdict_of(is_valid: bool, count: u64) -> Verdict
@@ -98,26 +99,28 @@ fn verdict_of(is_valid: bool, count: u64) -> Verdict
 }
 
 /// Checks whether bytes are a valid map by ECMA-426, and looks in a valid map for what looks wrong,
-/// also beside a generated text and the files of its sources, if they are given. At most `most`
-/// findings of each code are listed. The only error is `OutOfMemory`.
+/// also beside a generated text and the files of its sources, if they are given. `name` is that of
+/// the map's file, if it is known. At most `most` findings of each code are listed. The only error is
+/// `OutOfMemory`.
 pub fn check_findings(
     alloc: Global,
     bytes: &[u8],
     generated: Option<&SourceView>,
+    name: Option<&str>,
     files: Option<&[Option<SourceView>]>,
     most: usize,
 ) -> Result<Findings>
     requires { 0 < most }
     ensures findings { IfOk result (Shows most bytes.now (option_copied generated.entry)
-        (option_copied files.entry)) }
+        (option_copied name.entry) (option_copied files.entry)) }
     ensures verdict { IfOk result (λ found. HasVerdict most found.verdict bytes.now
-        (option_copied generated.entry) (option_copied files.entry)) }
+        (option_copied generated.entry) (option_copied name.entry) (option_copied files.entry)) }
     ensures memory { IfErr result (λ e. e ≡ OutOfMemory) }
 {
     validity_is_decided(); // prover: a report without findings is that of a valid map
     let checked = check(alloc, bytes, Options { most })?;
     let is_valid = checked.report.findings.is_empty();
-    let found = suspicious_if_valid(alloc, bytes, generated, files, most, is_valid)?;
+    let found = suspicious_if_valid(alloc, bytes, generated, name, files, most, is_valid)?;
     let entries = entries(alloc, checked.report.findings.as_slice(), &found)?;
     let counts = Counts {
         invalid: total(&checked.report),

@@ -63,16 +63,18 @@ pub fn check_text(
     alloc: Global,
     bytes: &[u8],
     generated: Option<&SourceView>,
+    name: Option<&str>,
     files: Option<&[Option<SourceView>]>,
     form: Form,
 ) -> Result<CheckText>
     ensures report { IfOk result (λ printed. IsReportOf form bytes.now
-        (option_copied generated.entry) (option_copied files.entry) (string_bytes printed.text)) }
+        (option_copied generated.entry) (option_copied name.entry) (option_copied files.entry)
+        (string_bytes printed.text)) }
     ensures verdict { IfOk result (λ printed. HasVerdict MOST printed.verdict bytes.now
-        (option_copied generated.entry) (option_copied files.entry)) }
+        (option_copied generated.entry) (option_copied name.entry) (option_copied files.entry)) }
     ensures memory { IfErr result (λ e. e ≡ OutOfMemory) }
 {
-    let found = check_findings(alloc, bytes, generated, files, MOST)?;
+    let found = check_findings(alloc, bytes, generated, name, files, MOST)?;
     let text = report_text(alloc, &found, form)?;
     Ok(CheckText {
         text,

@@ -18,7 +18,7 @@ fn token_sentence(doubt: Doubt) -> &'static str
 {
     match doubt {
         Doubt::TwoOriginals => "the token before is at the same position, with another original",
-        Doubt::PastSource => "the contents of the source have no such line",
+        Doubt::PastSource => "the source has no such line",
         Doubt::PastLine => "the original line has fewer columns",
         Doubt::WithinPair => "the original column is in the middle of a surrogate pair",
         Doubt::OtherName => "the name does not stand at the original position",
@@ -75,6 +75,9 @@ pub(crate) fn suspicion_sentence(suspicion: Suspicion) -> &'static str
         Suspicion::SegmentBack => "the segment has a lower column than the one before it",
         Suspicion::Ranges(doubt) => range_sentence(doubt),
         Suspicion::OtherDebugId => "the generated text names another debug id",
+        Suspicion::OtherReference => {
+            "the reference of the generated text ends in another file name"
+        }
         Suspicion::Contents(doubt) => contents_sentence(doubt),
         Suspicion::Generated(doubt) => generated_sentence(doubt),
     }
@@ -85,7 +88,7 @@ pub(crate) fn shift_sentence(shifted: Shifted) -> &'static str
     ensures { result.now ≡ shift_sentence shifted }
 {
     match shifted {
-        Shifted::Original(_) => "names stand in the contents of sources after this shift",
+        Shifted::Original(_) => "names stand in the sources after this shift",
         Shifted::Generated(_) => "words stand in the generated text after this shift",
     }
 }
@@ -110,6 +113,7 @@ pub(crate) fn push_suspect_key(text: &mut String, suspect: &Suspect) -> Result<(
         Suspicion::Item(doubt) => push_item_key(text, doubt, suspect.index),
         Suspicion::Ranges(_) => push(text, "rangeMappings"),
         Suspicion::OtherDebugId => push(text, "debugId"),
+        Suspicion::OtherReference => Ok(()),
         Suspicion::Contents(_) => push_indexed(text, "sources", suspect.index),
         _ => push(text, "mappings"),
     }

@@ -56,23 +56,23 @@ adds_nothing most found = record {
 }
 
 -- the first kinds
-pub record SuspectsSoFar (most : ℕ) (m : TextMapValue) (generated : Option (List ℕ)) (files : Files) (i : ℕ) (found : Suspects) : Type 0 where
+pub record SuspectsSoFar (most : ℕ) (m : TextMapValue) (generated name : Option (List ℕ)) (files : Files) (i : ℕ) (found : Suspects) : Type 0 where
   pub first : found.first.items
-      ≡ flat_map (λ suspicion. take most (suspects_of suspicion m generated files)) (take i SUSPICIONS)
+      ≡ flat_map (λ suspicion. take most (suspects_of suspicion m generated name files)) (take i SUSPICIONS)
   pub count : found.count
-      ≡ min (length (flat_map (λ suspicion. suspects_of suspicion m generated files) (take i SUSPICIONS))) 18446744073709551615
+      ≡ min (length (flat_map (λ suspicion. suspects_of suspicion m generated name files) (take i SUSPICIONS))) 18446744073709551615
 
-pub SuspectsSoFar-none : (most : ℕ) (m : TextMapValue) (generated : Option (List ℕ)) (files : Files) (found : Suspects)
-    → found.first.items ≡ [] → found.count ≡ 0 → SuspectsSoFar most m generated files 0 found
-SuspectsSoFar-none most m generated files found items count = record { first = items; count = count }
+pub SuspectsSoFar-none : (most : ℕ) (m : TextMapValue) (generated name : Option (List ℕ)) (files : Files) (found : Suspects)
+    → found.first.items ≡ [] → found.count ≡ 0 → SuspectsSoFar most m generated name files 0 found
+SuspectsSoFar-none most m generated name files found items count = record { first = items; count = count }
 
-pub SuspectsSoFar-more : (most : ℕ) (m : TextMapValue) (generated : Option (List ℕ)) (files : Files) (i : ℕ) (suspicion : Suspicion)
+pub SuspectsSoFar-more : (most : ℕ) (m : TextMapValue) (generated name : Option (List ℕ)) (files : Files) (i : ℕ) (suspicion : Suspicion)
     (old new : Suspects) → i < length SUSPICIONS → suspicion ≡ get_or SUSPICIONS i suspicion
-    → SuspectsSoFar most m generated files i old → Adds most (suspects_of suspicion m generated files) old new
-    → SuspectsSoFar most m generated files (i + 1) new
-SuspectsSoFar-more most m generated files i suspicion old new within at so_far adds =
-    let all : Suspicion → List Suspect = λ s. suspects_of s m generated files in
-    let shown : Suspicion → List Suspect = λ s. take most (suspects_of s m generated files) in
+    → SuspectsSoFar most m generated name files i old → Adds most (suspects_of suspicion m generated name files) old new
+    → SuspectsSoFar most m generated name files (i + 1) new
+SuspectsSoFar-more most m generated name files i suspicion old new within at so_far adds =
+    let all : Suspicion → List Suspect = λ s. suspects_of s m generated name files in
+    let shown : Suspicion → List Suspect = λ s. take most (suspects_of s m generated name files) in
     let counted = so_far.count in
     let small : old.count ≤ 18446744073709551615 = omega (arith, counted) in
     record {
@@ -86,15 +86,15 @@ SuspectsSoFar-more most m generated files i suspicion old new within at so_far a
           ∙ ap (λ xs. min (length xs) 18446744073709551615) (one_list_more all SUSPICIONS i suspicion within);
     }
 
-pub SuspectsSoFar-all : (most : ℕ) (m : TextMapValue) (generated : Option (List ℕ)) (files : Files) (i : ℕ) (found : Suspects)
-    → SuspectsSoFar most m generated files i found → length SUSPICIONS ≤ i → AreSuspects most m generated files found
-SuspectsSoFar-all most m generated files i found so_far past =
+pub SuspectsSoFar-all : (most : ℕ) (m : TextMapValue) (generated name : Option (List ℕ)) (files : Files) (i : ℕ) (found : Suspects)
+    → SuspectsSoFar most m generated name files i found → length SUSPICIONS ≤ i → AreSuspects most m generated name files found
+SuspectsSoFar-all most m generated name files i found so_far past =
     let whole = take_all i SUSPICIONS past in
     record {
       first = so_far.first
-          ∙ ap (flat_map (λ suspicion. take most (suspects_of suspicion m generated files))) whole;
+          ∙ ap (flat_map (λ suspicion. take most (suspects_of suspicion m generated name files))) whole;
       count = so_far.count
-          ∙ ap (λ ks. min (length (flat_map (λ suspicion. suspects_of suspicion m generated files) ks)) 18446744073709551615) whole;
+          ∙ ap (λ ks. min (length (flat_map (λ suspicion. suspects_of suspicion m generated name files) ks)) 18446744073709551615) whole;
     }
 
 with_memory : (e : Error) (P : Type 0) → e ≢ OutOfMemory → UnlessMemory e P → P
@@ -102,17 +102,17 @@ with_memory OutOfMemory P is h = absurd (is refl)
 with_memory _ P is h = h
 
 -- what looks wrong in a decoded map does so in its bytes
-pub read : (most : ℕ) (bytes : List ℕ) (generated : Option (List ℕ)) (files : Files) (m : TextMapValue) (r : Result Suspicious Error)
-    → BytesHaveResult TextMapDecodes bytes (Ok m) → IfOk r (LooksWrong most m generated files)
-    → IfOk r (LooksWrongOf most bytes generated files)
-read most bytes generated files m (Ok found) decodes wrong = (Ok m, decodes, wrong)
-read most bytes generated files m (Err e) decodes wrong = tt
+pub read : (most : ℕ) (bytes : List ℕ) (generated name : Option (List ℕ)) (files : Files) (m : TextMapValue) (r : Result Suspicious Error)
+    → BytesHaveResult TextMapDecodes bytes (Ok m) → IfOk r (LooksWrong most m generated name files)
+    → IfOk r (LooksWrongOf most bytes generated name files)
+read most bytes generated name files m (Ok found) decodes wrong = (Ok m, decodes, wrong)
+read most bytes generated name files m (Err e) decodes wrong = tt
 
 -- and nothing does in bytes that are not decoded
-pub unread : (most : ℕ) (bytes : List ℕ) (generated : Option (List ℕ)) (files : Files) (e : Error) (r : Result Suspicious Error)
+pub unread : (most : ℕ) (bytes : List ℕ) (generated name : Option (List ℕ)) (files : Files) (e : Error) (r : Result Suspicious Error)
     → UnlessMemory e (BytesHaveResult TextMapDecodes bytes (Err e))
     → MatchResult r (λ found. (e ≢ OutOfMemory) × HasNone found) (λ f. f ≡ OutOfMemory)
-    → IfOk r (LooksWrongOf most bytes generated files)
-unread most bytes generated files e (Ok found) fails (other, none) =
+    → IfOk r (LooksWrongOf most bytes generated name files)
+unread most bytes generated name files e (Ok found) fails (other, none) =
     (Err e, with_memory e (BytesHaveResult TextMapDecodes bytes (Err e)) other fails, none)
-unread most bytes generated files e (Err f) fails is = tt
+unread most bytes generated name files e (Err f) fails is = tt

@@ -15,7 +15,7 @@ use Rattle.sourcemap_check_texts.specs.declared.tokens.Doubt.TheVariants.{TwoOri
 use Rattle.sourcemap_check_texts.specs.declared.tokens.Doubt.TheVariants.{OtherName}
 use Rattle.sourcemap_check_suspicious.specs.declared.suspects.Suspicion.{Suspicion}
 use Rattle.sourcemap_check_suspicious.specs.declared.suspects.Suspicion.TheVariants.{Token, Item, SegmentBack, Ranges}
-use Rattle.sourcemap_check_suspicious.specs.declared.suspects.Suspicion.TheVariants.{OtherDebugId, Contents, Generated}
+use Rattle.sourcemap_check_suspicious.specs.declared.suspects.Suspicion.TheVariants.{OtherDebugId, OtherReference, Contents, Generated}
 
 abbrev pub token_code : Doubt → ℕ
 token_code TwoOriginals = 201
@@ -50,5 +50,6 @@ code_of (Item doubt) = item_code doubt
 code_of SegmentBack = 221
 code_of (Ranges doubt) = range_code doubt
 code_of OtherDebugId = 224
+code_of OtherReference = 225
 code_of (Contents doubt) = contents_code doubt
 code_of (Generated doubt) = generated_code doubt

@@ -71,6 +71,7 @@ pub fn code_of(suspicion: Suspicion) -> u32
         Suspicion::SegmentBack => 221,
         Suspicion::Ranges(doubt) => range_code(doubt),
         Suspicion::OtherDebugId => 224,
+        Suspicion::OtherReference => 225,
         Suspicion::Contents(doubt) => contents_code(doubt),
         Suspicion::Generated(doubt) => generated_code(doubt),
     }

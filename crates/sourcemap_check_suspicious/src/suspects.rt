@@ -1,15 +1,16 @@
 //! What looks wrong, in the order of codes.
-ghost use Rattle.std.specs.Prelude.{◌≡◌, ◌≢◌, [], None, IfOk, IfErr, MatchResult, OnOk};
+ghost use Rattle.std.specs.Prelude.{◌≡◌, ◌≢◌, [], None, IfOk, IfErr, MatchResult, Ok, OnOk};
 ghost use Rattle.std.specs.Option.{option_copied};
+ghost use Rattle.sourcemap_errors.specs.Answer.{Gives};
 ghost use Rattle.sourcemap_errors.specs.declared.errors.Error.TheVariants.{OutOfMemory};
 ghost use Rattle.sourcemap_check_suspicious.specs.Reading.{text_map_value};
-ghost use Rattle.sourcemap_check_suspicious.specs.declared.suspects.Suspicion.TheVariants.{Contents, Generated, Item, Ranges};
-ghost use Rattle.sourcemap_check_suspicious.specs.Suspects.{Adds, AreSuspects, HasNone, LooksWrong, LooksWrongOf, has_other_id, is_covered, is_range_doubt, suspects_of};
+ghost use Rattle.sourcemap_check_suspicious.specs.declared.suspects.Suspicion.TheVariants.{Contents, Generated, Item, OtherReference, Ranges};
+ghost use Rattle.sourcemap_check_suspicious.specs.Suspects.{Adds, AreSuspects, HasNone, LooksWrong, LooksWrongOf, has_other_id, has_other_reference, is_covered, is_range_doubt, suspects_of};
 
 use crate::adding::{add_if, add_items, add_segments, add_tokens};
 use crate::reading::{TextMap, read_text_map};
 use crate::shifted::{Shifted, shifts_of};
-use sourcemap_check_links::links::other_id;
+use sourcemap_check_links::links::{other_id, other_reference};
 use sourcemap_check_lists::contents::{ContentsDoubt, doubtful_contents};
 use sourcemap_check_lists::lists::{ListDoubt, doubtful_items};
 use sourcemap_check_order::order::segments_back;
@@ -34,6 +35,8 @@ pub enum Suspicion {
     Ranges(RangeDoubt),
     /// The generated text names another debug id than the map has.
     OtherDebugId,
+    /// The reference of the generated text ends in another file name than that of the map's file.
+    OtherReference,
     /// A source beside its file.
     Contents(ContentsDoubt),
     /// A token beside the generated text.
@@ -41,7 +44,7 @@ pub enum Suspicion {
 }
 
 /// All of them, in the order of their codes.
-pub const SUSPICIONS: [Suspicion; 19] = [
+pub const SUSPICIONS: [Suspicion; 20] = [
     Suspicion::Token(Doubt::TwoOriginals),
     Suspicion::Token(Doubt::PastSource),
     Suspicion::Token(Doubt::PastLine),
@@ -56,6 +59,7 @@ pub const SUSPICIONS: [Suspicion; 19] = [
     Suspicion::Ranges(RangeDoubt::OtherFormat),
     Suspicion::Ranges(RangeDoubt::NoFormat),
     Suspicion::OtherDebugId,
+    Suspicion::OtherReference,
     Suspicion::Contents(ContentsDoubt::OtherContents),
     Suspicion::Contents(ContentsDoubt::NoContents),
     Suspicion::Generated(GeneratedDoubt::PastText),
@@ -103,8 +107,9 @@ fn add_generated(
     doubt: GeneratedDoubt,
     most: usize,
 ) -> Result<()>
-    ensures added { (files : _) → OnOk result (Adds most
-        (suspects_of (Generated doubt) (text_map_value map.now) (option_copied generated.entry) files)
+    ensures added { (name files : _) → OnOk result (Adds most
+        (suspects_of (Generated doubt) (text_map_value map.now) (option_copied generated.entry) name
+        files)
         found.old found.new) }
     ensures memory { IfErr result (λ e. e ≡ OutOfMemory) }
 {
@@ -132,8 +137,9 @@ fn add_ranges(
     doubt: RangeDoubt,
     most: usize,
 ) -> Result<()>
-    ensures added { (generated files : _) → OnOk result (Adds most
-        (suspects_of (Ranges doubt) (text_map_value map.now) generated files) found.old found.new) }
+    ensures added { (generated name files : _) → OnOk result (Adds most
+        (suspects_of (Ranges doubt) (text_map_value map.now) generated name files)
+        found.old found.new) }
     ensures memory { IfErr result (λ e. e ≡ OutOfMemory) }
 {
     let doubts = doubtful_ranges(alloc, map.mappings.as_str(), map.ranges.as_str())?;
@@ -164,8 +170,8 @@ fn add_listed(
     doubt: ListDoubt,
     most: usize,
 ) -> Result<()>
-    ensures added { (generated : _) → OnOk result (Adds most
-        (suspects_of (Item doubt) (text_map_value map.now) generated (option_copied files.entry))
+    ensures added { (generated name : _) → OnOk result (Adds most
+        (suspects_of (Item doubt) (text_map_value map.now) generated name (option_copied files.entry))
         found.old found.new) }
     ensures memory { IfErr result (λ e. e ≡ OutOfMemory) }
 {
@@ -185,8 +191,9 @@ fn add_contents(
     doubt: ContentsDoubt,
     most: usize,
 ) -> Result<()>
-    ensures added { (generated : _) → OnOk result (Adds most
-        (suspects_of (Contents doubt) (text_map_value map.now) generated (option_copied files.entry))
+    ensures added { (generated name : _) → OnOk result (Adds most
+        (suspects_of (Contents doubt) (text_map_value map.now) generated name
+        (option_copied files.entry))
         found.old found.new) }
     ensures memory { IfErr result (λ e. e ≡ OutOfMemory) }
 {
@@ -209,18 +216,53 @@ fn has_other_id(map: &SourceMap, generated: Option<&SourceView>) -> bool
     other_id(text.source(), own).is_some()
 }
 
+fn has_other_reference(
+    alloc: Global,
+    generated: Option<&SourceView>,
+    name: Option<&str>,
+) -> Result<bool>
+    ensures { Gives (λ other. other) result
+        (Ok (has_other_reference (option_copied generated.entry) (option_copied name.entry))) }
+{
+    let Some(text) = generated else {
+        return Ok(false);
+    };
+    let Some(own) = name else {
+        return Ok(false);
+    };
+    let found = other_reference(alloc, text.source(), own)?;
+    Ok(found.is_some())
+}
+
+fn add_reference(
+    alloc: Global,
+    found: &mut Suspects,
+    generated: Option<&SourceView>,
+    name: Option<&str>,
+    most: usize,
+) -> Result<()>
+    ensures added { (map files : _) → OnOk result (Adds most
+        (suspects_of OtherReference map (option_copied generated.entry) (option_copied name.entry)
+        files) found.old found.new) }
+    ensures memory { IfErr result (λ e. e ≡ OutOfMemory) }
+{
+    let is_other = has_other_reference(alloc, generated, name)?;
+    add_if(found, Suspicion::OtherReference, is_other, most)
+}
+
 fn add_all(
     alloc: Global,
     found: &mut Suspects,
     map: &TextMap,
     generated: Option<&SourceView>,
+    name: Option<&str>,
     files: Option<&[Option<SourceView>]>,
     suspicion: Suspicion,
     most: usize,
 ) -> Result<()>
     ensures added { OnOk result (Adds most
         (suspects_of suspicion (text_map_value map.now) (option_copied generated.entry)
-        (option_copied files.entry)) found.old found.new) }
+        (option_copied name.entry) (option_copied files.entry)) found.old found.new) }
     ensures memory { IfErr result (λ e. e ≡ OutOfMemory) }
 {
     match suspicion {
@@ -237,6 +279,7 @@ fn add_all(
         Suspicion::OtherDebugId => {
             add_if(found, suspicion, has_other_id(&map.map, generated), most)
         }
+        Suspicion::OtherReference => add_reference(alloc, found, generated, name, most),
         Suspicion::Contents(doubt) => add_contents(alloc, found, map, files, doubt, most),
         Suspicion::Generated(doubt) => add_generated(alloc, found, map, generated, doubt, most),
     }
@@ -244,23 +287,26 @@ fn add_all(
 
 /// What looks wrong in a map, and with a generated text and the files of its sources also beside
 /// them: the first `most` of each kind, in the order of codes, and how many there are of all kinds.
-/// The original positions in a source without contents are looked at beside its file. The only error
-/// is `OutOfMemory`.
+/// `name` is that of the map's file, for the reference of the generated text. The original positions
+/// in a source without contents are looked at beside its file. The only error is `OutOfMemory`.
 pub fn suspects_in(
     alloc: Global,
     map: &TextMap,
     generated: Option<&SourceView>,
+    name: Option<&str>,
     files: Option<&[Option<SourceView>]>,
     most: usize,
 ) -> Result<Suspects>
     ensures suspects { IfOk result
         (AreSuspects most (text_map_value map.now) (option_copied generated.entry)
-        (option_copied files.entry)) }
+        (option_copied name.entry) (option_copied files.entry)) }
     ensures memory { IfErr result (λ e. e ≡ OutOfMemory) }
 {
     let mut found = no_suspects(alloc);
     for suspicion in SUSPICIONS {
-        add_all(alloc, &mut found, map, generated, files, suspicion, most)?;
+        add_all(
+            alloc, &mut found, map, generated, name, files, suspicion, most,
+        )?;
     }
     Ok(found)
 }
@@ -289,15 +335,16 @@ fn look_at(
     alloc: Global,
     map: &TextMap,
     generated: Option<&SourceView>,
+    name: Option<&str>,
     files: Option<&[Option<SourceView>]>,
     most: usize,
 ) -> Result<Suspicious>
     ensures wrong { IfOk result
         (LooksWrong most (text_map_value map.now) (option_copied generated.entry)
-        (option_copied files.entry)) }
+        (option_copied name.entry) (option_copied files.entry)) }
     ensures memory { IfErr result (λ e. e ≡ OutOfMemory) }
 {
-    let places = suspects_in(alloc, map, generated, files, most)?;
+    let places = suspects_in(alloc, map, generated, name, files, most)?;
     let shifts = shifts_of(alloc, &map.map, generated, files)?;
     Ok(Suspicious { places, shifts })
 }
@@ -315,36 +362,41 @@ fn nothing_after(alloc: Global, error: &Error) -> Result<Suspicious>
 }
 
 /// What looks wrong in the map that bytes decode to: in the map itself, beside a generated text if
-/// one is given, and beside the files of its sources if they are given. Of files there is one for
-/// each source; `None` is a source without a file, or with one that is no text. The file stands for
-/// contents that the map lacks. Nothing looks wrong in an index map, and in bytes that
-/// `read_text_map` does not decode. The only error is `OutOfMemory`.
+/// one is given, and beside the files of its sources if they are given. `name` is that of the map's
+/// file, if it is known: the reference of the generated text is to end in it. Of files there is one
+/// for each source; `None` is a source without a file, or with one that is no text. The file stands
+/// for contents that the map lacks. An index map is looked at as its flat map, which also has the
+/// sources. Nothing looks wrong in bytes that `read_text_map` does not decode. The only error is
+/// `OutOfMemory`.
 pub fn suspicious_beside(
     alloc: Global,
     bytes: &[u8],
     generated: Option<&SourceView>,
+    name: Option<&str>,
     files: Option<&[Option<SourceView>]>,
     most: usize,
 ) -> Result<Suspicious>
     ensures wrong { IfOk result
-        (LooksWrongOf most bytes.now (option_copied generated.entry) (option_copied files.entry)) }
+        (LooksWrongOf most bytes.now (option_copied generated.entry)
+        (option_copied name.entry) (option_copied files.entry)) }
     ensures memory { IfErr result (λ e. e ≡ OutOfMemory) }
 {
     match read_text_map(alloc, bytes) {
-        Ok(map) => look_at(alloc, &map, generated, files, most),
+        Ok(map) => look_at(alloc, &map, generated, name, files, most),
         Err(error) => nothing_after(alloc, &error),
     }
 }
 
-/// As `suspicious_beside`, without files.
+/// As `suspicious_beside`, without a name and files.
 pub fn suspicious_in_bytes(
     alloc: Global,
     bytes: &[u8],
     generated: Option<&SourceView>,
     most: usize,
 ) -> Result<Suspicious>
-    ensures wrong { IfOk result (LooksWrongOf most bytes.now (option_copied generated.entry) None) }
+    ensures wrong { IfOk result (LooksWrongOf most bytes.now (option_copied generated.entry)
+        None None) }
     ensures memory { IfErr result (λ e. e ≡ OutOfMemory) }
 {
-    suspicious_beside(alloc, bytes, generated, None, most)
+    suspicious_beside(alloc, bytes, generated, None, None, most)
 }

@@ -6,6 +6,8 @@ mod edges;
 #[cfg(test)]
 mod generated;
 #[cfg(test)]
+mod index_maps;
+#[cfg(test)]
 mod lists;
 #[cfg(test)]
 mod places;

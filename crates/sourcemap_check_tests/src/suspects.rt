@@ -2,9 +2,9 @@
 use sourcemap_check_suspicious::codes::code_of;
 use sourcemap_check_suspicious::reading::read_text_map;
 use sourcemap_check_suspicious::suspects::suspects_in;
-use sourcemap_errors::errors::{Error, Result};
+use sourcemap_errors::errors::Result;
 use sourcemap_source_views::sourceview::SourceView;
-use sourcemap_test_support::checks::{Checked, check, check_that};
+use sourcemap_test_support::checks::{Checked, check};
 use std::alloc::Global;
 
 // What it is about, the keys of the map, the generated text, and the code, line and index of the
@@ -66,14 +66,76 @@ static MAPS: [(&str, &str, Option<&str>, &str); 9] = [
     ),
 ];
 
-fn suspects_text(alloc: Global, keys: &str, generated: Option<&str>) -> Result<String> {
+// What it is about, the generated text of a map with a debug id, the name of the map's file, and what
+// looks wrong.
+static REFERENCES: [(&str, Option<&str>, Option<&str>, &str); 11] = [
+    (
+        "another file",
+        Some("x\n//# sourceMappingURL=b.js.map"),
+        Some("a.js.map"),
+        "225@0:0 1",
+    ),
+    (
+        "the file",
+        Some("x\n//# sourceMappingURL=a.js.map"),
+        Some("a.js.map"),
+        "0",
+    ),
+    (
+        "a folder and a query",
+        Some("//# sourceMappingURL=maps/a.js.map?v=1"),
+        Some("a.js.map"),
+        "0",
+    ),
+    (
+        "another file in a folder",
+        Some("//# sourceMappingURL=a.js.map/b.js.map"),
+        Some("a.js.map"),
+        "225@0:0 1",
+    ),
+    (
+        "escapes",
+        Some("//# sourceMappingURL=a%20b.js.map"),
+        Some("a b.js.map"),
+        "0",
+    ),
+    (
+        "the name is no URL",
+        Some("//# sourceMappingURL=a%20b.js.map"),
+        Some("a%20b.js.map"),
+        "225@0:0 1",
+    ),
+    (
+        "a data URL",
+        Some("//# sourceMappingURL=data:application/json;base64,e30="),
+        Some("a.js.map"),
+        "0",
+    ),
+    ("no reference", Some("x"), Some("a.js.map"), "0"),
+    ("no generated text", None, Some("a.js.map"), "0"),
+    ("no name", Some("//# sourceMappingURL=b.js.map"), None, "0"),
+    (
+        "another debug id too",
+        Some("//# debugId=00000000-0000-0000-0000-000000000002\n//# sourceMappingURL=b.js.map"),
+        Some("a.js.map"),
+        "224@0:0 225@0:0 2",
+    ),
+];
+
+/// The codes of what looks wrong in a map with these keys, as they stand in tables of tests.
+pub(crate) fn suspects_text(
+    alloc: Global,
+    keys: &str,
+    generated: Option<&str>,
+    name: Option<&str>,
+) -> Result<String> {
     let json = format!(in alloc; "{{\"version\":3,{keys}}}")?;
     let map = read_text_map(alloc, json.as_bytes())?;
     let mut view = None;
     if let Some(text) = generated {
         view = Some(SourceView::new(alloc, text)?);
     }
-    let found = suspects_in(alloc, &map, view.as_ref(), None, 2)?;
+    let found = suspects_in(alloc, &map, view.as_ref(), name, None, 2)?;
     let mut text = String::new(alloc);
     for suspect in &found.first {
         let code = code_of(suspect.suspicion);
@@ -89,22 +151,27 @@ fn suspects_text(alloc: Global, keys: &str, generated: Option<&str>) -> Result<S
 #[test]
 fn maps_look_wrong(rt: HostRuntime) -> Checked {
     for (name, keys, generated, found) in &MAPS {
-        check(name, suspects_text(rt.alloc(), keys, *generated), found)?;
+        check(
+            name,
+            suspects_text(rt.alloc(), keys, *generated, None),
+            found,
+        )?;
     }
     Ok(())
 }
 
-// What a text is read as. Any other error, such as out of memory, is returned.
-fn kind_read(alloc: Global, bytes: &[u8]) -> Result<&'static str> {
-    match read_text_map(alloc, bytes) {
-        Ok(_) => Ok("a regular map"),
-        Err(Error::IncompatibleSourceMap) => Ok("none"),
-        Err(error) => Err(error),
-    }
-}
+// A map without segments.
+const NAMED: &str =
+    r#""sources":[],"mappings":"","debugId":"00000000-0000-0000-0000-000000000001""#;
 
 #[test]
-fn index_maps_are_not_looked_at(rt: HostRuntime) -> Checked {
-    let kind = kind_read(rt.alloc(), br#"{"version":3,"sections":[]}"#)?;
-    check_that("an index", kind == "none")
+fn references_lead_to_other_maps(rt: HostRuntime) -> Checked {
+    for (about, generated, name, found) in &REFERENCES {
+        check(
+            about,
+            suspects_text(rt.alloc(), NAMED, *generated, *name),
+            found,
+        )?;
+    }
+    Ok(())
 }

@@ -331,7 +331,7 @@ pub reply_of_check : (checking : Checking) (bytes : List ℕ) (generated : Optio
     (file : Result (List ℕ) Error) (r : Result Reply Error)
     → ReadsGenerated (is_some checking.generated) file (Ok generated)
     → ReadsFiles (is_some checking.sources) bytes (Ok files)
-    → MatchResult r (IsReportReply checking.form checking.strictness bytes generated files) (λ e. e ≡ OutOfMemory)
+    → MatchResult r (IsReportReply checking bytes generated files) (λ e. e ≡ OutOfMemory)
     → MatchResult r (RepliesOn (Check checking) bytes file) (λ e. e ≡ OutOfMemory)
 reply_of_check checking bytes generated files file (Err e) reads finds is = is
 reply_of_check checking bytes generated files file (Ok reply) reads finds is =

@@ -21,8 +21,9 @@ use Rattle.sourcemap_check_print.specs.Findings.{HasVerdict}
 use Rattle.sourcemap_check_print.specs.Print.{IsReportOf}
 use Rattle.sourcemap_check_print.specs.declared.findings.Verdict.{Verdict}
 use Rattle.sourcemap_check_print.specs.declared.findings.Verdict.TheVariants.{Invalid, Doubtful, Right}
-use Rattle.sourcemap_check_print.specs.declared.print.Form.{Form}
 use Rattle.sourcemap_check_print.specs.declared.print.TheConstants.{MOST}
+use Rattle.sourcemap_cli.specs.Checking.{name_in}
+use Rattle.sourcemap_cli.specs.declared.checking.Checking.{Checking}
 use Rattle.sourcemap_cli.specs.declared.checking.Strictness.{Strictness}
 use Rattle.sourcemap_cli.specs.declared.checking.Strictness.TheVariants.{Usual, Strict}
 use Rattle.sourcemap_cli.specs.declared.program.Reply.{Reply}
@@ -35,17 +36,18 @@ passes Strict Doubtful = false
 passes strictness Right = true
 
 -- the bytes have a verdict that lets the check pass, or not
-abbrev pub Judges : (passing : Bool) → Strictness → (bytes : List ℕ) → (generated : Option (List ℕ)) → Files → Type 0
-Judges passing strictness bytes generated files =
-    (verdict : Verdict) × HasVerdict MOST verdict bytes generated files × (passes strictness verdict ≡ passing)
+abbrev pub Judges : (passing : Bool) → Checking → (bytes : List ℕ) → (generated : Option (List ℕ)) → Files → Type 0
+Judges passing checking bytes generated files =
+    (verdict : Verdict) × HasVerdict MOST verdict bytes generated (name_in checking) files
+    × (passes checking.strictness verdict ≡ passing)
 
 -- the reply for a report: its status is 0 if the check passes, otherwise 1
-pub record IsReportReply (form : Form) (strictness : Strictness) (bytes : List ℕ) (generated : Option (List ℕ))
-    (files : Files) (reply : Reply) : Type 0 where
-  pub report : IsReportOf form bytes generated files reply.output.items
+pub record IsReportReply (checking : Checking) (bytes : List ℕ) (generated : Option (List ℕ)) (files : Files)
+    (reply : Reply) : Type 0 where
+  pub report : IsReportOf checking.form bytes generated (name_in checking) files reply.output.items
   pub verdict : Verdict
-  pub has_verdict : HasVerdict MOST verdict bytes generated files
-  pub status_is : reply.status ≡ (if passes strictness verdict then 0 else 1)
+  pub has_verdict : HasVerdict MOST verdict bytes generated (name_in checking) files
+  pub status_is : reply.status ≡ (if passes checking.strictness verdict then 0 else 1)
 
 -- the generated text, if a file is named for it; or the error of reading it, or that it is not UTF-8
 abbrev pub ReadsGenerated : (is_named : Bool) → (file : Result (List ℕ) Error) → Result (Option (List ℕ)) Error → Type 0

@@ -28,6 +28,7 @@ use Rattle.sourcemap_check_suspicious.specs.Suspects.{Files}
 use Rattle.sourcemap_trace.specs.Asked.{compiled_says}
 use Rattle.sourcemap_trace.specs.Positions.{first_of}
 use Rattle.sourcemap_trace.specs.Trace.{meaning_text, trace_from}
+use Rattle.sourcemap_cli.specs.Checking.{name_in}
 use Rattle.sourcemap_cli.specs.Checks.{Judges, ReadsFiles, ReadsGenerated}
 use Rattle.sourcemap_cli.specs.Command.{AskFor}
 use Rattle.sourcemap_cli.specs.Compiled.{CompilesTo, IsRefusedCompiled, IsTooLarge, compiled_line, is_compiled}
@@ -41,7 +42,7 @@ abbrev pub usage_text : List ℕ
 usage_text =
     codes "usage: lookup [--from-1] LINE COL | tokens | rewrite | flatten | compose FILE | shift ROWS"
     ++ codes " | trace [--from-1] FILE | compile [--without-contents]"
-    ++ codes " | check [--json] [--strict] [--generated FILE] [--sources DIR]" ++ newline
+    ++ codes " | check [--json] [--strict] [--generated FILE] [--name NAME] [--sources DIR]" ++ newline
 
 -- the text of a token, with its original line and column counted from `first`; `none` if there is no token
 abbrev pub found_text : (first : ℕ) → Option TokenValue → List ℕ
@@ -157,7 +158,7 @@ is_applied _ bytes = true
 abbrev pub Checks : (passing : Bool) → Checking → (bytes : List ℕ) → (generated : Option (List ℕ)) → Files
     → (text : List ℕ) → Type 0
 Checks passing checking bytes generated files text =
-    Judges passing checking.strictness bytes generated files × IsReportOf checking.form bytes generated files text
+    Judges passing checking bytes generated files × IsReportOf checking.form bytes generated (name_in checking) files text
 
 -- the output of a command that is not applied to a decoded map. A compiled map is looked up only if it is sound
 abbrev pub ReturnsElse : Command → (bytes : List ℕ) → (file : Result (List ℕ) Error) → Result (List ℕ) Error → Type 0

@@ -1,7 +1,7 @@
 //! The words of `check`, and what they ask for.
 ghost use Rattle.std.specs.Prelude.{◌≡◌, MatchOption, MatchResult, drop, map, option_map, string_bytes};
 ghost use Rattle.sourcemap.specs.declared.errors.Error.TheVariants.{OutOfMemory};
-ghost use Rattle.sourcemap_cli.specs.Checking.{begins, file_after, file_count, flag_count, form_of, strictness_of, words_of};
+ghost use Rattle.sourcemap_cli.specs.Checking.{begins, flag_count, form_of, strictness_of, value_after, value_count, words_of};
 ghost use Rattle.sourcemap_cli.specs.declared.checking.Checking.{Checking};
 
 use sourcemap::Result;
@@ -16,6 +16,9 @@ const STRICT: &str = "--strict";
 
 // The word before the file of the generated text.
 const GENERATED: &str = "--generated";
+
+// The word before the name of the map's file.
+const NAME: &str = "--name";
 
 // The word before the folder of the sources.
 const SOURCES: &str = "--sources";
@@ -38,6 +41,8 @@ pub struct Checking {
     pub strictness: Strictness,
     /// The path of the generated text.
     pub generated: Option<String>,
+    /// The name of the map's file.
+    pub name: Option<String>,
     /// The path of the folder of the sources.
     pub sources: Option<String>,
 }
@@ -53,17 +58,17 @@ fn begins(words: &[String], flag: &str) -> bool
 }
 
 // The second word, if the first is this one.
-fn file_after(alloc: Global, words: &[String], flag: &str) -> Result<Option<String>>
+fn value_after(alloc: Global, words: &[String], flag: &str) -> Result<Option<String>>
     ensures { MatchResult result
-        (λ path. option_map string_bytes path ≡ file_after flag.now (map string_bytes words.now))
+        (λ value. option_map string_bytes value ≡ value_after flag.now (map string_bytes words.now))
         (λ e. e ≡ OutOfMemory) }
 {
     match words {
-        [first, path, ..] => {
+        [first, value, ..] => {
             if first.as_str() != flag {
                 return Ok(None);
             }
-            Ok(Some(String::from_str(alloc, path.as_str())?))
+            Ok(Some(String::from_str(alloc, value.as_str())?))
         }
         _ => Ok(None),
     }
@@ -99,11 +104,11 @@ fn strictness_of(is_strict: bool) -> Strictness
     }
 }
 
-// How many words a path takes, with the flag before it.
-fn file_count(file: &Option<String>) -> usize
-    ensures { result ≡ file_count (option_map string_bytes file.now) }
+// How many words a value takes, with the flag before it.
+fn value_count(value: &Option<String>) -> usize
+    ensures { result ≡ value_count (option_map string_bytes value.now) }
 {
-    match file {
+    match value {
         Some(_) => 2,
         None => 0,
     }
@@ -122,10 +127,12 @@ pub(crate) fn parse_checking(alloc: Global, words: &[String]) -> Result<Option<C
     let later = behind(words, flag_count(is_json));
     let is_strict = begins(later, STRICT);
     let files = behind(later, flag_count(is_strict));
-    let generated = file_after(alloc, files, GENERATED)?;
-    let last = behind(files, file_count(&generated));
-    let sources = file_after(alloc, last, SOURCES)?;
-    let left = behind(last, file_count(&sources));
+    let generated = value_after(alloc, files, GENERATED)?;
+    let names = behind(files, value_count(&generated));
+    let name = value_after(alloc, names, NAME)?;
+    let last = behind(names, value_count(&name));
+    let sources = value_after(alloc, last, SOURCES)?;
+    let left = behind(last, value_count(&sources));
     if !left.is_empty() {
         return Ok(None);
     }
@@ -133,6 +140,7 @@ pub(crate) fn parse_checking(alloc: Global, words: &[String]) -> Result<Option<C
         form: form_of(is_json),
         strictness: strictness_of(is_strict),
         generated,
+        name,
         sources,
     }))
 }

@@ -12,7 +12,7 @@ use crate::files::read_file;
 use crate::program::{Reply, into_reply, text_reply};
 use sourcemap::{Error, Result};
 use sourcemap_check_print::findings::Verdict;
-use sourcemap_check_print::print::{CheckText, Form, check_text};
+use sourcemap_check_print::print::{CheckText, check_text};
 use sourcemap_check_suspicious::reading::read_text_map;
 use sourcemap_map_regular::map::SourceMap;
 use sourcemap_source_views::sourceview::SourceView;
@@ -35,20 +35,20 @@ fn check_status(strictness: Strictness, verdict: Verdict) -> u8
 
 fn report_reply(
     alloc: Global,
+    checking: &Checking,
     bytes: &[u8],
     generated: Option<&SourceView>,
     files: Option<&[Option<SourceView>]>,
-    form: Form,
-    strictness: Strictness,
 ) -> Result<Reply>
     ensures { MatchResult result
-        (IsReportReply form strictness bytes.now (option_copied generated.entry)
+        (IsReportReply checking.now bytes.now (option_copied generated.entry)
         (option_copied files.entry))
         (λ e. e ≡ OutOfMemory) }
 {
-    let report = check_text(alloc, bytes, generated, files, form)?;
+    let name = checking.name.as_deref();
+    let report = check_text(alloc, bytes, generated, name, files, checking.form)?;
     let CheckText { text, verdict } = report;
-    Ok(text_reply(text, check_status(strictness, verdict)))
+    Ok(text_reply(text, check_status(checking.strictness, verdict)))
 }
 
 // The generated text, if a file is named for it.
@@ -181,8 +181,8 @@ fn source_files<F: Files>(
     Ok(files)
 }
 
-// The texts of the files of sources below a folder, if there is a folder. There are none in bytes
-// that are no regular map.
+// The texts of the files of sources below a folder, if there is a folder. There are none for bytes
+// that `read_text_map` does not decode.
 fn files_below<F: Files>(
     rt: &F,
     alloc: Global,
@@ -256,14 +256,7 @@ fn beside_reply(
         → MatchResult result (RepliesOn (Check checking.now) bytes.now file) (λ e. e ≡ OutOfMemory) }
 {
     match files {
-        Ok(files) => report_reply(
-            alloc,
-            bytes,
-            generated,
-            listed(&files),
-            checking.form,
-            checking.strictness,
-        ),
+        Ok(files) => report_reply(alloc, checking, bytes, generated, listed(&files)),
         Err(error) => into_reply(alloc, Err(error)),
     }
 }

@@ -38,8 +38,8 @@ pub enum Command {
     /// `compile`, `compile --without-contents`: the compiled map, with or without the contents of
     /// its sources.
     Compile(WithContents),
-    /// `check`, then any of `--json`, `--strict`, `--generated FILE`, `--sources DIR` in this order:
-    /// the findings in the map.
+    /// `check`, then any of `--json`, `--strict`, `--generated FILE`, `--name NAME`, `--sources DIR`
+    /// in this order: the findings in the map.
     Check(Checking),
 }
 

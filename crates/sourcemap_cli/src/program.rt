@@ -38,7 +38,7 @@ use std::result;
 use std::rt::Files;
 
 const USAGE: &str =
-    "usage: lookup [--from-1] LINE COL | tokens | rewrite | flatten | compose FILE | shift ROWS | trace [--from-1] FILE | compile [--without-contents] | check [--json] [--strict] [--generated FILE] [--sources DIR]\n";
+    "usage: lookup [--from-1] LINE COL | tokens | rewrite | flatten | compose FILE | shift ROWS | trace [--from-1] FILE | compile [--without-contents] | check [--json] [--strict] [--generated FILE] [--name NAME] [--sources DIR]\n";
 
 const NO_MEMORY: &str = "out of memory\n";
 

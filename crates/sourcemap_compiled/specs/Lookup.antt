@@ -74,6 +74,15 @@ token_at bytes index =
     then Some (record { bytes = bytes; raw = compiled_token bytes index; index = index; extra_columns = 0 })
     else None
 
+-- the token with this index, as an answer to a generated position
+abbrev pub answer_by : List ℕ → ℕ × ℕ → ℕ → CompiledTokenValue
+answer_by bytes p index = record {
+  bytes = bytes;
+  raw = compiled_token bytes index;
+  index = index;
+  extra_columns = distance (compiled_token bytes index) p;
+}
+
 -- the token closest to a generated position, if there is one
 abbrev pub lookup : List ℕ → ℕ × ℕ → Option CompiledTokenValue
 lookup bytes p = option_map

@@ -163,7 +163,7 @@ impl<'a> Block<'a> {
         requires starts { self.now.start < position }
         ensures { IsBracket self.now.bytes.now self.now.start self.now.head size position after result }
     {
-        if self.is_inside() {
+        if size == BLOCK_SIZE && self.is_inside() {
             self.search_places(size, position, after, true)
         } else {
             let block = *self;
@@ -173,8 +173,8 @@ impl<'a> Block<'a> {
         }
     }
 
-    // Searches a block whose body may pass the end of the file. Such a body is rare, and apart from
-    // it no read of a search tests for the end.
+    // Searches a block that has fewer tokens, or whose body may pass the end of the file. Such a
+    // block is rare, and apart from it no step of a search tests for either.
     #[cold]
     #[inline(never)]
     fn search_at_end(self, size: usize, position: u64, after: u64) -> Bracket
@@ -187,19 +187,20 @@ impl<'a> Block<'a> {
     }
 
     #[inline(always)]
-    fn search_places(&self, size: usize, position: u64, after: u64, inside: bool) -> Bracket
+    fn search_places(&self, size: usize, position: u64, after: u64, whole: bool) -> Bracket
         requires few { size ≤ 64 }
         requires some { 0 < size }
         requires starts { self.now.start < position }
-        requires inside { IsTrue inside → u32_at self.now.bytes.now self.now.head + 4040 ≤ length self.now.bytes.now }
+        requires whole { IsTrue whole → size ≡ 64 }
+        requires inside { IsTrue whole → u32_at self.now.bytes.now self.now.head + 4040 ≤ length self.now.bytes.now }
         ensures { IsBracket self.now.bytes.now self.now.start self.now.head size position after result }
     {
-        let positions = self.positions(inside);
+        let positions = self.positions(whole);
         // Two copies of the search, of which that for one line reads no lines.
         if positions.lines.width == 0 {
-            self.search_positions(&positions, size, position, after, true)
+            self.search_positions(&positions, size, position, after, true, whole)
         } else {
-            self.search_positions(&positions, size, position, after, false)
+            self.search_positions(&positions, size, position, after, false, whole)
         }
     }
 
@@ -211,7 +212,9 @@ impl<'a> Block<'a> {
         position: u64,
         after: u64,
         one_line: bool,
+        whole: bool,
     ) -> Bracket
+        requires whole { IsTrue whole → size ≡ 64 }
         requires few { size ≤ 64 }
         requires some { 0 < size }
         requires starts { self.now.start < position }
@@ -219,26 +222,26 @@ impl<'a> Block<'a> {
             ≡ position_in self.now.bytes.now (self.now.start / 2 ^ 32) self.now.head place }
         ensures { IsBracket self.now.bytes.now self.now.start self.now.head size position after result }
     {
-        let mut low = 1;
-        let mut high = size;
+        // Of 63 places, one less than a power of 2, each middle leaves as many on both sides. So
+        // the compiler knows what is left after each step, and needs no loop.
+        let mut index = 1;
+        let mut rest = BLOCK_SIZE - 1;
         let mut ahead = self.start;
         let mut next = after;
-        while low < high {
-            let middle = (low + high) / 2;
-            let here = positions.near(middle, position, one_line);
-            if here.is_before {
-                low = middle + 1;
-                ahead = here.position;
-            } else {
-                high = middle;
-                next = here.position;
+        while rest > 0 {
+            rest /= 2;
+            let middle = index + rest;
+            if whole || middle < size {
+                let here = positions.near(middle, position, one_line);
+                if here.is_before {
+                    index = middle + 1;
+                    ahead = here.position;
+                } else {
+                    next = here.position;
+                }
             }
         }
-        Bracket {
-            index: low,
-            ahead,
-            next,
-        }
+        Bracket { index, ahead, next }
     }
 
     // Whether the body is inside the file, however long it is.
@@ -377,22 +380,16 @@ impl Positions<'_> {
         }
         let line = (position >> 32) as u32;
         let here = add(self.line, self.lines.number(place));
-        if here < line {
+        if here != line {
             return Near {
-                is_before: true,
-                position: 0,
+                is_before: here < line,
+                position: if here < line { 0 } else { u64::MAX },
             };
         }
-        if here > line {
-            return Near {
-                is_before: false,
-                position: u64::MAX,
-            };
-        }
-        let here = position_number(here, add(self.column, self.columns.read(place)));
+        let column = add(self.column, self.columns.read(place));
         Near {
-            is_before: here < position,
-            position: here,
+            is_before: column < (position % (1 << 32)) as u32,
+            position: position_number(line, column),
         }
     }
 

@@ -1,10 +1,9 @@
 //! The tokens of a compiled map, by index and by position.
 ghost use Rattle.std.specs.Prelude.{◌≡◌, ◌<◌, IfSome, MatchOption, option_map};
 ghost use Rattle.sourcemap_compose.specs.Moved.{distance};
-ghost use Rattle.sourcemap_compiled.specs.Blocks.{compiled_token};
-ghost use Rattle.sourcemap_compiled.specs.Lookup.{IsInOrder, IsNextTo, StartsAfter, compiled_meaning, lookup};
+ghost use Rattle.sourcemap_compiled.specs.Lookup.{IsInOrder, IsNextTo, StartsAfter, answer_by, compiled_meaning};
 ghost use Rattle.sourcemap_compiled.specs.Layout.{token_count};
-ghost use Rattle.sourcemap_compiled.specs.Lookup.{position_of, token_at};
+ghost use Rattle.sourcemap_compiled.specs.Lookup.{lookup, position_of, token_at};
 ghost use Rattle.sourcemap_compiled.specs.Numbers.{position_number};
 
 use crate::map::CompiledMap;
@@ -45,7 +44,8 @@ impl<'a> CompiledMap<'a> {
             → option_map token_value result ≡ lookup (bytes_of self.now) (line, column) }
         ensures meaning { IsInOrder (bytes_of self.now)
             → option_map meaning_of_token result ≡ compiled_meaning (bytes_of self.now) (line, column) }
-        ensures own { IfSome result (λ found. found.raw ≡ compiled_token (bytes_of self.now) found.index) }
+        ensures own { IfSome result
+            (λ found. token_value found ≡ answer_by (bytes_of self.now) (line, column) found.index) }
         ensures next { MatchOption result (StartsAfter (bytes_of self.now) (position_number (line, column)))
             (λ found. IsNextTo (bytes_of self.now) (position_number (line, column)) found.index) }
     {
@@ -61,7 +61,8 @@ impl<'a> CompiledMap<'a> {
             → option_map token_value result ≡ lookup (bytes_of self.now) (line, column) }
         ensures meaning { IsInOrder (bytes_of self.now)
             → option_map meaning_of_token result ≡ compiled_meaning (bytes_of self.now) (line, column) }
-        ensures own { IfSome result (λ found. found.raw ≡ compiled_token (bytes_of self.now) found.index) }
+        ensures own { IfSome result
+            (λ found. token_value found ≡ answer_by (bytes_of self.now) (line, column) found.index) }
         ensures next { MatchOption result (StartsAfter (bytes_of self.now) (position_number (line, column)))
             (λ found. IsNextTo (bytes_of self.now) (position_number (line, column)) found.index) }
     {
@@ -74,10 +75,7 @@ impl<'a> CompiledMap<'a> {
     fn answer(&self, index: usize, position: u64, line: u32, column: u32) -> CompiledToken<'a>
         requires within { index < token_count (bytes_of self.now) }
         requires position { position ≡ position_of (bytes_of self.now) index }
-        ensures map { bytes_of result.map ≡ bytes_of self.now }
-        ensures index { result.index ≡ index }
-        ensures raw { result.raw ≡ compiled_token (bytes_of self.now) index }
-        ensures extra { result.extra_columns ≡ distance (compiled_token (bytes_of self.now) index) (line, column) }
+        ensures { token_value result ≡ answer_by (bytes_of self.now) (line, column) index }
     {
         let raw = self.token(index, position);
         let extra_columns = distance(&raw, line, column);

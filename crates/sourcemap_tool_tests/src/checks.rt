@@ -165,7 +165,7 @@ const SHIFTED_LINES: &str =
 MAP:mappings at 1:0: SM205 the name does not stand at the original position
 MAP:mappings at 2:0: SM205 the name does not stand at the original position
 MAP:mappings at 3:0: SM205 the name does not stand at the original position
-MAP:mappings by 1:0: SM241 names stand in the contents of sources after this shift
+MAP:mappings by 1:0: SM241 names stand in the sources after this shift
 0 invalid, 5 suspicious, 5 shown";
 
 // A word of the source on each of four generated lines.
@@ -254,6 +254,78 @@ static BESIDE: [(&str, &str, &str, u8, &str); 11] = [
 const NAMED: &str =
     r#"{"version":3,"sources":[],"mappings":"A","debugId":"00000000-0000-0000-0000-000000000001"}"#;
 
+const OTHER_REFERENCE_JSON: &str =
+    r#"{"counts":{"invalid":0,"shown":1,"suspicious":1},"findings":[{"code":"SM225","key":"","position":null,"sections":[],"sentence":"the reference of the generated text ends in another file name","severity":"suspicious"}]}"#;
+
+// A map of which nothing looks wrong, whatever the generated text.
+const NO_SEGMENTS: &str = r#"{"version":3,"sources":[],"mappings":""}"#;
+
+// Words, the generated text in the file `a.js`, and the status and output of the run.
+static LINKED: [(&str, &str, u8, &str); 10] = [
+    (
+        "check --generated a.js --name a.js.map",
+        "x\n//# sourceMappingURL=b.js.map",
+        0,
+        "MAP:: SM225 the reference of the generated text ends in another file name\n0 invalid, 1 suspicious, 1 shown",
+    ),
+    (
+        "check --json --strict --generated a.js --name a.js.map",
+        "x\n//# sourceMappingURL=b.js.map",
+        1,
+        OTHER_REFERENCE_JSON,
+    ),
+    (
+        "check --strict --generated a.js --name b.js.map",
+        "x\n//# sourceMappingURL=b.js.map",
+        0,
+        NOTHING,
+    ),
+    (
+        "check --strict --generated a.js",
+        "x\n//# sourceMappingURL=b.js.map",
+        0,
+        NOTHING,
+    ),
+    (
+        "check --strict --name a.js.map",
+        "x\n//# sourceMappingURL=b.js.map",
+        0,
+        NOTHING,
+    ),
+    (
+        "check --strict --generated a.js --name a.js.map",
+        "//# sourceMappingURL=maps/a.js.map?v=1",
+        0,
+        NOTHING,
+    ),
+    (
+        "check --strict --generated a.js --name a.js.map",
+        "//# sourceMappingURL=data:application/json;base64,e30=",
+        0,
+        NOTHING,
+    ),
+    (
+        "check --strict --generated a.js --name a.js.map",
+        "//# sourceMappingURL=%61.js.map",
+        0,
+        NOTHING,
+    ),
+    (
+        "check --strict --generated a.js --name a.js.map",
+        "x",
+        0,
+        NOTHING,
+    ),
+    (
+        "check --generated a.js --name a.js.map --sources src",
+        "x\n//# sourceMappingURL=b.js.map",
+        0,
+        "MAP:: SM225 the reference of the generated text ends in another file name\n0 invalid, 1 suspicious, 1 shown",
+    ),
+];
+
+const NOTHING: &str = "0 invalid, 0 suspicious, 0 shown";
+
 // Names stand in the contents one column after the columns that the map names.
 const ONE_COLUMN_OFF: &str =
     r#"{"version":3,"sources":["a"],"sourcesContent":[" alpha\n beta\n gamma\n delta"],"names":["alpha","beta","gamma","delta"],"mappings":"AAAAA;AACAC;AACAC;AACAC"}"#;
@@ -263,7 +335,7 @@ const ONE_COLUMN_OFF_LINES: &str =
 MAP:mappings at 1:0: SM205 the name does not stand at the original position
 MAP:mappings at 2:0: SM205 the name does not stand at the original position
 MAP:mappings at 3:0: SM205 the name does not stand at the original position
-MAP:mappings by 0:1: SM241 names stand in the contents of sources after this shift
+MAP:mappings by 0:1: SM241 names stand in the sources after this shift
 0 invalid, 5 suspicious, 5 shown";
 
 // Keys of a map, the name and the text of the only file, and the output of `check --sources src`.
@@ -320,7 +392,7 @@ static SOURCES: [(&str, &str, &str, &str); 12] = [
         r#""sources":["a"],"names":["n"],"mappings":"AAAA,CAAE,CACFA""#,
         "src/a",
         "x",
-        "MAP:mappings at 0:2: SM202 the contents of the source have no such line
+        "MAP:mappings at 0:2: SM202 the source has no such line
 MAP:mappings at 0:1: SM203 the original line has fewer columns
 0 invalid, 2 suspicious, 2 shown",
     ),
@@ -345,25 +417,75 @@ MAP:mappings at 0:1: SM203 the original line has fewer columns
 ];
 
 // Words behind `check`, and what they ask for: whether the report is JSON, whether the check is
-// strict, the file of the generated text, and the folder of the sources.
-static OPTIONS: [(&str, bool, bool, Option<&str>, Option<&str>); 8] = [
-    ("", false, false, None, None),
-    (" --json", true, false, None, None),
-    (" --strict", false, true, None, None),
-    (" --json --strict", true, true, None, None),
-    (" --generated --json", false, false, Some("--json"), None),
-    (" --json --generated a.js", true, false, Some("a.js"), None),
-    (" --strict --sources src", false, true, None, Some("src")),
+// strict, the file of the generated text, the name of the map's file, and the folder of the sources.
+static OPTIONS: [(&str, bool, bool, Option<&str>, Option<&str>, Option<&str>); 11] = [
+    ("", false, false, None, None, None),
+    (" --json", true, false, None, None, None),
+    (" --strict", false, true, None, None, None),
+    (" --json --strict", true, true, None, None, None),
     (
-        " --json --strict --generated --sources --sources src",
+        " --generated --json",
+        false,
+        false,
+        Some("--json"),
+        None,
+        None,
+    ),
+    (
+        " --json --generated a.js",
+        true,
+        false,
+        Some("a.js"),
+        None,
+        None,
+    ),
+    (
+        " --name a.js.map",
+        false,
+        false,
+        None,
+        Some("a.js.map"),
+        None,
+    ),
+    (" --name --name", false, false, None, Some("--name"), None),
+    (
+        " --strict --name a.map --sources src",
+        false,
+        true,
+        None,
+        Some("a.map"),
+        Some("src"),
+    ),
+    (
+        " --strict --sources src",
+        false,
+        true,
+        None,
+        None,
+        Some("src"),
+    ),
+    (
+        " --json --strict --generated --sources --name --sources --sources src",
         true,
         true,
+        Some("--sources"),
         Some("--sources"),
         Some("src"),
     ),
 ];
 
-fn check_beside(
+// Words behind `check` that ask for nothing: out of their order, or without a value.
+static NO_OPTIONS: [&str; 6] = [
+    " --name",
+    " --name a.map --generated a.js",
+    " --sources src --name a.map",
+    " --name a.map --strict",
+    " --name a.map --name b.map",
+    " --name a.map b.map",
+];
+
+/// Checks what a run prints, and its status, where the only file has this name and text.
+pub fn check_beside(
     rt: &HostRuntime,
     line: &str,
     map: &str,
@@ -385,6 +507,14 @@ fn check_beside(
 fn maps_are_checked_beside_texts(rt: HostRuntime) -> Checked {
     for (line, map, generated, status, text) in BESIDE.iter() {
         check_beside(&rt, line, map, ("a.js", generated), *status, text)?;
+    }
+    Ok(())
+}
+
+#[test]
+fn references_name_the_file_of_the_map(rt: HostRuntime) -> Checked {
+    for (line, generated, status, text) in LINKED.iter() {
+        check_beside(&rt, line, NO_SEGMENTS, ("a.js", generated), *status, text)?;
     }
     Ok(())
 }
@@ -418,7 +548,7 @@ fn sources_stay_below_the_folder(rt: HostRuntime) -> Checked {
     check_that("opened", !files.is_opened.get())
 }
 
-fn path(alloc: Global, word: Option<&str>) -> Result<Option<String>, AllocError> {
+fn text(alloc: Global, word: Option<&str>) -> Result<Option<String>, AllocError> {
     match word {
         Some(word) => Ok(Some(String::from_str(alloc, word)?)),
         None => Ok(None),
@@ -440,15 +570,26 @@ fn strictness(is_strict: bool) -> Strictness {
 #[test]
 fn words_ask_for_checks(rt: HostRuntime) -> Checked {
     let alloc = rt.alloc();
-    for (words, is_json, is_strict, generated, sources) in OPTIONS.iter() {
+    for (words, is_json, is_strict, generated, name, sources) in OPTIONS.iter() {
         let line = format!(in alloc; "check{words}")?;
         let command = Command::Check(Checking {
             form: form(*is_json),
             strictness: strictness(*is_strict),
-            generated: path(alloc, *generated)?,
-            sources: path(alloc, *sources)?,
+            generated: text(alloc, *generated)?,
+            name: text(alloc, *name)?,
+            sources: text(alloc, *sources)?,
         });
         check_that(words, ask_for(alloc, line.as_str(), Some(command))?)?;
+    }
+    Ok(())
+}
+
+#[test]
+fn words_out_of_order_ask_for_nothing(rt: HostRuntime) -> Checked {
+    let alloc = rt.alloc();
+    for words in NO_OPTIONS.iter() {
+        let line = format!(in alloc; "check{words}")?;
+        check_that(words, ask_for(alloc, line.as_str(), None)?)?;
     }
     Ok(())
 }

@@ -14,6 +14,8 @@ mod composes;
 #[cfg(test)]
 mod fake_files;
 #[cfg(test)]
+mod index_checks;
+#[cfg(test)]
 mod io_errors;
 #[cfg(test)]
 mod memory;

@@ -13,7 +13,7 @@ pub const MAP: &str =
     r#"{"version":3,"sources":["coolstuff.js"],"names":["x","alert"],"mappings":"AAAA,GAAIA,GAAI,EACR,IAAIA,GAAK,EAAG,CACVC,MAAM"}"#;
 
 pub const USAGE: &str =
-    "usage: lookup [--from-1] LINE COL | tokens | rewrite | flatten | compose FILE | shift ROWS | trace [--from-1] FILE | compile [--without-contents] | check [--json] [--strict] [--generated FILE] [--sources DIR]\n";
+    "usage: lookup [--from-1] LINE COL | tokens | rewrite | flatten | compose FILE | shift ROWS | trace [--from-1] FILE | compile [--without-contents] | check [--json] [--strict] [--generated FILE] [--name NAME] [--sources DIR]\n";
 
 // Words, a map, and the status and output of the run.
 pub const RUNS: &str = r#"lookup 0 5|MAP|0 coolstuff.js:0:4 name=x

@@ -304,7 +304,7 @@ extern "C" {
     pub fn sm_compiled_file(bytes: *const u8, length: usize, text: *mut Text) -> Code;
 
     pub fn sm_check(report: *mut Handle, bytes: *const u8, length: usize, has_generated: bool, generated: *const u8, generated_length: usize, most: u32, error: *mut Error) -> Code;
-    pub fn sm_check_files(report: *mut Handle, bytes: *const u8, length: usize, has_generated: bool, generated: *const u8, generated_length: usize, files: *const Text, count: usize, most: u32, error: *mut Error) -> Code;
+    pub fn sm_check_files(report: *mut Handle, bytes: *const u8, length: usize, has_generated: bool, generated: *const u8, generated_length: usize, name: *const u8, name_length: usize, has_files: bool, files: *const Text, count: usize, most: u32, error: *mut Error) -> Code;
     pub fn sm_report_count(report: *mut Handle, counts: *mut ReportCounts) -> Code;
     pub fn sm_report_finding(report: *mut Handle, index: u32, finding: *mut Finding) -> Code;
     pub fn sm_report_sections(report: *mut Handle, index: u32, sections: *mut usize, capacity: usize, count: *mut usize) -> Code;

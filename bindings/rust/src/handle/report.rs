@@ -12,37 +12,10 @@ pub(crate) struct ReportHandle(Handle);
 
 impl ReportHandle {
     pub fn of(bytes: &[u8], options: &CheckOptions<'_>) -> Result<ReportHandle> {
-        match options.files {
-            Some(files) => ReportHandle::beside(bytes, options, files),
-            None => ReportHandle::alone(bytes, options),
-        }
-    }
-
-    fn alone(bytes: &[u8], options: &CheckOptions<'_>) -> Result<ReportHandle> {
         let (has_text, at, length) = optional(options.generated);
-        // SAFETY: both are where they say.
-        let report = Handle::fill(|report, error| unsafe {
-            ffi::sm_check(
-                report,
-                bytes.as_ptr(),
-                bytes.len(),
-                has_text,
-                at,
-                length,
-                options.most,
-                error,
-            )
-        })?;
-        Ok(ReportHandle(report))
-    }
-
-    fn beside(
-        bytes: &[u8],
-        options: &CheckOptions<'_>,
-        files: &[Option<Vec<u8>>],
-    ) -> Result<ReportHandle> {
-        let (has_text, at, length) = optional(options.generated);
-        let texts: Vec<ffi::Text> = files.iter().map(text_of_file).collect();
+        let name = options.name.unwrap_or_default();
+        let files = options.files.unwrap_or_default().iter();
+        let texts: Vec<ffi::Text> = files.map(text_of_file).collect();
         // SAFETY: all are where they say.
         let report = Handle::fill(|report, error| unsafe {
             ffi::sm_check_files(
@@ -52,6 +25,9 @@ impl ReportHandle {
                 has_text,
                 at,
                 length,
+                name.as_ptr(),
+                name.len(),
+                options.files.is_some(),
                 texts.as_ptr(),
                 texts.len(),
                 options.most,

@@ -98,8 +98,13 @@ fn beside_a_text() {
 }
 
 fn printed(json: &str, text: Option<&str>) -> Vec<String> {
+    printed_beside(json, text, None)
+}
+
+fn printed_beside(json: &str, text: Option<&str>, name: Option<&str>) -> Vec<String> {
     let options = CheckOptions {
         generated: text,
+        name,
         ..CheckOptions::default()
     };
     let report = check(json.as_bytes(), &options).expect("a report");
@@ -124,10 +129,56 @@ fn what_looks_wrong() {
             Some("a"),
             "mappings at 0:2: SM232 the generated line has fewer columns",
         ),
+        (
+            r#"{"version":3,"sections":[{"offset":{"line":1,"column":1},"map":
+                {"version":3,"sources":[],"mappings":"A,C"}}]}"#,
+            Some("a\nb"),
+            "mappings at 1:2: SM232 the generated line has fewer columns",
+        ),
     ];
     for (json, text, wanted) in rows {
         assert_eq!(printed(json, text), [wanted]);
     }
+}
+
+#[test]
+fn a_reference_and_the_name_of_the_map() {
+    let json = r#"{"version":3,"sources":[],"mappings":""}"#;
+    let other = ": SM225 the reference of the generated text ends in another file name";
+    let rows: [(&str, Option<&str>, &[&str]); 8] = [
+        ("//# sourceMappingURL=b.js.map", Some("a.js.map"), &[other]),
+        ("//# sourceMappingURL=a.js.map", Some("a.js.map"), &[]),
+        (
+            "//# sourceMappingURL=maps/a.js.map?v=1",
+            Some("a.js.map"),
+            &[],
+        ),
+        ("//# sourceMappingURL=a%20b.js.map", Some("a b.js.map"), &[]),
+        (
+            "//# sourceMappingURL=data:application/json;base64,e30=",
+            Some("a.js.map"),
+            &[],
+        ),
+        ("x", Some("a.js.map"), &[]),
+        ("//# sourceMappingURL=b.js.map", None, &[]),
+        ("//# sourceMappingURL=b.js.map", Some(""), &[]),
+    ];
+    for (text, name, wanted) in rows {
+        assert_eq!(printed_beside(json, Some(text), name), wanted, "{text}");
+    }
+    assert!(printed_beside(json, None, Some("a.js.map")).is_empty());
+}
+
+#[test]
+fn a_name_without_files() {
+    let text = "//# sourceMappingURL=b.js.map";
+    assert_eq!(
+        printed_beside(&of_mappings("AAAA"), Some(text), Some("a.js.map")),
+        [
+            "sources[0]: SM214 the map has no contents for the source",
+            ": SM225 the reference of the generated text ends in another file name"
+        ]
+    );
 }
 
 #[test]
@@ -167,6 +218,9 @@ fn beside_files() {
     for (files, codes) in rows {
         assert_eq!(codes_beside(&json, files), codes);
     }
+    for (files, codes) in rows {
+        assert_eq!(codes_beside(&wrapped(&json), files), codes);
+    }
     let other = r#"{"version":3,"sources":["a.js"],"sourcesContent":["xyz"],"mappings":"AAAE"}"#;
     assert_eq!(codes_beside(other, &[Some(b"x".to_vec())]), [226]);
 }
@@ -186,7 +240,10 @@ fn files_in_a_folder() {
     let mut wanted = vec![None; 9];
     wanted[0] = Some(b"y".to_vec());
     assert_eq!(found.expect("files"), wanted);
-    assert!(index.expect("no files").is_empty());
+    // a flat map has each source once, and null is an empty name
+    assert_eq!(index.expect("files"), wanted[..8]);
+    let hollow = br#"{"version":3,"sections":[{"offset":{"line":0,"column":0}}]}"#;
+    assert!(source_files(hollow, &folder).expect("no files").is_empty());
     assert!(source_files(b"", &folder).expect("no files").is_empty());
 }
 

@@ -18,8 +18,8 @@ returns-clause-findings c =
       findings = findings.1;
       reports = findings.2;
       looks_wrong = subst
-          (λ b. AreShown c.args.most b c.args.bytes.now (option_copied c.args.generated) (option_copied c.args.files)
-          c.in_ok-found.found) is c.in_ok-found.ensures.shown;
+          (λ b. AreShown c.args.most b c.args.bytes.now (option_copied c.args.generated) (option_copied c.args.name)
+          (option_copied c.args.files) c.in_ok-found.found) is c.in_ok-found.ensures.shown;
       places = c.in_ok-checked.ensures.places;
       entries_are = rw c.as_slice.ensures.value at c.in_ok-entries.ensures;
       invalid = c.total.ensures;
@@ -34,8 +34,9 @@ returns-clause-verdict c =
     (c.is_empty-is_valid.ensures ∙ ap (λ n. n == 0) kept.ok.0) in
     let counted = rw c.count_of.ensures at c.verdict_of-verdict.ensures in
     subst
-    (λ v. HasVerdict c.args.most v c.args.bytes.now (option_copied c.args.generated) (option_copied c.args.files))
+    (λ v. HasVerdict c.args.most v c.args.bytes.now (option_copied c.args.generated) (option_copied c.args.name)
+    (option_copied c.args.files))
     (sym counted)
-    (verdict_holds c.args.most findings.0 c.args.bytes.now (option_copied c.args.generated) (option_copied c.args.files)
-    c.in_ok-found.found (c.validity_is_decided.ensures.valid c.args.bytes.now findings.0 findings.1)
+    (verdict_holds c.args.most findings.0 c.args.bytes.now (option_copied c.args.generated) (option_copied c.args.name)
+    (option_copied c.args.files) c.in_ok-found.found (c.validity_is_decided.ensures.valid c.args.bytes.now findings.0 findings.1)
     c.is_empty-is_valid.result is c.in_ok-found.ensures.shown)

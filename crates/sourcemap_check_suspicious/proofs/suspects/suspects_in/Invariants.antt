@@ -5,4 +5,4 @@ use Rattle.sourcemap_check_suspicious.proofs.suspects.suspects_in.Given as goal
 
 abbrev pub invariant-loop-suspicion : goal.invariant-loop-suspicion
 invariant-loop-suspicion l = SuspectsSoFar l.most (text_map_value l.map) (option_copied l.generated)
-    (option_copied l.files) l.suspicion-index l.found
+    (option_copied l.name) (option_copied l.files) l.suspicion-index l.found
