@@ -3,7 +3,7 @@ ghost use Rattle.std.specs.Prelude.{◌≡◌, ◌≢◌, [], None, IfOk, IfErr,
 ghost use Rattle.std.specs.Option.{option_copied};
 ghost use Rattle.sourcemap_errors.specs.Answer.{Gives};
 ghost use Rattle.sourcemap_errors.specs.declared.errors.Error.TheVariants.{OutOfMemory};
-ghost use Rattle.sourcemap_check_suspicious.specs.Reading.{text_map_value};
+ghost use Rattle.sourcemap_check_suspicious.specs.Reading.{AreTextDoubts, text_map_value};
 ghost use Rattle.sourcemap_check_suspicious.specs.declared.suspects.Suspicion.TheVariants.{Contents, Generated, Item, OtherReference, Ranges};
 ghost use Rattle.sourcemap_check_suspicious.specs.Suspects.{Adds, AreSuspects, HasNone, LooksWrong, LooksWrongOf, has_other_id, has_other_reference, is_covered, is_range_doubt, suspects_of};
 
@@ -13,8 +13,7 @@ use crate::shifted::{Shifted, shifts_of};
 use sourcemap_check_links::links::{other_id, other_reference};
 use sourcemap_check_lists::contents::{ContentsDoubt, doubtful_contents};
 use sourcemap_check_lists::lists::{ListDoubt, doubtful_items};
-use sourcemap_check_order::order::segments_back;
-use sourcemap_check_order::ranges::{RangeDoubt, doubtful_ranges};
+use sourcemap_check_order::ranges::RangeDoubt;
 use sourcemap_check_texts::generated::{GeneratedDoubt, doubtful_positions};
 use sourcemap_check_texts::tokens::{Doubt, doubtful_tokens};
 use sourcemap_errors::errors::{Error, Result};
@@ -102,13 +101,13 @@ pub struct Suspicious {
 fn add_generated(
     alloc: Global,
     found: &mut Suspects,
-    map: &TextMap,
+    map: &SourceMap,
     generated: Option<&SourceView>,
     doubt: GeneratedDoubt,
     most: usize,
 ) -> Result<()>
-    ensures added { (name files : _) → OnOk result (Adds most
-        (suspects_of (Generated doubt) (text_map_value map.now) (option_copied generated.entry) name
+    ensures added { (mappings ranges name files : _) → OnOk result (Adds most
+        (suspects_of (Generated doubt) (text_map_value map.now mappings ranges) (option_copied generated.entry) name
         files)
         found.old found.new) }
     ensures memory { IfErr result (λ e. e ≡ OutOfMemory) }
@@ -116,8 +115,8 @@ fn add_generated(
     let Some(generated) = generated else {
         return Ok(());
     };
-    let places = doubtful_positions(alloc, &map.map, generated, doubt, most)?;
-    add_tokens(found, &map.map, Suspicion::Generated(doubt), &places)
+    let places = doubtful_positions(alloc, map, generated, doubt, most)?;
+    add_tokens(found, map, Suspicion::Generated(doubt), &places)
 }
 
 fn is_range_doubt(doubt: RangeDoubt, found: Option<RangeDoubt>) -> bool
@@ -128,27 +127,6 @@ fn is_range_doubt(doubt: RangeDoubt, found: Option<RangeDoubt>) -> bool
         (RangeDoubt::NoFormat, Some(RangeDoubt::NoFormat)) => true,
         _ => false,
     }
-}
-
-fn add_ranges(
-    alloc: Global,
-    found: &mut Suspects,
-    map: &TextMap,
-    doubt: RangeDoubt,
-    most: usize,
-) -> Result<()>
-    ensures added { (generated name files : _) → OnOk result (Adds most
-        (suspects_of (Ranges doubt) (text_map_value map.now) generated name files)
-        found.old found.new) }
-    ensures memory { IfErr result (λ e. e ≡ OutOfMemory) }
-{
-    let doubts = doubtful_ranges(alloc, map.mappings.as_str(), map.ranges.as_str())?;
-    add_if(
-        found,
-        Suspicion::Ranges(doubt),
-        is_range_doubt(doubt, doubts),
-        most,
-    )
 }
 
 // Files say themselves which sources have neither contents nor a file.
@@ -165,20 +143,20 @@ fn is_covered(doubt: ListDoubt, files: Option<&[Option<SourceView>]>) -> bool
 fn add_listed(
     alloc: Global,
     found: &mut Suspects,
-    map: &TextMap,
+    map: &SourceMap,
     files: Option<&[Option<SourceView>]>,
     doubt: ListDoubt,
     most: usize,
 ) -> Result<()>
-    ensures added { (generated name : _) → OnOk result (Adds most
-        (suspects_of (Item doubt) (text_map_value map.now) generated name (option_copied files.entry))
+    ensures added { (mappings ranges generated name : _) → OnOk result (Adds most
+        (suspects_of (Item doubt) (text_map_value map.now mappings ranges) generated name (option_copied files.entry))
         found.old found.new) }
     ensures memory { IfErr result (λ e. e ≡ OutOfMemory) }
 {
     if is_covered(doubt, files) {
         return Ok(());
     }
-    let places = doubtful_items(alloc, &map.map, doubt, most)?;
+    let places = doubtful_items(alloc, map, doubt, most)?;
     add_items(found, Suspicion::Item(doubt), &places)
 }
 
@@ -186,13 +164,13 @@ fn add_listed(
 fn add_contents(
     alloc: Global,
     found: &mut Suspects,
-    map: &TextMap,
+    map: &SourceMap,
     files: Option<&[Option<SourceView>]>,
     doubt: ContentsDoubt,
     most: usize,
 ) -> Result<()>
-    ensures added { (generated name : _) → OnOk result (Adds most
-        (suspects_of (Contents doubt) (text_map_value map.now) generated name
+    ensures added { (mappings ranges generated name : _) → OnOk result (Adds most
+        (suspects_of (Contents doubt) (text_map_value map.now mappings ranges) generated name
         (option_copied files.entry))
         found.old found.new) }
     ensures memory { IfErr result (λ e. e ≡ OutOfMemory) }
@@ -200,7 +178,7 @@ fn add_contents(
     let Some(files) = files else {
         return Ok(());
     };
-    let places = doubtful_contents(alloc, &map.map, files, doubt, most)?;
+    let places = doubtful_contents(alloc, map, files, doubt, most)?;
     add_items(found, Suspicion::Contents(doubt), &places)
 }
 
@@ -260,9 +238,11 @@ fn add_all(
     suspicion: Suspicion,
     most: usize,
 ) -> Result<()>
-    ensures added { OnOk result (Adds most
-        (suspects_of suspicion (text_map_value map.now) (option_copied generated.entry)
-        (option_copied name.entry) (option_copied files.entry)) found.old found.new) }
+    ensures added { (mappings ranges : _) → AreTextDoubts most mappings ranges map.now.doubts
+        → OnOk result (Adds most
+        (suspects_of suspicion (text_map_value map.now.map mappings ranges)
+        (option_copied generated.entry) (option_copied name.entry) (option_copied files.entry))
+        found.old found.new) }
     ensures memory { IfErr result (λ e. e ≡ OutOfMemory) }
 {
     match suspicion {
@@ -270,25 +250,28 @@ fn add_all(
             let places = doubtful_tokens(alloc, &map.map, files, doubt, most)?;
             add_tokens(found, &map.map, suspicion, &places)
         }
-        Suspicion::Item(doubt) => add_listed(alloc, found, map, files, doubt, most),
-        Suspicion::SegmentBack => {
-            let places = segments_back(alloc, map.mappings.as_str(), most)?;
-            add_segments(found, &places)
+        Suspicion::Item(doubt) => add_listed(alloc, found, &map.map, files, doubt, most),
+        Suspicion::SegmentBack => add_segments(found, &map.doubts.back),
+        Suspicion::Ranges(doubt) => {
+            let holds = is_range_doubt(doubt, map.doubts.ranges);
+            add_if(found, suspicion, holds, most)
         }
-        Suspicion::Ranges(doubt) => add_ranges(alloc, found, map, doubt, most),
         Suspicion::OtherDebugId => {
             add_if(found, suspicion, has_other_id(&map.map, generated), most)
         }
         Suspicion::OtherReference => add_reference(alloc, found, generated, name, most),
-        Suspicion::Contents(doubt) => add_contents(alloc, found, map, files, doubt, most),
-        Suspicion::Generated(doubt) => add_generated(alloc, found, map, generated, doubt, most),
+        Suspicion::Contents(doubt) => add_contents(alloc, found, &map.map, files, doubt, most),
+        Suspicion::Generated(doubt) => {
+            add_generated(alloc, found, &map.map, generated, doubt, most)
+        }
     }
 }
 
 /// What looks wrong in a map, and with a generated text and the files of its sources also beside
 /// them: the first `most` of each kind, in the order of codes, and how many there are of all kinds.
 /// `name` is that of the map's file, for the reference of the generated text. The original positions
-/// in a source without contents are looked at beside its file. The only error is `OutOfMemory`.
+/// in a source without contents are looked at beside its file. `map` is read with the same `most`. The
+/// only error is `OutOfMemory`.
 pub fn suspects_in(
     alloc: Global,
     map: &TextMap,
@@ -297,9 +280,9 @@ pub fn suspects_in(
     files: Option<&[Option<SourceView>]>,
     most: usize,
 ) -> Result<Suspects>
-    ensures suspects { IfOk result
-        (AreSuspects most (text_map_value map.now) (option_copied generated.entry)
-        (option_copied name.entry) (option_copied files.entry)) }
+    ensures suspects { (mappings ranges : _) → AreTextDoubts most mappings ranges map.now.doubts
+        → IfOk result (AreSuspects most (text_map_value map.now.map mappings ranges)
+        (option_copied generated.entry) (option_copied name.entry) (option_copied files.entry)) }
     ensures memory { IfErr result (λ e. e ≡ OutOfMemory) }
 {
     let mut found = no_suspects(alloc);
@@ -339,9 +322,9 @@ fn look_at(
     files: Option<&[Option<SourceView>]>,
     most: usize,
 ) -> Result<Suspicious>
-    ensures wrong { IfOk result
-        (LooksWrong most (text_map_value map.now) (option_copied generated.entry)
-        (option_copied name.entry) (option_copied files.entry)) }
+    ensures wrong { (mappings ranges : _) → AreTextDoubts most mappings ranges map.now.doubts
+        → IfOk result (LooksWrong most (text_map_value map.now.map mappings ranges)
+        (option_copied generated.entry) (option_copied name.entry) (option_copied files.entry)) }
     ensures memory { IfErr result (λ e. e ≡ OutOfMemory) }
 {
     let places = suspects_in(alloc, map, generated, name, files, most)?;
@@ -381,7 +364,7 @@ pub fn suspicious_beside(
         (option_copied name.entry) (option_copied files.entry)) }
     ensures memory { IfErr result (λ e. e ≡ OutOfMemory) }
 {
-    match read_text_map(alloc, bytes) {
+    match read_text_map(alloc, bytes, most) {
         Ok(map) => look_at(alloc, &map, generated, name, files, most),
         Err(error) => nothing_after(alloc, &error),
     }

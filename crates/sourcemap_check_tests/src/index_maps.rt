@@ -68,7 +68,11 @@ static MAPS: [(&str, &str, Option<&str>, &str); 7] = [
 #[test]
 fn index_maps_look_wrong(rt: HostRuntime) -> Checked {
     for (name, keys, generated, found) in &MAPS {
-        check(name, suspects_text(rt.alloc(), keys, *generated, None), found)?;
+        check(
+            name,
+            suspects_text(rt.alloc(), keys, *generated, None),
+            found,
+        )?;
     }
     Ok(())
 }

@@ -130,7 +130,7 @@ pub(crate) fn suspects_text(
     name: Option<&str>,
 ) -> Result<String> {
     let json = format!(in alloc; "{{\"version\":3,{keys}}}")?;
-    let map = read_text_map(alloc, json.as_bytes())?;
+    let map = read_text_map(alloc, json.as_bytes(), 2)?;
     let mut view = None;
     if let Some(text) = generated {
         view = Some(SourceView::new(alloc, text)?);

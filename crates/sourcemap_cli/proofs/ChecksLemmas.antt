@@ -10,7 +10,7 @@ use Rattle.sourcemap_errors.specs.Answer.{UnlessMemory}
 use Rattle.sourcemap_errors.specs.declared.errors.Error.{Error}
 use Rattle.sourcemap_errors.specs.declared.errors.Error.TheVariants.{OutOfMemory}
 use Rattle.sourcemap_records.specs.Bytes.{BytesHaveResult}
-use Rattle.sourcemap_check_suspicious.specs.Reading.{TextMapDecodes}
+use Rattle.sourcemap_check_suspicious.specs.Reading.{IsMapOf, TextMapDecodes, text_map_value}
 use Rattle.sourcemap_cli.specs.Checks.{AreBelow, AreSourceFiles, StaysBelow}
 
 or_false : (a b : Bool) → a ≡ false → b ≡ false → (a || b) ≡ false
@@ -89,6 +89,12 @@ BelowSoFar-all m files i so_far is = record {
 with_memory : (e : Error) (P : Type 0) → e ≢ OutOfMemory → UnlessMemory e P → P
 with_memory OutOfMemory P is h = absurd (is refl)
 with_memory _ P is h = h
+
+-- the files of the sources of a map are those of the bytes that decode to it
+pub of_decoded : (bytes : List ℕ) (m : MapValue) (r : Result (Vec (Option (List ℕ)) Global) Error) → IsMapOf bytes m
+    → IfOk r (λ files. AreBelow m files.items) → IfOk r (λ files. AreSourceFiles bytes files.items)
+of_decoded bytes m (Ok files) is below = (Ok (text_map_value m is.mappings is.ranges), is.decodes, below)
+of_decoded bytes m (Err e) is below = tt
 
 -- bytes that do not decode have no files
 pub none_undecoded : (bytes : List ℕ) (e : Error) (r : Result (Vec (Option (List ℕ)) Global) Error)

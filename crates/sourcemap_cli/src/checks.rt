@@ -13,7 +13,7 @@ use crate::program::{Reply, into_reply, text_reply};
 use sourcemap::{Error, Result};
 use sourcemap_check_print::findings::Verdict;
 use sourcemap_check_print::print::{CheckText, check_text};
-use sourcemap_check_suspicious::reading::read_text_map;
+use sourcemap_check_suspicious::reading::read_map;
 use sourcemap_map_regular::map::SourceMap;
 use sourcemap_source_views::sourceview::SourceView;
 use std::alloc::Global;
@@ -182,7 +182,7 @@ fn source_files<F: Files>(
 }
 
 // The texts of the files of sources below a folder, if there is a folder. There are none for bytes
-// that `read_text_map` does not decode.
+// that `read_map` does not decode.
 fn files_below<F: Files>(
     rt: &F,
     alloc: Global,
@@ -206,8 +206,8 @@ fn map_files<F: Files>(
     ensures files { IfOk result (λ files. AreSourceFiles bytes.now files.items) }
     ensures error { IfErr result IsReadFailure }
 {
-    match read_text_map(alloc, bytes) {
-        Ok(map) => source_files(rt, alloc, folder, &map.map),
+    match read_map(alloc, bytes) {
+        Ok(map) => source_files(rt, alloc, folder, &map),
         Err(error) => no_files_after(alloc, &error),
     }
 }
