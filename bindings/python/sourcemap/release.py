@@ -8,7 +8,7 @@ import threading
 import uuid
 from collections import OrderedDict
 from pathlib import Path
-from typing import TYPE_CHECKING, Callable, Dict, Iterable, Iterator, List, Literal, NamedTuple, Optional, Tuple, Union
+from typing import TYPE_CHECKING, Callable, Dict, Iterable, Iterator, List, Literal, NamedTuple, Optional, Set, Tuple, Union
 
 from . import _cache
 from ._compiled import CompiledMap
@@ -124,7 +124,7 @@ class Release:
         self._token = token
         self._lock = threading.RLock()
         self._files: Optional[_Files] = None
-        self._ids: Optional[Dict[uuid.UUID, List[Path]]] = None
+        self._ids: Optional[Dict[uuid.UUID, List[Match]]] = None
         self._keys: Dict[Path, str] = {}
         self._answers: Dict[Tuple[Optional[str], Optional[str]], Match] = {}
         self._compiled: Dict[str, Union[Compiled, Problem]] = {}
@@ -169,7 +169,7 @@ class Release:
         if not file:
             return Match(why='no file is named')
         match = self._of_file(file)
-        if debug_id is not None and match.map is not None and self._id_of(match) not in (None, debug_id):
+        if debug_id is not None and match.map is not None and not self._ids_of(match) <= {debug_id}:
             return Match(generated=match.generated, why=f'the map of {file} has another debug id than {debug_id}')
         return match
 
@@ -179,22 +179,22 @@ class Release:
         """The map of this debug id; None if no map has it."""
         if self._ids is None:
             self._ids = self._list_ids()
-        maps = self._ids.get(debug_id, [])
-        return self._only([Match(path, 'debug id', generated) for path in maps]) if maps else None
+        found = self._ids.get(debug_id, [])
+        return self._only([each._replace(generated=generated or each.generated) for each in found]) if found else None
 
-    def _list_ids(self) -> Dict[uuid.UUID, List[Path]]:
+    def _list_ids(self) -> Dict[uuid.UUID, List[Match]]:
         """The maps by their debug ids. If no map has the id of a generated file, its map counts."""
         listed = sorted(self._listed().paths)
-        ids: Dict[uuid.UUID, List[Path]] = {}
+        ids: Dict[uuid.UUID, List[Match]] = {}
         for path in (self._path(parts) for parts in listed if parts[-1].endswith('.map')):
             found = self._id_of_map(path)
             if found is not None:
-                ids.setdefault(found, []).append(path)
-        of_generated: Dict[uuid.UUID, List[Path]] = {}
+                ids.setdefault(found, []).append(Match(path, 'debug id'))
+        of_generated: Dict[uuid.UUID, List[Match]] = {}
         for parts in (parts for parts in listed if parts[-1].endswith(_GENERATED)):
-            found, path = self._id_of_generated(parts)
-            if found is not None and found not in ids and path not in of_generated.setdefault(found, []):
-                of_generated[found].append(path)
+            found, match = self._id_of_generated(parts)
+            if found is not None and found not in ids:
+                of_generated.setdefault(found, []).append(match)
         return {**ids, **of_generated}
 
     def _id_of_map(self, path: Path) -> Optional[uuid.UUID]:
@@ -205,17 +205,22 @@ class Release:
             return None
         return self._id_of(Match(path))
 
-    def _id_of_generated(self, parts: Parts) -> Tuple[Optional[uuid.UUID], Path]:
-        """The debug id in the comment of a generated file, and the file of its map."""
-        path = self._path(parts)
-        text = self._text_of(path)
+    def _id_of_generated(self, parts: Parts) -> Tuple[Optional[uuid.UUID], Match]:
+        """The debug id in the comment of a generated file, and its map. None if it has no such map."""
+        text = self._text_of(self._path(parts))
         found = None if text is None else _id_in(text)
         if text is None or found is None:
-            return None, path
+            return None, Match()
         match = self._by_reference(parts, text) or self._beside(parts)
         if match is None or match.map is None or self._id_of(match) not in (None, found):
-            return None, path
-        return found, match.map
+            return None, Match()
+        return found, match._replace(by='debug id')
+
+    def _ids_of(self, match: Match) -> Set[uuid.UUID]:
+        """The debug ids that a map and its generated file have."""
+        text = None if match.generated is None else self._text_of(match.generated)
+        found = self._id_of(match), None if text is None else _id_in(text)
+        return {each for each in found if each is not None}
 
     def _id_of(self, match: Match) -> Optional[uuid.UUID]:
         """The debug id that a map has itself."""

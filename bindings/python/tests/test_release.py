@@ -140,6 +140,16 @@ class DebugIds(Folder):
         self.assertEqual(release.find('unknown.js', ID)[:2], (beside, 'debug id'))
         self.assertIsNone(release.find('unknown.js', OTHER_ID).map)
 
+    def test_map_in_the_generated_file(self) -> None:
+        with Map(regular('AAAA')) as map:
+            path = self.put('app.js', f'run();\n//# debugId={ID}\n//# sourceMappingURL={map.to_data_url()}')
+        release = self.release()
+        for file, id in ('app.js', None), ('unknown.js', ID), (None, ID):
+            match = release.find(file, id)
+            self.assertEqual((match.map, match.by, match.generated, match.embedded), (path, 'debug id', path, True))
+            with release.open(file, id) as compiled:
+                self.assertEqual(str(compiled.lookup(0, 0)), 'a.js:0:0')
+
     def test_no_comment(self) -> None:
         beside = self.put_map('app.js.map')
         for text in f'x(); //# debugId={ID}', f'//# debugId={ID}x', f'"//# debugId={ID}"', '//# debugId=', f'//# debugId={ID[:-1]}':
@@ -152,6 +162,13 @@ class DebugIds(Folder):
         self.assertEqual((match.map, match.why), (None, f'the map of app.js has another debug id than {ID}'))
         self.assertEqual(self.release().find('app.js', 'no id').map, map)
         self.assertEqual(self.release().find('app.js').map, map)
+
+    def test_a_generated_file_of_another_build_is_not_used(self) -> None:
+        self.put('app.js', f'run();\n//# debugId={OTHER_ID}')
+        map = self.put_map('app.js.map')
+        match = self.release().find('app.js', ID)
+        self.assertEqual((match.map, match.why), (None, f'the map of app.js has another debug id than {ID}'))
+        self.assertEqual(self.release().find('app.js', OTHER_ID)[:2], (map, 'debug id'))
 
     def test_a_map_without_an_id_is_used(self) -> None:
         map = self.put_map('app.js.map')
