@@ -18,8 +18,10 @@ from numpy.typing import NDArray
 
 SUFFIXES = {'.csv': 'csv', '.jsonl': 'json', '.ndjson': 'json'}
 LONGEST_ROW = 64 << 20
-# A piece has about so many rows at most, since a row takes memory however short it is. The first bytes tell their length.
+# A piece has about so many rows and fields at most, since each takes memory however short it is. The first bytes tell
+# their length.
 MOST_ROWS = 150_000
+MOST_FIELDS = 500_000
 FIRST = 1 << 16
 MARK = b'\xef\xbb\xbf'
 
@@ -126,7 +128,8 @@ class Table:
     def _adapt(self, block: bytes, end: int) -> None:
         """Sets the size of the next piece, whose rows are taken to be as long as those in the block up to `end`."""
         count = int(np.count_nonzero(np.frombuffer(block, np.uint8, end) == ord('\n')))
-        self._size = min(self._most, MOST_ROWS * end // count) if count else self._most
+        rows = min(MOST_ROWS, max(1, MOST_FIELDS // max(1, len(self.names))))
+        self._size = min(self._most, rows * end // count) if count else self._most
 
     def _grow(self, block: bytes, end_of: Callable[[bytes], int]) -> Tuple[bytes, int]:
         """The block, filled up to the size of a piece, with more bytes of the file until a row ends in it, and where its
