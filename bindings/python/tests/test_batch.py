@@ -2,16 +2,19 @@
 
 from __future__ import annotations
 
+import cProfile
 import doctest
 import os
+import pstats
 import random
 import re
 import resource
 import subprocess
 import sys
 import unittest
+from functools import partial
 from pathlib import Path
-from typing import Any, Dict, List
+from typing import Any, Callable, Dict, List
 from unittest import mock
 
 try:
@@ -21,7 +24,7 @@ except ImportError:
     raise unittest.SkipTest('pandas and numpy are not installed') from None
 
 import sourcemap
-from sourcemap import batch
+from sourcemap import CompiledMap, batch
 from sourcemap._tables.opened import OpenedMap
 
 from . import builds
@@ -35,6 +38,13 @@ MISSING = [None, pd.NA, pd.NA, None, None, None]
 
 def added(frame: pd.DataFrame) -> List[List[Any]]:
     return [[None if value is None else value for value in row] for row in frame[list(batch.COLUMNS)].values.tolist()]
+
+
+def calls_of(call: Callable[[], object]) -> int:
+    """How many functions a call calls, of Python and of C."""
+    profile = cProfile.Profile()
+    profile.runcall(call)
+    return sum(count for count, *_ in pstats.Stats(profile).stats.values())  # type: ignore[attr-defined]
 
 
 class Tables(Folder):
@@ -67,12 +77,29 @@ class Rows(Tables):
         self.assertEqual(found.status[2], 'bad position')
 
     def test_the_table_stays_as_it_is(self) -> None:
-        frames = pd.DataFrame({'event': ['b', 'a'], 'file': ['app.js'] * 2, 'line': [1, 1], 'column': [6, 19]}, index=[7, 3])
+        frames = pd.DataFrame({'function': ['b', None], 'file': ['app.js'] * 2, 'line': [1, 1], 'column': [6, 19]}, index=[7, 3])
         before = frames.copy()
         found = batch.symbolicate(frames, self.release())
         pd.testing.assert_frame_equal(frames, before)
         pd.testing.assert_frame_equal(found[before.columns.tolist()], before)
         self.assertEqual(found.name.to_dict(), {7: 'x', 3: 'alert'})
+
+    def test_what_a_row_costs(self) -> None:
+        """Each map is asked once. For 4,900 rows more, which are those of before, no function is called more often, but
+        what the interpreter calls by itself."""
+        self.put_map('other.js.map')
+        release = self.release()
+        frames = pd.DataFrame({'file': ['app.js', 'other.js', 'app.js', 'none.js'] * 25, 'line': ['1', '1', 'x', '1'] * 25,
+                               'column': [6, 1, 1, 1] * 25})
+        costs = []
+        batch.symbolicate(frames, release)
+        for times in 1, 50:
+            rows = pd.concat([frames] * times)
+            with mock.patch.object(CompiledMap, 'lookup_many', autospec=True, side_effect=CompiledMap.lookup_many) as asked:
+                batch.symbolicate(rows, release)
+            self.assertEqual(asked.call_count, 2)
+            costs.append(calls_of(partial(batch.symbolicate, rows, release)))
+        self.assertLess(costs[1], costs[0] + 100)
 
     def test_bad_positions(self) -> None:
         values = [*WRONG, None, float('nan'), float('inf'), -1, 0, 2**32 + 1, 10**30, 1.5, [1], {}, 'é', '１', True, 1, 1.0,
@@ -98,6 +125,9 @@ class Rows(Tables):
         found = self.symbolicate([2**32, 1, 2**32 + 1], [2**32, 2**32, 1], 'range.js')
         self.assertEqual(found.status.tolist(), ['found', 'found', 'bad position'])
         self.assertEqual(found.source_column.tolist()[:2], [8, 2**32])
+        found = self.symbolicate([2**32 - 1, 2**32], [0, 0], 'range.js', zero_based=True)
+        self.assertEqual(found.status.tolist(), ['found', 'bad position'])
+        self.assertEqual(found.source_column[0], 7)
 
     def test_files_that_are_none(self) -> None:
         files = ['app.js', None, float('nan'), 3, ['app.js'], '', pd.NA, 'app.js']
@@ -243,11 +273,14 @@ class AsOneAtATime(Folder):
         built = builds.write(self.root)
         frames = pd.DataFrame(builds.rows(built, 3000), columns=['file', 'debug_id', 'line', 'column'])
         release = self.release()
-        lazy = sourcemap.dask.symbolicate(from_pandas(frames, npartitions=5), release)
-        expected = batch.symbolicate(frames, release)
-        self.assertEqual(lazy.dtypes.tolist(), expected.dtypes.tolist())
-        for scheduler in 'synchronous', 'threads', 'processes':
-            pd.testing.assert_frame_equal(lazy.compute(scheduler=scheduler), expected)
+        for zero_based, schedulers in (False, ('synchronous', 'threads', 'processes')), (True, ('threads',)):
+            lazy = sourcemap.dask.symbolicate(from_pandas(frames, npartitions=5), release, zero_based=zero_based)
+            expected = batch.symbolicate(frames, release, zero_based=zero_based)
+            self.assertEqual(lazy.dtypes.to_dict(), expected.dtypes.to_dict())
+            for part in lazy.to_delayed():
+                pd.testing.assert_frame_equal(part.compute(scheduler='synchronous')[:0], lazy._meta)
+            for scheduler in schedulers:
+                pd.testing.assert_frame_equal(lazy.compute(scheduler=scheduler), expected)
 
 
 class Page(Tables):

@@ -31,7 +31,7 @@ try:
 except ImportError:
     raise unittest.SkipTest('pandas and numpy are not installed') from None
 
-from sourcemap import batch
+from sourcemap import batch, dask
 from sourcemap.__main__ import main
 from sourcemap._tables import csv_rows, pieces
 from sourcemap._tables.pieces import Table
@@ -45,6 +45,9 @@ from .test_release import Folder
 HEAD = ['file', 'debug_id', 'line', 'column']
 COUNTS = re.compile(r'(\d+) rows: (\d+) found, (\d+) no map, (\d+) no token, (\d+) bad position, (\d+) bad map; '
                     r'\d+ frames a second')
+# runs the program as if some packages were not installed
+WITHOUT = ('import sys; sys.modules.update(dict.fromkeys({})); from sourcemap.__main__ import main; '
+           'sys.exit(main(sys.argv[1:]))')
 # how many seconds a step of a program may take, at most
 PATIENCE = 240
 needs_distributed = unittest.skipUnless(find_spec('distributed'), 'distributed is not installed')
@@ -107,12 +110,16 @@ class SameAnswers(Jobs):
         built = builds.write(self.root)
         rows = list(builds.rows(built, count))
         reference = Reference(built)
-        return rows, [reference.answer(row) for row in rows]
+        answers = [reference.answer(row) for row in rows]
+        self.assertEqual({row[0] for row, answer in zip(rows, answers) if answer[6] == 'found'}, {each.file for each in built})
+        return rows, answers
 
     @needs_distributed
-    def test_200_000_frames_in_four_ways(self) -> None:
-        """One at a time by `Map.lookup`; by one worker; by four; by a cluster with four workers at an address."""
-        from distributed import LocalCluster
+    def test_200_000_frames_in_five_ways(self) -> None:
+        """One at a time by `Map.lookup`; by one worker; by four; by a cluster with four workers at an address, as a table in
+        a file and as one of Dask."""
+        from dask.dataframe import from_pandas
+        from distributed import Client, LocalCluster
 
         rows, answers = self.build(200_000)
         wanted = answered(rows, answers)
@@ -124,6 +131,11 @@ class SameAnswers(Jobs):
                 n_workers=4, threads_per_worker=1, processes=True, dashboard_address=None,
                 local_directory=str(self.top)) as cluster:
             self.assertEqual(self.output_of(frames, '--dask', cluster.scheduler_address, '--partition', 500_000), wanted)
+            table = from_pandas(pandas.DataFrame(rows, columns=HEAD), npartitions=8)
+            with Client(cluster, set_as_default=False) as client:
+                found = client.compute(dask.symbolicate(table, self.release())).result(timeout=PATIENCE)
+        texts = found[list(batch.COLUMNS)].astype(object).fillna('').astype(str).values.tolist()
+        self.assertTrue(texts == [[field or '' for field in answer] for answer in answers])
 
     def test_formats(self) -> None:
         rows, answers = self.build(3000)
@@ -162,6 +174,24 @@ class SameAnswers(Jobs):
             found = self.output_of(frames, '--partition', 10_000, out='out.jsonl')
             self.assertEqual([json.loads(line) for line in found.splitlines()], wanted)
             self.assertEqual(gzip.decompress(self.output_of(frames, out='out.ndjson.gz')), found)
+
+    def test_rows_of_json_stay_as_they_are(self) -> None:
+        """The answers come after their own keys."""
+        self.put('app.js.map', README)
+        bad = ('"source":null,"source_line":null,"source_column":null,"name":null,"scope":null,"context_line":null,'
+               '"status":"bad position"}')
+        good = ('"source":"coolstuff.js","source_line":1,"source_column":5,"name":"x","scope":null,"context_line":null,'
+                '"status":"found"}')
+        rows = [('{ }', '{' + bad),
+                ('{"file":"app.js","line":1,"column":6}', '{"file":"app.js","line":1,"column":6,' + good),
+                ('{"line":1, "column":6.0, "file":"\\u0061pp.js", "x":1e400, "x":0.10 }',
+                 '{"line":1, "column":6.0, "file":"\\u0061pp.js", "x":1e400, "x":0.10,' + good),
+                ('{"file":["app.js"],"line":[1],"column":[6]}', '{"file":["app.js"],"line":[1],"column":[6],' + bad),
+                ('{"x":"\N{SNOWMAN}","file":"app.js","line":"1","column":"6"}',
+                 '{"x":"\N{SNOWMAN}","file":"app.js","line":"1","column":"6",' + good)]
+        text = '\ufeff' + '\r\n'.join(f' {row}' for row, _ in rows)
+        found = self.output_of(builds.put(self.top, 'f.jsonl', text.encode()), out='out.jsonl')
+        self.assertEqual(found.decode().split('\n'), [*(wanted for _, wanted in rows), ''])
 
     def test_zero_based(self) -> None:
         self.put('app.js.map', README)
@@ -373,6 +403,8 @@ class Errors(Jobs):
         self.check(frames, 'File too large', '--workers', 1, preexec_fn=limit)
         self.check(frames, 'File too large', '--workers', 1, '--partition', 10_000, preexec_fn=limit)
         self.check(frames, 'File too large', '--workers', 2, '--partition', 200_000, preexec_fn=limit)
+        run = self.run_job(frames, '-o', self.top / 'new.csv', '--workers', 2, '--partition', 200_000, preexec_fn=limit)
+        self.assertEqual((run.returncode, (self.top / 'new.csv').exists(), self.leftovers()), (1, False, []))
 
     def test_full_device(self) -> None:
         self.put('app.js.map', README)
@@ -401,6 +433,15 @@ class Errors(Jobs):
         self.addCleanup(subprocess.run, ['umount', small], check=True)
         self.check(frames, 'No space left on device', '--cache', small / 'cache')
         self.assertEqual([path for path in small.glob('cache/*/.*')], [])
+
+    @needs_distributed
+    def test_no_cluster(self) -> None:
+        """At this address nobody listens."""
+        frames = self.table('f.csv', [['file', 'line', 'column'], ['app.js', '1', '6']])
+        with mock.patch.dict(ENVIRONMENT, DASK_DISTRIBUTED__COMM__TIMEOUTS__CONNECT='1s'):
+            run = self.run_job(frames, '-o', self.top / 'out.csv', '--dask', 'tcp://127.0.0.1:1')
+        self.assertEqual((run.returncode, run.stdout, (self.top / 'out.csv').exists(), self.leftovers()), (1, '', False, []))
+        self.assertRegex(run.stderr.splitlines()[-1], 'sourcemap: .*tcp://127.0.0.1:1')
 
     def test_nobody_reads(self) -> None:
         built = builds.write(self.root)
@@ -481,8 +522,7 @@ class DamagedCache(Jobs):
 
 class WithoutDask(Jobs):
     def test_only_a_cluster_needs_it(self) -> None:
-        code = ('import sys; sys.modules.update(dict.fromkeys(["dask", "distributed"])); from sourcemap.__main__ import main; '
-                'sys.exit(main(sys.argv[1:]))')
+        code = WITHOUT.format(['dask', 'distributed'])
         self.put('app.js.map', README)
         frames = self.table('f.csv', [['file', 'line', 'column'], *[['app.js', '1', '6']] * 100])
         wanted = self.output_of(frames)
@@ -496,22 +536,44 @@ class WithoutDask(Jobs):
 
 
 class Bar(Jobs):
-    def test_only_on_a_terminal(self) -> None:
-        if find_spec('tqdm') is None:
-            self.skipTest('tqdm is not installed')
+    def setUp(self) -> None:
+        super().setUp()
         self.put('app.js.map', README)
-        frames = self.table('f.csv', [['file', 'line', 'column'], ['app.js', '1', '6']])
+        self.frames = self.table('f.csv', [['file', 'line', 'column'], ['app.js', '1', '6']])
+
+    def on_a_terminal(self, words: Sequence[str]) -> Tuple[int, str]:
+        """The status of a program, and what it shows."""
         main, terminal = pty.openpty()
-        program = subprocess.Popen(self.words(frames, '-o', self.top / 'out.csv'), stderr=terminal, cwd=FOLDER, env=ENVIRONMENT)
+        program = subprocess.Popen(words, stderr=terminal, cwd=FOLDER, env=ENVIRONMENT)
         os.close(terminal)
         shown = b''
         with contextlib.suppress(OSError):  # the end of a terminal that nobody has open any more
             while select.select([main], [], [], 600)[0]:
                 shown += os.read(main, 1000)
         os.close(main)
-        self.assertEqual(program.wait(), 0)
-        self.assertIn(b'100%', shown)
-        self.assertIn(b'1 rows: 1 found', shown)
+        return program.wait(), shown.decode()
+
+    @unittest.skipIf(find_spec('tqdm') is None, 'tqdm is not installed')
+    def test_on_a_terminal(self) -> None:
+        status, shown = self.on_a_terminal(self.words(self.frames, '-o', self.top / 'out.csv'))
+        self.assertEqual(status, 0)
+        self.assertIn('100%', shown)
+        self.assertIn('1 rows: 1 found', shown)
+
+    def test_nowhere_else(self) -> None:
+        run = self.run_job(self.frames, '-o', self.top / 'out.csv')
+        self.assertEqual((run.returncode, len(run.stderr.splitlines())), (0, 1))
+        self.assertRegex(run.stderr, COUNTS)
+
+    def test_without_tqdm(self) -> None:
+        """It is needed on a terminal alone."""
+        words = [sys.executable, '-c', WITHOUT.format(['tqdm']), *self.words(self.frames, '-o', self.top / 'out.csv')[3:]]
+        run = subprocess.run(words, cwd=FOLDER, env=ENVIRONMENT, capture_output=True, text=True)
+        self.assertEqual((run.returncode, (self.top / 'out.csv').exists()), (0, True), run.stderr)
+        (self.top / 'out.csv').unlink()
+        status, shown = self.on_a_terminal(words)
+        self.assertEqual((status, (self.top / 'out.csv').exists(), self.leftovers()), (1, False, []))
+        self.assertRegex(shown, 'sourcemap: tqdm is needed and cannot be imported .*python3-tqdm')
 
 
 def descendants(pid: int) -> Set[int]:
@@ -581,14 +643,15 @@ class Processes(Jobs):
         return False
 
     def check_killed(self, wanted: bytes, workers: Callable[[int], List[int]], *more: object) -> None:
-        """Workers are killed three times, one after another: the same bytes as without. `workers` returns those of the
-        program of a number."""
+        """Workers are killed three times, one after another, at random: the same bytes as without. `workers` returns those
+        of the program of a number."""
         drawn = random.Random()
         self.out.unlink()
         with self.started(*more) as program:
             killed = []
             for part in 0.05, 0.25, 0.45:
-                self.assertTrue(self.wait_for(program, int(part * len(wanted))), 'the table was written too early')
+                size = int((part + drawn.uniform(0, 0.1)) * len(wanted))
+                self.assertTrue(self.wait_for(program, size), 'the table was written too early')
                 killed.append(drawn.choice([each for each in workers(program.pid) if fields_of(each)]))
                 os.kill(killed[-1], signal.SIGKILL)
             _, errors = program.communicate(timeout=PATIENCE)
@@ -599,9 +662,11 @@ class Processes(Jobs):
     def test_killed_workers(self) -> None:
         self.check_killed(self.output_of(self.frames), workers_of, '--workers', 4)
 
-    def check_interrupted(self, stop: Callable[[int], None], *more: object) -> str:
-        """Returns what the program says."""
-        old = builds.put(self.top, 'out.csv', b'old')
+    def check_interrupted(self, stop: Callable[[int], None], *more: object, old: Optional[bytes] = b'old') -> str:
+        """Returns what the program says. `old` is the table that was there, if there was one."""
+        self.out.unlink(missing_ok=True)
+        if old is not None:
+            self.out.write_bytes(old)
         with self.started(*more) as program:
             self.assertTrue(self.wait_for(program, 100_000))
             workers = workers_of(program.pid)
@@ -610,7 +675,7 @@ class Processes(Jobs):
             _, errors = program.communicate(timeout=PATIENCE)
         self.assertEqual((program.returncode, errors.splitlines()[-1:]),
                          (130, ['sourcemap: interrupted, and no table was written']), errors)
-        self.assertEqual((old.read_bytes(), self.leftovers()), (b'old', []))
+        self.assertEqual((self.out.read_bytes() if self.out.exists() else None, self.leftovers()), (old, []))
         self.check_ended(workers)
         return errors
 
@@ -622,7 +687,7 @@ class Processes(Jobs):
 
     def test_interrupted(self) -> None:
         """By Ctrl-C in a terminal, which all processes get; by a signal to the program alone."""
-        self.check_interrupted(lambda pid: os.killpg(pid, signal.SIGINT), '--workers', 2)
+        self.check_interrupted(lambda pid: os.killpg(pid, signal.SIGINT), '--workers', 2, old=None)
         self.check_interrupted(lambda pid: os.kill(pid, signal.SIGTERM), '--workers', 2)
         self.check_interrupted(lambda pid: os.kill(pid, signal.SIGINT), '--workers', 1)
 
@@ -656,22 +721,39 @@ class Processes(Jobs):
             self.check_killed(wanted, lambda pid: [each.pid for each in cluster.workers.values() if each.pid], '--dask', address)
 
 
+@unittest.skipUnless(sys.platform == 'linux', 'memory is that of Linux')
 class Memory(Jobs):
-    @unittest.skipUnless(sys.platform == 'linux', 'memory is that of Linux')
-    def test_whatever_the_number_of_frames(self) -> None:
-        """A table of ten times the frames takes the same memory."""
-        rows = list(builds.rows(builds.write(self.root), 20_000))
+    def most_kilobytes(self, frames: Path, *more: object) -> int:
+        """The most memory that the program had, with one worker, which is the program."""
         code = ('import re, sys; from sourcemap.__main__ import main; status = main(sys.argv[1:]); '
                 'print(re.search("VmHWM:[^0-9]*([0-9]+)", open("/proc/self/status").read())[1]); sys.exit(status)')
-        most = []
-        for times in 2, 20:
-            frames = self.table('f.csv', [HEAD, *rows * times])
-            words = self.words(frames, '-o', self.top / 'out.csv', '--workers', 1, '--partition', 1_000_000)
-            run = subprocess.run([sys.executable, '-c', code, *words[3:]], cwd=FOLDER, env=ENVIRONMENT, check=True,
-                                 capture_output=True, text=True)
-            most.append(int(run.stdout))
-        self.assertLess(most[1] - most[0], 10_000, most)
-        self.assertLess(most[1], 300_000, most)
+        words = self.words(frames, '-o', self.top / f'out.{frames.name}', '--workers', 1, *more)
+        return int(subprocess.run([sys.executable, '-c', code, *words[3:]], cwd=FOLDER, env=ENVIRONMENT, check=True,
+                                  capture_output=True, text=True).stdout)
+
+    def test_whatever_the_number_of_frames(self) -> None:
+        """A table of six times the frames takes the same memory."""
+        rows = list(builds.rows(builds.write(self.root), 20_000))
+        lines = ''.join(json.dumps(dict(zip(HEAD, row))) + '\n' for row in rows).encode()
+        for name in 'f.csv', 'f.csv.gz', 'f.jsonl':
+            most = []
+            for times in 2, 12:
+                data = lines * times if 'json' in name else csv_of([HEAD, *rows * times])
+                frames = builds.put(self.top, name, gzip.compress(data, 1) if name.endswith('.gz') else data)
+                most.append(self.most_kilobytes(frames, '--partition', 1_000_000))
+            self.assertLess(most[1] - most[0], 10_000, (name, most))
+
+    def test_of_a_worker(self) -> None:
+        """Of whole partitions: of short rows, of wide ones, and of rows with much that is not used."""
+        builds.write(self.root)
+        row = {'file': '/srv/static/index.min.js', 'debug_id': builds.ID, 'line': 1, 'column': 5}
+        for name, data in [('short.csv', b'file,line,column\n' + b'root.js,1,5\n' * 400_000),
+                           ('wide.csv', (','.join(['file', 'line', 'column', *map(str, range(50))]) + '\n').encode()
+                            + b''.join(b'root.js,1,5' + b',%d' % number * 50 + b'\n' for number in range(60_000))),
+                           ('short.jsonl', (json.dumps(row) + '\n').encode() * 200_000),
+                           ('much.jsonl', (json.dumps({**row, 'more': [[]] * 2000}) + '\n').encode() * 2000)]:
+            most = self.most_kilobytes(builds.put(self.top, name, data))
+            self.assertLess(most, 300_000, name)
 
 
 if __name__ == '__main__':
