@@ -24,9 +24,10 @@ By = Literal['debug id', 'reference', 'beside', 'path']
 # the folders and the name of a file, below the folder of the release
 Parts = Tuple[str, ...]
 
-# How many answers of `find`, and how many open maps, a release keeps.
+# How many answers of `find`, and how many open maps, a release keeps, and about how many bytes these may take.
 MOST_ANSWERS = 20_000
 MOST_MAPS = 256
+MOST_BYTES = 64 << 20
 
 # Only such files are searched for comments with debug ids, unless they are asked for.
 _GENERATED = ('.js', '.mjs', '.cjs', '.css', '.bundle', '.jsbundle')
@@ -146,8 +147,8 @@ class Release:
 
     def find(self, file: Optional[str], debug_id: Optional[str] = None) -> Match:
         """The map of a generated file, which is named as stack traces do, by its path or URL, and by its debug id if
-        that is known. A debug id comes first. If no map has it, the file counts, but not a map that has another debug
-        id. A text that is no debug id counts as none.
+        that is known. A debug id comes first. If no map has it, the file counts, but not if its map or the generated
+        file has another debug id. A text that is no debug id counts as none.
 
         >>> import sourcemap
         >>> sourcemap.Release('.', cache='cache').find('other.js').why
@@ -387,9 +388,11 @@ class Release:
 
         with self._lock:
             if compiled.key not in self._opened:
-                while len(self._opened) >= MOST_MAPS:
-                    self._opened.popitem(last=False)
-                self._opened[compiled.key] = OpenedMap(compiled.path)
+                opened = OpenedMap(compiled.path)
+                size = opened.size + sum(each.size for each in self._opened.values())
+                while self._opened and (len(self._opened) >= MOST_MAPS or size > MOST_BYTES):
+                    size -= self._opened.popitem(last=False)[1].size
+                self._opened[compiled.key] = opened
             self._opened.move_to_end(compiled.key)
             return self._opened[compiled.key]
 

@@ -26,6 +26,7 @@ except ImportError:
 import sourcemap
 from sourcemap import CompiledMap, batch
 from sourcemap._tables.opened import OpenedMap
+from sourcemap.release import Compiled
 
 from . import builds
 from .builds import ID, WRONG, Reference
@@ -228,6 +229,19 @@ class Rows(Tables):
         with mock.patch('sourcemap.release.MOST_MAPS', 9):
             found = self.symbolicate(1, 1, files)
         self.assertEqual(found.source.tolist(), [f'{number % 60}.ts' for number in range(130)])
+
+    def test_more_lines_than_are_held(self) -> None:
+        """Of 5,000 lines of 8 bytes each a fourth of these bytes is taken to be held."""
+        for number in range(10):
+            self.put_map(f'{number}.js.map', f'{number}.ts', sourcesContent=[f'line {number}.\n' * 5000])
+        release = self.release()
+        frames = pd.DataFrame({'file': [f'{number % 10}.js' for number in range(30)], 'line': 1, 'column': 1})
+        with mock.patch('sourcemap.release.MOST_BYTES', 35_000):
+            for _ in range(2):
+                found = batch.symbolicate(frames, release)
+                self.assertEqual(found.context_line.tolist(), [f'line {number % 10}.' for number in range(30)])
+                compiled = [release.compiled(f'{number}.js', None) for number in range(10)]
+                self.assertEqual(sum(isinstance(each, Compiled) and release.is_open(each) for each in compiled), 3)
 
     def test_maps_that_are_opened_again(self) -> None:
         """Those that are open are asked first. The file of another one is checked if it has changed."""

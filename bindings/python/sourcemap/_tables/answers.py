@@ -1,13 +1,12 @@
 """What `batch.symbolicate` adds to a table of frames, as arrays."""
 from __future__ import annotations
 
-from typing import Any, Dict, List, NamedTuple, Tuple
+from typing import Any, Dict, Iterator, List, NamedTuple, Tuple
 
 import numpy as np
 import pandas as pd
 from numpy.typing import NDArray
 
-from .. import release as releases
 from ..release import Compiled, Release
 from .columns import Codes, Texts, distinct, positions
 from .opened import FLAG, Found, Numbers, OpenedMap
@@ -108,14 +107,26 @@ def answer(frames: pd.DataFrame, release: Release, base: int) -> Answers:
     numbers = np.where(have_positions, maps.numbers, -1)
     order = np.argsort(numbers.astype(np.int16) if len(maps.compiled) < 1 << 15 else numbers, kind='stable')
     bounds = np.searchsorted(numbers[order], np.arange(len(maps.compiled) + 1)).tolist()
-    most = releases.MOST_MAPS
-    for first in range(0, len(maps.compiled), most):
-        group = maps.compiled[first:first + most]
+    first = 0
+    for group in _groups(maps.compiled, release):
         ends = bounds[first:first + len(group) + 1]
         rows = order[ends[0]:ends[-1]]
-        answering.ask([release.opened(each) for each in group], [end - ends[0] for end in ends], rows,
-                      np.stack((lines[rows], columns[rows]), axis=1))
+        answering.ask(group, [end - ends[0] for end in ends], rows, np.stack((lines[rows], columns[rows]), axis=1))
+        first += len(group)
     return answering.answers(base, maps.problems)
+
+
+def _groups(compiled: List[Compiled], release: Release) -> Iterator[List[OpenedMap]]:
+    """Opens the maps. A group has as many of them as the release keeps open at once."""
+    group: List[OpenedMap] = []
+    for number, each in enumerate(compiled):
+        opened = release.opened(each)
+        if group and not release.is_open(compiled[number - len(group)]):
+            yield group
+            group = []
+        group.append(opened)
+    if group:
+        yield group
 
 
 def _maps_of(frames: pd.DataFrame, release: Release) -> _Maps:

@@ -10,7 +10,7 @@ from numpy.typing import NDArray
 
 from .. import _library as library
 from .._compiled import CompiledMap
-from .blocks import TOKENS, Scopes, read_scopes
+from .blocks import TOKENS, Blocks
 
 if TYPE_CHECKING:
     from typing_extensions import TypeAlias
@@ -78,9 +78,14 @@ class OpenedMap:
         self._tables = int(header[48 // 4])
         blocks = (self._tokens + TOKENS - 1) // TOKENS
         self._offsets: Numbers = np.frombuffer(self._data, '<u4', count + 1, self._tables + 40 * blocks)
-        self._scopes_of_tokens: Optional[Scopes] = None
         self._lines: Optional[_Lines] = None
         self._knows_lines = False
+
+    @property
+    def size(self) -> int:
+        """About how many bytes are held of the map, besides those of its file: eight for each line of contents, of which
+        32 bytes are taken for one."""
+        return int(self._offsets[-1] - self._offsets[-1 - self._contents]) // 4
 
     def lookup(self, positions: Numbers) -> Numbers:
         """What is found at many positions, each a row of its line and its column, counted from 0: a row of `Found` for
@@ -139,15 +144,11 @@ class OpenedMap:
         """The ids of the functions that the tokens found at these positions are in. What is no id stands for none."""
         if self._scopes == 0:
             return np.zeros(len(positions), np.uint32)
-        if self._scopes_of_tokens is None:
-            self._scopes_of_tokens = read_scopes(self._data, self._tables, self._tokens)
-        tokens, numbers = self._scopes_of_tokens
         lines, columns = found.generated_line, found.generated_column
-        token = lines.astype(np.uint64) << np.uint64(32) | columns
+        tokens = lines.astype(np.uint64) << np.uint64(32) | columns
         # of tokens at one position, a lookup of this position finds the first one, any other the last one
-        is_exact = (lines == positions[:, 0]) & (columns == positions[:, 1])
-        places = np.where(is_exact, np.searchsorted(tokens, token), np.searchsorted(tokens, token, 'right') - 1)
-        return np.asarray(numbers[places] - np.uint32(1))
+        are_first = (lines == positions[:, 0]) & (columns == positions[:, 1])
+        return Blocks(self._data, self._tables, self._tokens).scope_numbers(tokens, are_first) - np.uint32(1)
 
     # Lines of contents
 
