@@ -4,11 +4,12 @@ from __future__ import annotations
 
 import contextlib
 import os
+import signal
 import time
 import unittest
 from argparse import Namespace
 from pathlib import Path
-from typing import Callable, Generator
+from typing import Callable, Generator, List
 from unittest import mock
 
 try:
@@ -64,6 +65,18 @@ class Engines(Folder):
             for each in self.started(dying.an_error, 40):
                 found.append(each)
         self.assertEqual(found, list(range(5)))
+
+    def test_calls_that_ctrl_c_waits_for(self) -> None:
+        done: List[int] = []
+
+        def call(item: int) -> None:
+            os.kill(os.getpid(), signal.SIGINT)
+            done.append(item)
+
+        self.addCleanup(signal.signal, signal.SIGINT, signal.signal(signal.SIGINT, signal.default_int_handler))
+        with self.assertRaises(KeyboardInterrupt):
+            engines._undisturbed(call)(3)
+        self.assertEqual(done, [3])
 
     def test_closed_early(self) -> None:
         """What workers still do does not count, and they end."""

@@ -16,7 +16,7 @@ from functools import partial
 from itertools import islice
 from multiprocessing import forkserver
 from multiprocessing.connection import Connection
-from typing import Any, Callable, Deque, Generator, Iterator, NamedTuple, TypeVar
+from typing import Any, Callable, Deque, Generator, Iterator, List, NamedTuple, TypeVar
 
 from .._needed import need
 
@@ -25,6 +25,9 @@ AHEAD = 4
 # How often workers may die while one piece is waited for.
 MOST_DEATHS = 10
 AGAIN = 'workers died again and again with the same rows'
+
+# What ends the program.
+ENDS = (signal.SIGINT, signal.SIGTERM)
 
 # What a Dask cluster would do else: look up for each piece the text of the code that asks for it.
 UNUSED = {'distributed.diagnostics.computations.ignore-modules': ['']}
@@ -92,8 +95,8 @@ def _by_dask(address: str, call: Callable[[Job, Item], Done], job: Job,
     run = uuid.uuid4().hex
     with need('dask').config.set(UNUSED), distributed.Client(address, set_as_default=False) as client:
         most = AHEAD * max(4, sum(client.nthreads().values()))
-        futures = (client.submit(call, job, item, key=f'sourcemap-{run}-{number}', pure=False)
-                   for number, item in enumerate(items))
+        submit = _undisturbed(partial(client.submit, call, job, pure=False))
+        futures = (submit(item, key=f'sourcemap-{run}-{number}') for number, item in enumerate(items))
         waiting: Deque[Any] = deque(islice(futures, most))
         try:
             while waiting:
@@ -101,6 +104,22 @@ def _by_dask(address: str, call: Callable[[Job, Item], Done], job: Job,
                 waiting.extend(islice(futures, 1))
         except distributed.KilledWorker as error:
             raise ChildProcessError(f'{AGAIN}: {error}') from error
+
+
+def _undisturbed(call: Callable[..., Done]) -> Callable[..., Done]:
+    """A call that Ctrl-C and SIGTERM wait for. A future that is half made when it goes prints an error."""
+    def wait(*arguments: Any, **keys: Any) -> Done:
+        caught: List[int] = []
+        before = {each: signal.signal(each, lambda number, frame: caught.append(number)) for each in ENDS}
+        try:
+            return call(*arguments, **keys)
+        finally:
+            for each, handler in before.items():
+                signal.signal(each, handler)
+            for number in caught:
+                signal.raise_signal(number)
+
+    return wait if threading.current_thread() is threading.main_thread() else call
 
 
 # Processes of this machine
