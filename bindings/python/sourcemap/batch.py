@@ -33,7 +33,7 @@ def symbolicate(frames: pandas.DataFrame, release: Release, *, zero_based: bool 
     - `name`: the name that the map has there;
     - `scope`: the name of the function, which Hermes maps have;
     - `context_line`: the line of the source, from the contents in the map. Of a line of more than 200 UTF-16 units it
-      has 200 of those around the column;
+      has 200 of those around the column. There is none if the contents of the map have more than 2,000,000 lines;
     - `status`: `found`; `no map`; `no token`, if the map has no original position there; `bad position`, if `line` or
       `column` is none; `bad map`, if the map cannot be read.
 

@@ -193,6 +193,13 @@ class Rows(Tables):
             found = self.symbolicate(1, [1, 2])
             self.assertEqual((found.source.tolist(), found.context_line.tolist()), (['a.js', 'b.js'], lines))
 
+    def test_contents_of_too_many_lines(self) -> None:
+        self.put('app.js.map', regular('AAAA,CACA', sourcesContent=['one\ntwo\nthree\nfour']))
+        for most, lines in (3, ['one', 'two']), (2, [None, None]):
+            with mock.patch('sourcemap._tables.opened.MOST_LINES', most):
+                found = self.symbolicate(1, [1, 2])
+            self.assertEqual((found.context_line.tolist(), found.status.tolist()), (lines, ['found'] * 2))
+
     def test_long_texts_are_cut(self) -> None:
         self.put('app.js.map', regular('AAAAA', ['s' * 5000], names=['n' * 5000]))
         found = self.symbolicate([1], [1])

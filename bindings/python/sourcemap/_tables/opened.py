@@ -22,6 +22,8 @@ LONGEST_TEXT = 4096
 # STEP less half of STEP.
 LONGEST_LINE = 200
 STEP = 100
+# Of a map whose contents have more lines no lines are read: finding them takes many times their bytes.
+MOST_LINES = 2_000_000
 
 _CHUNK = 4 << 20
 _LINE_FEED, _RETURN = 10, 13
@@ -183,14 +185,20 @@ class OpenedMap:
         return self._lines
 
     def _find_lines(self) -> Optional[_Lines]:
-        """None if no source has contents. There may be more places for contents than sources, or fewer."""
+        """None if no source has contents, or all have too many lines. There may be more places for contents than sources, or
+        fewer."""
         numbers = np.arange(self._contents) + (self._sources + self._names + self._scopes + 1)
         starts, ends = self._spans(numbers)
         are_there = self._offsets[numbers + 1] > self._offsets[numbers]
         if not are_there.any():
             return None
         low, high = int(starts[are_there].min()), int(ends[are_there].max())
-        breaks = np.concatenate([self._breaks_in(at, min(at + _CHUNK, high)) for at in range(low, high + 1, _CHUNK)])
+        found: List[Places] = []
+        for at in range(low, high + 1, _CHUNK):
+            found.append(self._breaks_in(at, min(at + _CHUNK, high)))
+            if sum(map(len, found)) > MOST_LINES:
+                return None
+        breaks = np.concatenate(found)
         # the number of a line is that of the breaks ahead of it, and of the places for contents ahead of its own
         first, last = (np.searchsorted(breaks, places) + np.arange(self._contents) for places in (starts, ends))
         ended = np.searchsorted(ends, breaks, 'right') + np.arange(len(breaks))
