@@ -732,12 +732,12 @@ class Memory(Jobs):
                                   capture_output=True, text=True).stdout)
 
     def test_whatever_the_number_of_frames(self) -> None:
-        """A table of six times the frames takes the same memory."""
+        """A table of four times the frames takes the same memory."""
         rows = list(builds.rows(builds.write(self.root), 20_000))
         lines = ''.join(json.dumps(dict(zip(HEAD, row))) + '\n' for row in rows).encode()
         for name in 'f.csv', 'f.csv.gz', 'f.jsonl':
             most = []
-            for times in 2, 12:
+            for times in 2, 8:
                 data = lines * times if 'json' in name else csv_of([HEAD, *rows * times])
                 frames = builds.put(self.top, name, gzip.compress(data, 1) if name.endswith('.gz') else data)
                 most.append(self.most_kilobytes(frames, '--partition', 1_000_000))
@@ -747,10 +747,10 @@ class Memory(Jobs):
         """Of whole partitions: of short rows, of wide ones, and of rows with much that is not used."""
         builds.write(self.root)
         row = {'file': '/srv/static/index.min.js', 'debug_id': builds.ID, 'line': 1, 'column': 5}
-        for name, data in [('short.csv', b'file,line,column\n' + b'root.js,1,5\n' * 400_000),
+        for name, data in [('short.csv', b'file,line,column\n' + b'root.js,1,5\n' * 160_000),
                            ('wide.csv', (','.join(['file', 'line', 'column', *map(str, range(50))]) + '\n').encode()
-                            + b''.join(b'root.js,1,5' + b',%d' % number * 50 + b'\n' for number in range(60_000))),
-                           ('short.jsonl', (json.dumps(row) + '\n').encode() * 200_000),
+                            + b''.join(b'root.js,1,5' + b',%d' % number * 50 + b'\n' for number in range(30_000))),
+                           ('short.jsonl', (json.dumps(row) + '\n').encode() * 160_000),
                            ('much.jsonl', (json.dumps({**row, 'more': [[]] * 2000}) + '\n').encode() * 2000)]:
             most = self.most_kilobytes(builds.put(self.top, name, data))
             self.assertLess(most, 300_000, name)
