@@ -18,6 +18,8 @@ if TYPE_CHECKING:
 
 COLUMNS = ('source', 'source_line', 'source_column', 'name', 'scope', 'context_line', 'status')
 PARTITION = 16_000_000
+# the address that stands for a Dask cluster of this machine
+LOCAL = 'local'
 INTERRUPTED = 130
 
 
@@ -68,10 +70,12 @@ def add_arguments(parser: argparse.ArgumentParser) -> None:
     parser.add_argument('--cache', metavar='DIR', type=Path,
                         help='the folder for compiled maps; else furzehearth-sourcemap where your caches are')
     parser.add_argument('--zero-based', action='store_true', help='lines and columns count from 0, not from 1')
-    engine = parser.add_mutually_exclusive_group()
-    engine.add_argument('--workers', metavar='N', type=_positive,
+    parser.add_argument('--workers', metavar='N', type=_positive,
                         help='how many processes work; else one for each processor. With 1 the program itself works')
-    engine.add_argument('--dask', metavar='ADDRESS', help='the workers of the Dask cluster at this address work')
+    parser.add_argument('--dask', metavar='ADDRESS',
+                        help=f'the workers of the Dask cluster at this address work; with {LOCAL}, those of a cluster that '
+                             'starts on this machine and ends with the program')
+    parser.set_defaults(refuse=parser.error)
     parser.add_argument('--partition', metavar='BYTES', type=_positive, default=PARTITION,
                         help=f'how much of the table a worker takes at once, at most: {PARTITION} bytes')
 
@@ -85,6 +89,8 @@ def _positive(text: str) -> int:
 
 def run(arguments: argparse.Namespace) -> int:
     """Writes the table. Returns the exit status, which is 130 after Ctrl-C; other errors are raised."""
+    if arguments.workers is not None and arguments.dask not in (None, LOCAL):
+        arguments.refuse(f'--workers goes with --dask {LOCAL}, not with an address')
     try:
         _run(arguments)
     except KeyboardInterrupt:

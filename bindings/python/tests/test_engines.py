@@ -8,8 +8,9 @@ import signal
 import time
 import unittest
 from argparse import Namespace
+from importlib.util import find_spec
 from pathlib import Path
-from typing import Callable, Generator, List
+from typing import Callable, Generator, List, Optional
 from unittest import mock
 
 try:
@@ -33,8 +34,9 @@ def is_there(pid: int) -> bool:
 
 
 class Engines(Folder):
-    def started(self, call: Callable[[Path, int], int], count: int, workers: int = 3) -> Generator[int, None, None]:
-        run = engines.engine(Namespace(workers=workers, dask=None), is_small=False)
+    def started(self, call: Callable[[Path, int], int], count: int, workers: int = 3,
+                dask: Optional[str] = None) -> Generator[int, None, None]:
+        run = engines.engine(Namespace(workers=workers, dask=dask), str(self.top), is_small=False)
         answers: Generator[int, None, None] = run(call, self.top, iter(range(count)))
         self.addCleanup(answers.close)
         return answers
@@ -45,7 +47,7 @@ class Engines(Folder):
         self.assertEqual(list(self.started(dying.always, 0)), [])
 
     def test_little_is_done_here(self) -> None:
-        run = engines.engine(Namespace(workers=3, dask=None), is_small=True)
+        run = engines.engine(Namespace(workers=3, dask=None), str(self.top), is_small=True)
         self.assertEqual(list(run(dying.slowly, self.top, iter([0]))), [os.getpid()])
 
     def test_workers_that_die(self) -> None:
@@ -65,6 +67,13 @@ class Engines(Folder):
             for each in self.started(dying.an_error, 40):
                 found.append(each)
         self.assertEqual(found, list(range(5)))
+
+    @unittest.skipIf(find_spec('distributed') is None, 'distributed is not installed')
+    def test_workers_of_dask_that_die(self) -> None:
+        self.assertEqual(list(self.started(dying.twice_a_number, 40, 2, 'local')), list(range(0, 80, 2)))
+        with mock.patch.dict(engines.OURS, {'distributed.scheduler.allowed-failures': 1}), \
+                self.assertRaisesRegex(ChildProcessError, 'died again and again'):
+            list(self.started(dying.always, 40, 2, 'local'))
 
     def test_calls_that_ctrl_c_waits_for(self) -> None:
         done: List[int] = []

@@ -115,9 +115,9 @@ class SameAnswers(Jobs):
         return rows, answers
 
     @needs_distributed
-    def test_200_000_frames_in_five_ways(self) -> None:
-        """One at a time by `Map.lookup`; by one worker; by four; by a cluster with four workers at an address, as a table in
-        a file and as one of Dask."""
+    def test_200_000_frames_in_six_ways(self) -> None:
+        """One at a time by `Map.lookup`; by one worker; by four; by a Dask cluster that the program starts; by one with four
+        workers at an address, as a table in a file and as one of Dask."""
         from dask.dataframe import from_pandas
         from distributed import Client, LocalCluster
 
@@ -127,6 +127,7 @@ class SameAnswers(Jobs):
         self.assertEqual(self.output_of(frames, '--workers', 1), wanted)
         self.assertEqual(self.output_of(frames, '--partition', 300_001), wanted)
         self.assertEqual(self.output_of(frames, '--workers', 4, '--partition', 500_000), wanted)
+        self.assertEqual(self.output_of(frames, '--dask', 'local', '--partition', 500_000), wanted)
         with mock.patch.dict(os.environ, ENVIRONMENT), LocalCluster(
                 n_workers=4, threads_per_worker=1, processes=True, dashboard_address=None,
                 local_directory=str(self.top)) as cluster:
@@ -527,7 +528,7 @@ class WithoutDask(Jobs):
         frames = self.table('f.csv', [['file', 'line', 'column'], *[['app.js', '1', '6']] * 100])
         wanted = self.output_of(frames)
         out = builds.put(self.top, 'out.csv', b'old')
-        for more, status in [('--workers', '2'), 0], [('--dask', 'tcp://127.0.0.1:1'), 1]:
+        for more, status in [('--workers', '2'), 0], [('--dask', 'local'), 1], [('--dask', 'tcp://127.0.0.1:1'), 1]:
             words = [sys.executable, '-c', code, *self.words(frames, '-o', out, '--partition', 300, *more)[3:]]
             run = subprocess.run(words, cwd=FOLDER, env=ENVIRONMENT, capture_output=True, text=True)
             self.assertEqual((run.returncode, out.read_bytes()), (status, wanted), run.stderr)
@@ -670,7 +671,7 @@ class Processes(Jobs):
         with self.started(*more) as program:
             self.assertTrue(self.wait_for(program, 100_000))
             workers = workers_of(program.pid)
-            self.assertEqual(len(workers), more[-1] if more[0] == '--workers' and more[-1] != 1 else 0)
+            self.assertEqual(len(workers), more[-1] if '--workers' in more and more[-1] != 1 else 0)
             stop(program.pid)
             _, errors = program.communicate(timeout=PATIENCE)
         self.assertEqual((program.returncode, errors.splitlines()[-1:]),
@@ -701,6 +702,23 @@ class Processes(Jobs):
             program.wait()
             self.check_ended(workers)
         self.assertEqual(old.read_bytes(), b'old')
+
+    @needs_distributed
+    def test_cluster_of_the_program(self) -> None:
+        """Its workers are killed. It ends with the program, after Ctrl-C and after an error."""
+        local = ('--dask', 'local', '--workers', 2)
+        self.check_killed(self.output_of(self.frames), workers_of, *local)
+        said = self.check_interrupted(lambda pid: os.killpg(pid, signal.SIGINT), *local, old=None)
+        self.assertEqual(said, 'sourcemap: interrupted, and no table was written\n')
+        with self.frames.open('a') as file:
+            file.write('a,,1,2,3\n')
+        with self.started(*local) as program:
+            self.assertTrue(self.wait_for(program, 100_000))
+            workers = workers_of(program.pid)
+            _, errors = program.communicate(timeout=PATIENCE)
+        self.assertEqual((program.returncode, len(errors.splitlines()), len(workers)), (1, 1, 2), errors)
+        self.assertEqual((self.out.exists(), self.leftovers()), (False, []))
+        self.check_ended(workers)
 
     @needs_distributed
     def test_cluster_at_an_address(self) -> None:

@@ -1,4 +1,4 @@
-"""Who answers pieces: this process, processes of this machine, or a Dask cluster."""
+"""Who answers pieces: this process, processes of this machine, or a Dask cluster, on this machine or elsewhere."""
 from __future__ import annotations
 
 import argparse
@@ -19,10 +19,11 @@ from multiprocessing.connection import Connection
 from typing import Any, Callable, Deque, Generator, Iterator, List, NamedTuple, TypeVar
 
 from .._needed import need
+from ..batch import LOCAL
 
 # How many pieces are asked for before the first of them is taken, for each worker.
 AHEAD = 4
-# How often workers may die while one piece is waited for.
+# How often workers may die while one piece is waited for; in a Dask cluster of ours, how often with one piece.
 MOST_DEATHS = 10
 AGAIN = 'workers died again and again with the same rows'
 
@@ -31,6 +32,12 @@ ENDS = (signal.SIGINT, signal.SIGTERM)
 
 # What a Dask cluster would do else: look up for each piece the text of the code that asks for it.
 UNUSED = {'distributed.diagnostics.computations.ignore-modules': ['']}
+# A Dask cluster of ours forks its workers, and waits for one that died until it has started again. By itself it gives it
+# up after 15 seconds, in which a machine with much to do may not start any.
+OURS = {'distributed.scheduler.allowed-failures': MOST_DEATHS, 'distributed.deploy.lost-worker-timeout': '1 hour',
+        'distributed.worker.multiprocessing-method': 'forkserver'}
+# Where it shows what it does: on this machine alone, at any port. Else it would be on each network.
+HERE = '127.0.0.1:0'
 
 Job = TypeVar('Job')
 Item = TypeVar('Item')
@@ -49,9 +56,9 @@ def prepare(arguments: argparse.Namespace) -> None:
             _start_to_fork()
 
 
-def _start_to_fork() -> None:
-    """What is forked ignores Ctrl-C, since it ends with this process."""
-    multiprocessing.get_context('forkserver').set_forkserver_preload([f'{__package__}.job'])
+def _start_to_fork(*modules: str) -> None:
+    """What is forked has imported these modules and ours. It ignores Ctrl-C, since it ends with this process."""
+    multiprocessing.get_context('forkserver').set_forkserver_preload([*modules, f'{__package__}.job'])
     if threading.current_thread() is not threading.main_thread():
         forkserver.ensure_running()
         return
@@ -62,9 +69,12 @@ def _start_to_fork() -> None:
         signal.signal(signal.SIGINT, before)
 
 
-def engine(arguments: argparse.Namespace, is_small: bool) -> Run:
-    """Those who answer. If there is little to do it is this process, unless a cluster is named."""
+def engine(arguments: argparse.Namespace, folder: str, is_small: bool) -> Run:
+    """Those who answer. If there is little to do it is this process, unless a cluster is named. `folder` is for what
+    they write."""
     workers = _workers(arguments)
+    if arguments.dask == LOCAL:
+        return partial(_by_local_dask, workers, folder)
     if arguments.dask is not None:
         return partial(_by_dask, arguments.dask)
     if workers == 1 or is_small:
@@ -120,6 +130,21 @@ def _undisturbed(call: Callable[..., Done]) -> Callable[..., Done]:
                 signal.raise_signal(number)
 
     return wait if threading.current_thread() is threading.main_thread() else call
+
+
+def _by_local_dask(workers: int, folder: str, call: Callable[[Job, Item], Done], job: Job,
+                   items: Iterator[Item]) -> Generator[Done, None, None]:
+    """By a cluster of processes of this machine. Ctrl-C waits until it has started, and then ends it."""
+    distributed = need('distributed')
+    _start_to_fork('distributed')
+    with need('dask').config.set(OURS), contextlib.ExitStack() as stack:
+        def start() -> str:
+            cluster = stack.enter_context(distributed.LocalCluster(
+                n_workers=workers, threads_per_worker=1, processes=True, memory_limit=0, local_directory=folder,
+                dashboard_address=HERE, worker_dashboard_address=HERE, silence_logs=logging.CRITICAL))
+            return str(cluster.scheduler_address)
+
+        yield from _by_dask(_undisturbed(start)(), call, job, items)
 
 
 # Processes of this machine

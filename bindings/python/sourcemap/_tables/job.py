@@ -186,7 +186,7 @@ def _write(job: Job, table: Table, output: Output, arguments: argparse.Namespace
     tally = _Tally()
     pieces = table.pieces()
     first = list(islice(pieces, 2))
-    answered = engine(arguments, len(first) < 2)(run_piece, job, chain(first, pieces))
+    answered = engine(arguments, job.folder, len(first) < 2)(run_piece, job, chain(first, pieces))
     with contextlib.closing(answered), _progress(arguments.frames) as show:
         for done in answered:
             output.append(done.path)
