@@ -71,10 +71,11 @@ def add_arguments(parser: argparse.ArgumentParser) -> None:
                         help='the folder for compiled maps; else furzehearth-sourcemap where your caches are')
     parser.add_argument('--zero-based', action='store_true', help='lines and columns count from 0, not from 1')
     parser.add_argument('--workers', metavar='N', type=_positive,
-                        help='how many processes work; else one for each processor. With 1 the program itself works')
+                        help='how many processes work; else one for each processor. With 1 and no --dask the program '
+                             'itself works')
     parser.add_argument('--dask', metavar='ADDRESS',
-                        help=f'the workers of the Dask cluster at this address work; with {LOCAL}, those of a cluster that '
-                             'starts on this machine and ends with the program')
+                        help=f'the workers of the Dask cluster at this address work; {LOCAL} starts a cluster on this '
+                             'machine, which ends with the program')
     parser.set_defaults(refuse=parser.error)
     parser.add_argument('--partition', metavar='BYTES', type=_positive, default=PARTITION,
                         help=f'how much of the table a worker takes at once, at most: {PARTITION} bytes')
