@@ -1,3 +1,4 @@
+pub mod CheckpointLemmas
 pub mod GeneratedLemmas
 pub mod MarkedLemmas
 pub mod PlaceLemmas

@@ -1,6 +1,6 @@
 -- A column looked up from an offset of its line.
 use Rattle.std.proofs.Common.{◌≡◌, ℕ, ◌+◌, ◌-◌, ◌≤◌, nat_le, nat_lt, Bool, true, false, not, cond, List, take, drop}
-use Rattle.std.proofs.Common.{Some, None, option_map, sym, ◌∙◌, ap, refl, arith, IsUtf8, chars}
+use Rattle.std.proofs.Common.{Option, Some, None, option_map, sym, ◌∙◌, ap, refl, arith, IsUtf8, chars}
 use Rattle.std.specs.Prelude.{is_none}
 use Rattle.std.specs.Option.{option_map_or}
 use Rattle.std.proofs.lemmas.Bool.Decides.{nat_tests}
@@ -17,16 +17,22 @@ moved_offset : (b : Bool) (from off : ℕ)
 moved_offset true from off = refl
 moved_offset false from off = refl
 
+pub found-further : (line : List ℕ) (col from units : ℕ) (found : Option ℕ) → IsUtf8 line → IsOffset line from units
+    → units ≤ col → found ≡ column_offset (drop from line) (col - units)
+    → option_map (λ n. from + n) found ≡ column_offset line col
+found-further line col from units found u p l e =
+    let sum : units + (col - units) ≡ col = omega arith in
+    let further = offset-further line units (col - units) from units u (offset-own line from units u p) p.1 in
+    ap (option_map (λ n. from + n)) e
+    ∙ ap (λ n. option_map (λ k. from + k) (column_offset (drop from line) (n - units))) (sym sum) ∙ sym further
+    ∙ ap (column_offset line) sum
+
 pub reached-further : (line : List ℕ) (col from units off more : ℕ) → IsUtf8 line → IsOffset line from units → units ≤ col
     → reached_offset (col - units) off more ≡ column_offset (drop from line) (col - units)
     → reached_offset col (from + off) (units + more) ≡ column_offset line col
 reached-further line col from units off more u p l e =
-    let sum : units + (col - units) ≡ col = omega arith in
-    let further = offset-further line units (col - units) from units u (offset-own line from units u p) p.1 in
     ap (λ b. cond b (Some (from + off)) None) (sym (less_far col units more l))
-    ∙ sym (moved_offset (nat_le (col - units) more) from off) ∙ ap (option_map (λ n. from + n)) e
-    ∙ ap (λ n. option_map (λ k. from + k) (column_offset (drop from line) (n - units))) (sym sum) ∙ sym further
-    ∙ ap (column_offset line) sum
+    ∙ sym (moved_offset (nat_le (col - units) more) from off) ∙ found-further line col from units _ u p l e
 
 pub offset-sum : (line : List ℕ) (from units off more : ℕ) → IsUtf8 line → IsOffset line from units
     → IsOffset (drop from line) off more → IsOffset line (from + off) (units + more)

@@ -1,6 +1,6 @@
 -- When a token of a regular map looks wrong, though the map is valid.
 use Rattle.std.specs.Prelude.{◌≡◌, ℕ, zero, suc, ◌==◌, ◌&&◌, Bool, not, false, is_none, nat_lt, nat_eq, List, [], ◌∷◌, ◌++◌}
-use Rattle.std.specs.Prelude.{length, take, drop, cond, Option, None, option_and_then, slice_get}
+use Rattle.std.specs.Prelude.{length, take, drop, cond, Option, None, slice_get}
 use Rattle.std.specs.List.{starts_with}
 use Rattle.std.specs.Option.{option_map_or}
 use Rattle.std.specs.Str.{chars}
@@ -8,7 +8,7 @@ use Rattle.sourcemap_tokens.specs.declared.tokens.RawToken.{RawToken}
 use Rattle.sourcemap_source_views.specs.Columns.{column_offset, width}
 use Rattle.sourcemap_source_views.specs.Lines.{line_bodies}
 use Rattle.sourcemap_map_regular.specs.Map.{MapValue, name_of}
-use Rattle.sourcemap_check_texts.specs.Sources.{Files, source_text}
+use Rattle.sourcemap_check_texts.specs.Sources.{Files, line_of, source_text}
 use Rattle.sourcemap_check_texts.specs.declared.tokens.Doubt.{Doubt}
 use Rattle.sourcemap_check_texts.specs.declared.tokens.Doubt.TheVariants.{TwoOriginals, PastSource, PastLine, WithinPair, OtherName}
 use Rattle.sourcemap_check_texts.specs.declared.tokens.Places.{Places}
@@ -32,7 +32,7 @@ is_past_source m files t =
 
 -- the line that the original position is on, if the source has a text with such a line
 abbrev pub original_line : MapValue → Files → RawToken → Option (List ℕ)
-original_line m files t = option_and_then (λ text. slice_get (line_bodies text) t.src_line) (source_text m files t.src_id)
+original_line m files t = line_of m files t.src_id t.src_line
 
 -- a line has fewer UTF-16 units than the column
 abbrev pub is_past_line : List ℕ → ℕ → Bool

@@ -1,3 +1,4 @@
+pub mod Checkpoints
 pub mod Doubts
 pub mod Generated
 pub mod Shifts

@@ -2,6 +2,7 @@
 //! texts of its sources. Compares it with the generated text.
 #![tactic(auto)]
 
+mod checkpoints;
 pub mod generated;
 pub mod shifts;
 mod sources;

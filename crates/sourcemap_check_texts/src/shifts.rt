@@ -9,6 +9,7 @@ ghost use Rattle.sourcemap_check_texts.specs.Shifts.{is_suspicious, is_word_byte
 ghost use Rattle.sourcemap_check_texts.specs.Shifts.{landmark_value, landmark_values, landmarks, line_after, moved};
 ghost use Rattle.sourcemap_check_texts.specs.Shifts.{original_landmark, shift_of, stands, word_at, word_of};
 
+use crate::checkpoints::START;
 use crate::sources::source_text;
 use crate::tokens::{original_line, stands_at};
 use sourcemap_errors::errors::Result;
@@ -133,7 +134,7 @@ impl<'map> Landmark<'map> {
     {
         match self.line_after(shift) {
             Some(line) => match moved(self.column, shift.columns) {
-                Some(column) => stands_at(line, column, self.word),
+                Some(column) => stands_at(line, START, column, self.word),
                 None => false,
             },
             None => false,

@@ -1,8 +1,8 @@
 //! Positions in a text that are looked up one after another.
-ghost use Rattle.std.specs.Prelude.{◌≡◌};
+ghost use Rattle.std.specs.Prelude.{◌≡◌, IfSome, option_map};
 ghost use Rattle.sourcemap_source_views.specs.Columns.{IsOffset, column_offset, reached_offset};
 
-use sourcemap_source_views::columns::{LineOffset, reach_back, reach_or_end};
+use sourcemap_source_views::columns::{LineOffset, reach, reach_back, reach_or_end};
 
 // A line of the generated text, and the offset of a column in it, or the end of the line.
 #[derive(Clone, Copy)]
@@ -55,4 +55,20 @@ fn reach_near(line: &str, from: LineOffset, column: u64) -> LineOffset
         offset: from.offset + ahead.offset,
         units: from.units + ahead.units,
     }
+}
+
+// The offset of a column. `None` if the line is too short. Reads the line from `from` alone.
+pub(crate) fn find_near(line: &str, from: LineOffset, column: u64) -> Option<LineOffset>
+    requires { IsOffset line.now from.offset from.units }
+    ensures value { option_map (λ at. at.offset) result ≡ column_offset line.now column }
+    ensures offset { IfSome result (λ at. IsOffset line.now at.offset at.units) }
+{
+    if column <= from.units {
+        return Some(reach_back(line, from, column));
+    }
+    let ahead = reach(&line[from.offset..], column - from.units)?;
+    Some(LineOffset {
+        offset: from.offset + ahead.offset,
+        units: from.units + ahead.units,
+    })
 }

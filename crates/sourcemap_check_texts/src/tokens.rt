@@ -3,15 +3,19 @@ ghost use Rattle.std.specs.Prelude.{◌≡◌, ◌↔◌, ◌≤◌, ◌<◌, �
 ghost use Rattle.std.specs.Prelude.{IfOk, IfErr, OnOk, option_map, length};
 ghost use Rattle.std.specs.Option.{option_copied};
 ghost use Rattle.sourcemap_errors.specs.declared.errors.Error.TheVariants.{OutOfMemory};
+ghost use Rattle.sourcemap_source_views.specs.Columns.{IsOffset};
+ghost use Rattle.sourcemap_check_texts.specs.Checkpoints.{AreCheckpoints};
 ghost use Rattle.sourcemap_check_texts.specs.Doubts.{are_at_one_position, have_one_original, has_two_originals, ArePlaces};
 ghost use Rattle.sourcemap_check_texts.specs.Doubts.{is_past_source, is_past_line, splits_pair, stands_at, marked};
 ghost use Rattle.sourcemap_check_texts.specs.Doubts.{has_other_name, original_line, looks_wrong, is_doubtful};
 ghost use Rattle.sourcemap_check_texts.specs.Doubts.{looks_wrong_in_line};
 
+use crate::checkpoints::{Checkpoint, checkpoints, start_near};
 use crate::sources::source_text;
+use crate::spots::find_near;
 use sourcemap_errors::errors::Result;
 use sourcemap_map_regular::map::SourceMap;
-use sourcemap_source_views::columns::reach;
+use sourcemap_source_views::columns::LineOffset;
 use sourcemap_source_views::sourceview::SourceView;
 use sourcemap_tokens::tokens::RawToken;
 use std::alloc::Global;
@@ -96,25 +100,29 @@ pub(crate) fn original_line<'text>(
     source_text(map, files, token.src_id)?.get_line(token.src_line)
 }
 
-fn is_past_line(line: &str, column: u32) -> bool
+fn is_past_line(line: &str, from: LineOffset, column: u32) -> bool
+    requires { IsOffset line.now from.offset from.units }
     ensures { result ≡ is_past_line line.now column }
 {
-    reach(line, u64::from(column)).is_none()
+    find_near(line, from, u64::from(column)).is_none()
 }
 
-fn splits_pair(line: &str, column: u32) -> bool
+fn splits_pair(line: &str, from: LineOffset, column: u32) -> bool
+    requires { IsOffset line.now from.offset from.units }
     ensures { result ≡ splits_pair line.now column }
 {
-    match reach(line, u64::from(column)) {
+    match find_near(line, from, u64::from(column)) {
         Some(at) => at.units > u64::from(column),
         None => false,
     }
 }
 
-pub(crate) fn stands_at(line: &str, column: u32, text: &[u8]) -> bool
+// Whether a text stands in a line at a column, which is looked for from an offset of the line.
+pub(crate) fn stands_at(line: &str, from: LineOffset, column: u32, text: &[u8]) -> bool
+    requires { IsOffset line.now from.offset from.units }
     ensures { result ≡ stands_at line.now column text.now }
 {
-    match reach(line, u64::from(column)) {
+    match find_near(line, from, u64::from(column)) {
         Some(at) => {
             let rest = &line[at.offset..];
             rest.as_bytes().starts_with(text)
@@ -123,24 +131,32 @@ pub(crate) fn stands_at(line: &str, column: u32, text: &[u8]) -> bool
     }
 }
 
-fn has_other_name(map: &SourceMap, line: &str, token: RawToken) -> bool
+fn has_other_name(map: &SourceMap, line: &str, from: LineOffset, token: RawToken) -> bool
+    requires { IsOffset line.now from.offset from.units }
     ensures { result ≡ has_other_name map.now line.now token }
 {
     match map.get_name(token.name_id) {
-        Some(name) => !stands_at(line, token.src_col, name.as_bytes()),
+        Some(name) => !stands_at(line, from, token.src_col, name.as_bytes()),
         None => false,
     }
 }
 
-// Whether a token looks wrong in a way that its original line shows.
-fn looks_wrong_in_line(map: &SourceMap, doubt: Doubt, line: &str, token: RawToken) -> bool
+// Whether a token looks wrong in a way that its original line shows. Reads the line from `from`.
+fn looks_wrong_in_line(
+    map: &SourceMap,
+    doubt: Doubt,
+    line: &str,
+    from: LineOffset,
+    token: RawToken,
+) -> bool
+    requires { IsOffset line.now from.offset from.units }
     ensures { result ≡ looks_wrong_in_line doubt map.now line.now token }
 {
     match doubt {
         Doubt::TwoOriginals | Doubt::PastSource => false,
-        Doubt::PastLine => is_past_line(line, token.src_col),
-        Doubt::WithinPair => splits_pair(line, token.src_col),
-        Doubt::OtherName => has_other_name(map, line, token),
+        Doubt::PastLine => is_past_line(line, from, token.src_col),
+        Doubt::WithinPair => splits_pair(line, from, token.src_col),
+        Doubt::OtherName => has_other_name(map, line, from, token),
     }
 }
 
@@ -148,10 +164,12 @@ fn looks_wrong_in_line(map: &SourceMap, doubt: Doubt, line: &str, token: RawToke
 fn looks_wrong(
     map: &SourceMap,
     files: Option<&[Option<SourceView>]>,
+    checkpoints: &[Checkpoint],
     doubt: Doubt,
     before: Option<RawToken>,
     token: RawToken,
 ) -> bool
+    requires { AreCheckpoints map.now (option_copied files.entry) checkpoints.now }
     ensures { result ≡ looks_wrong doubt map.now (option_copied files.entry) before token }
 {
     match doubt {
@@ -159,7 +177,10 @@ fn looks_wrong(
         Doubt::PastSource => is_past_source(map, files, token),
         Doubt::PastLine | Doubt::WithinPair | Doubt::OtherName => {
             match original_line(map, files, token) {
-                Some(line) => looks_wrong_in_line(map, doubt, line, token),
+                Some(line) => {
+                    let from = start_near(checkpoints, token);
+                    looks_wrong_in_line(map, doubt, line, from, token)
+                }
                 None => false,
             }
         }
@@ -205,11 +226,12 @@ pub fn doubtful_tokens(
         first: Vec::new(alloc),
         count: 0,
     };
+    let checkpoints = checkpoints(alloc, map, files)?;
     let mut before = None;
     let mut index = 0;
     while let Some(token) = map.get_token(index) {
         let raw = token.get_raw_token();
-        let holds = looks_wrong(map, files, doubt, before, raw);
+        let holds = looks_wrong(map, files, checkpoints.as_slice(), doubt, before, raw);
         add_place(&mut places, most, token.get_index(), holds)?;
         before = Some(raw);
         index += 1;
