@@ -750,6 +750,87 @@ def _(size):
     return split_of([0] * size, 'AAAA,' + 'CAAC,' * size + 'C', b'x' * (2 * size) + b'\0', [(0, 2 * size)] * size)
 
 
+# what `check` looks at: texts, names and lists
+
+CHECKS, BESIDE = of_tool('check'), of_tool('check --generated FILE')
+
+
+def with_contents(contents, mappings, names=('x',)):
+    return text_of({'version': 3, 'sources': ['a.js'], 'sourcesContent': [contents], 'names': [*names], 'mappings': mappings})
+
+
+def there_and_back(columns, count):
+    """Segments with names whose original columns are by turns far and near."""
+    near, far = f'CAA{digits(-columns)}A', f'CAA{digits(columns)}A'
+    return 'AAAAA,' + ','.join((far, near) * (count // 2))
+
+
+@kind('names on a long line of a source', 50_000, CHECKS, 24)
+def _(size):
+    return with_contents('y' * size, there_and_back(size - 1, size))
+
+
+@kind('names on a long line of pairs of surrogates', 50_000, CHECKS, 24)
+def _(size):
+    return with_contents('\U0001d51e' * size, there_and_back(2 * size - 1, size))
+
+
+@kind('names on far lines of sources', 50_000, CHECKS, 24)
+def _(size):
+    return with_contents(('y' * 2000 + '\n') * (size // 1000), there_and_back(1999, size))
+
+
+@kind('columns past a long line of a source', 50_000, CHECKS, 24)
+def _(size):
+    return with_contents('y' * size, there_and_back(2 * size, size))
+
+
+# each of the first 10,000 is looked at after 41 shifts
+@kind('words before the last column that is looked at', 20_000, CHECKS, 24)
+def _(size):
+    return with_contents('xx' * size, there_and_back(4000, size), ['xx'])
+
+
+@kind('words of a long line of a generated text', 50_000, BESIDE, 24)
+def _(size):
+    return with_contents('xx' * size, there_and_back(size, size)), b'xx' * size
+
+
+@kind('columns past a generated text of surrogates', 50_000, BESIDE, 24)
+def _(size):
+    return flat('A' + ',BAAA' * size), '\U0001d51e'.encode() * (size // 4)
+
+
+@kind('tokens that fall in the text', 200_000, CHECKS, 80)
+def _(size):
+    return flat('gBAAA' + ',DAAA' * 15 + (',gBAAA' + ',DAAA' * 16) * (size // 17))
+
+
+@kind('two originals of each position', 100_000, CHECKS, 24)
+def _(size):
+    return flat('AAAA' + ',AACA,CAAA' * (size // 2))
+
+
+@kind('sources that are equal and not used', 50_000, CHECKS, 24)
+def _(size):
+    return text_of({'version': 3, 'sources': ['a.js'] * size, 'names': ['x'] * size, 'mappings': 'AAAA'})
+
+
+@kind('colliding sources that are checked', 10_000, CHECKS, 12)
+def _(size):
+    return colliding_input('sources', size)
+
+
+@kind('sections that overlap', 20_000, CHECKS, 24)
+def _(size):
+    return index([(0, 0, small('AAAA;AAAA'))] * size)
+
+
+@kind('a broken map in many sections', 20_000, CHECKS, 24)
+def _(size):
+    return index((2 * number, 0, small('AAAA;A!AA')) for number in range(size))
+
+
 # maps that are built in memory
 
 NEST = 'nest'

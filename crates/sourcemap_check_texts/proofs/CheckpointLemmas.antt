@@ -1,7 +1,6 @@
 -- Checkpoints of lines.
-use Rattle.std.proofs.Common.{◌≡◌, ℕ, ◌&&◌, ◌==◌, ◌-◌, ◌≤◌, Bool, true, List, ◌++◌, ◌∷◌, [], take, length, Option, Some, ap, ap₂, ◌∙◌, sym, arith, subst}
+use Rattle.std.proofs.Common.{◌≡◌, ℕ, true, List, ◌++◌, ◌∷◌, [], take, Some, ap, ap₂, ◌∙◌, sym, arith, subst}
 use Rattle.std.specs.Prelude.{option_and_then, slice_get}
-use Rattle.std.specs.List.{All}
 use Rattle.std.proofs.lemmas.List.Elements.{All-push, All-take, recursion_from_All}
 use Rattle.std.proofs.lemmas.Bool.Decides.{nat_tests}
 use Rattle.sourcemap_tokens.proofs.AllLemmas.{All-at}

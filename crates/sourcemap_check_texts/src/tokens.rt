@@ -169,7 +169,7 @@ fn looks_wrong(
     before: Option<RawToken>,
     token: RawToken,
 ) -> bool
-    requires { AreCheckpoints map.now (option_copied files.entry) checkpoints.now }
+    requires { AreCheckpoints map.now (option_copied files) checkpoints.now }
     ensures { result ≡ looks_wrong doubt map.now (option_copied files.entry) before token }
 {
     match doubt {

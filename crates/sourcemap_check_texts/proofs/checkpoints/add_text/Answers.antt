@@ -1,4 +1,4 @@
-use Rattle.std.proofs.Common.{ap, subst, sym}
+use Rattle.std.proofs.Common.{subst, sym}
 use Rattle.sourcemap_check_texts.specs.Checkpoints.{AreCheckpoints}
 use Rattle.sourcemap_check_texts.proofs.CheckpointLemmas.{line_named}
 use Rattle.sourcemap_check_texts.proofs.checkpoints.add_text.Goals.{in-Some+in_ok-add_line, in_default}

@@ -1,11 +1,24 @@
-use Rattle.std.proofs.Common.{◌∙◌, ap, sym, refl, Some, option_map}
+use Rattle.std.proofs.Common.{◌∙◌, ap, arith, sym, subst, refl, Some, option_map}
+use Rattle.std.proofs.lemmas.Option.{slice_get_within}
 use Rattle.std.specs.Option.{option_copied}
 use Rattle.sourcemap_map_regular.specs.Token.{token_value}
+use Rattle.sourcemap_check_texts.specs.Checkpoints.{AreCheckpoints}
 use Rattle.sourcemap_check_texts.proofs.PlaceLemmas.{token_found, TokensSoFar-none, TokensSoFar-more, TokensSoFar-all}
 use Rattle.sourcemap_check_texts.proofs.tokens.doubtful_tokens.Goals as goal
 
 pub loop-token-init : goal.loop-token-init
 loop-token-init c = TokensSoFar-none _ _ _ _ _ c.new.ensures.items refl
+
+pub looks_wrong-holds-requires : goal.looks_wrong-holds-requires
+looks_wrong-holds-requires c =
+    subst (AreCheckpoints c.args.map.now (option_copied c.args.files)) (sym c.as_slice.ensures.value)
+    c.in_ok-checkpoints.ensures.are
+
+pub loop-token-smaller : goal.loop-token-smaller
+loop-token-smaller c =
+    let at = token_found c.args.map.now c.loop-token.index (token_value c.in-Some.token) c.in-Some.ensures in
+    let inside = slice_get_within c.args.map.now.tokens c.loop-token.index _ at.0 in
+    omega (arith, inside)
 
 pub loop-token-preserved : goal.loop-token-preserved
 loop-token-preserved c =
