@@ -48,9 +48,9 @@ abbrev pub stands_at : List ℕ → ℕ → List ℕ → Bool
 stands_at line column text =
     option_map_or (λ offset. starts_with nat_eq (drop offset line) text) (column_offset line column) false
 
--- the token has a name, which does not stand at its column of the line
+-- the token has a name, which does not stand at its column of the line. 1,024 bytes of it are compared
 abbrev pub has_other_name : MapValue → List ℕ → RawToken → Bool
-has_other_name m line t = option_map_or (λ name. not (stands_at line t.src_col name)) (name_of m t.name_id) false
+has_other_name m line t = option_map_or (λ name. not (stands_at line t.src_col (take 1024 name))) (name_of m t.name_id) false
 
 -- a token looks wrong in a way that its original line shows
 abbrev pub looks_wrong_in_line : Doubt → MapValue → List ℕ → RawToken → Bool

@@ -1,6 +1,6 @@
 //! Whether the positions of a map are off by one shift throughout: after which shift most words
 //! stand where the map says.
-ghost use Rattle.std.specs.Prelude.{◌≡◌, ◌<◌, ◌≤◌, ◌++◌, List, Some, None, OnOk, IfOk, IfErr, option_map, length, take};
+ghost use Rattle.std.specs.Prelude.{◌≡◌, ◌<◌, ◌≤◌, ◌++◌, List, Some, None, OnOk, IfOk, IfErr, option_map, length};
 ghost use Rattle.std.specs.Prelude.{count_by, option_to_list, slice_get, take_while};
 ghost use Rattle.std.specs.Option.{option_copied};
 ghost use Rattle.sourcemap_errors.specs.declared.errors.Error.TheVariants.{OutOfMemory};
@@ -11,7 +11,7 @@ ghost use Rattle.sourcemap_check_texts.specs.Shifts.{original_landmark, shift_of
 
 use crate::checkpoints::START;
 use crate::sources::source_text;
-use crate::tokens::{original_line, stands_at};
+use crate::tokens::{first_bytes, original_line, stands_at};
 use sourcemap_errors::errors::Result;
 use sourcemap_map_regular::map::SourceMap;
 use sourcemap_source_views::columns::reach;
@@ -208,13 +208,6 @@ fn best_matches(landmarks: &[Landmark<'_>]) -> Option<Matches>
     Some(best)
 }
 
-// The bytes of a text that are compared.
-fn first_bytes(text: &[u8]) -> &[u8]
-    ensures { result.now ≡ take 64 text.now }
-{
-    &text[..WORD_BYTES.min(text.len())]
-}
-
 fn is_word_byte(byte: u8) -> bool
     ensures { result ≡ is_word_byte byte }
 {
@@ -236,7 +229,7 @@ fn word_at(line: &str, column: u32) -> Option<&[u8]>
         return None;
     }
     let at = reach(line, u64::from(column))?;
-    let rest = first_bytes(&line.as_bytes()[at.offset..]);
+    let rest = first_bytes(&line.as_bytes()[at.offset..], WORD_BYTES);
     let length = word_length(rest);
     Some(&rest[..length])
 }
@@ -252,7 +245,10 @@ fn word_of<'text>(
 {
     match original_line(map, files, token) {
         Some(line) => word_at(line, token.src_col),
-        None => Some(first_bytes(map.get_name(token.name_id)?.as_bytes())),
+        None => {
+            let name = map.get_name(token.name_id)?;
+            Some(first_bytes(name.as_bytes(), WORD_BYTES))
+        }
     }
 }
 
@@ -286,7 +282,7 @@ fn original_landmark<'map>(
 {
     let text = source_text(map, files, token.src_id)?;
     let name = map.get_name(token.name_id)?;
-    let word = first_bytes(name.as_bytes());
+    let word = first_bytes(name.as_bytes(), WORD_BYTES);
     landmark_at(text, token.src_line, token.src_col, word)
 }
 

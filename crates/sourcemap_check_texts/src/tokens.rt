@@ -1,6 +1,6 @@
 //! Tokens that look wrong.
 ghost use Rattle.std.specs.Prelude.{◌≡◌, ◌↔◌, ◌≤◌, ◌<◌, ◌^◌, ◌+◌, ◌++◌, ◌∷◌, [], ℕ, List, Contains, Bool, true, cond};
-ghost use Rattle.std.specs.Prelude.{IfOk, IfErr, OnOk, option_map, length};
+ghost use Rattle.std.specs.Prelude.{IfOk, IfErr, OnOk, option_map, length, take};
 ghost use Rattle.std.specs.Option.{option_copied};
 ghost use Rattle.sourcemap_errors.specs.declared.errors.Error.TheVariants.{OutOfMemory};
 ghost use Rattle.sourcemap_source_views.specs.Columns.{IsOffset};
@@ -44,6 +44,9 @@ pub const DOUBTS: [Doubt; 5] = [
     Doubt::WithinPair,
     Doubt::OtherName,
 ];
+
+/// So many bytes of a name are compared.
+pub const NAME_BYTES: usize = 1024;
 
 /// The first tokens that look wrong in a way, and how many there are.
 #[derive(Drop)]
@@ -131,12 +134,22 @@ pub(crate) fn stands_at(line: &str, from: LineOffset, column: u32, text: &[u8]) 
     }
 }
 
+// The first bytes of a text, at most so many.
+pub(crate) fn first_bytes(text: &[u8], most: usize) -> &[u8]
+    ensures { result.now ≡ take most text.now }
+{
+    &text[..most.min(text.len())]
+}
+
 fn has_other_name(map: &SourceMap, line: &str, from: LineOffset, token: RawToken) -> bool
     requires { IsOffset line.now from.offset from.units }
     ensures { result ≡ has_other_name map.now line.now token }
 {
     match map.get_name(token.name_id) {
-        Some(name) => !stands_at(line, from, token.src_col, name.as_bytes()),
+        Some(name) => {
+            let name = first_bytes(name.as_bytes(), NAME_BYTES);
+            !stands_at(line, from, token.src_col, name)
+        }
         None => false,
     }
 }
