@@ -780,6 +780,11 @@ def _(size):
     return with_contents(('y' * 2000 + '\n') * (size // 1000), there_and_back(1999, size))
 
 
+@kind('a long name on a long line', 50_000, CHECKS, 24)
+def _(size):
+    return with_contents('y' * 2 * size, there_and_back(size, size), ['y' * (size - 1) + 'x'])
+
+
 @kind('columns past a long line of a source', 50_000, CHECKS, 24)
 def _(size):
     return with_contents('y' * size, there_and_back(2 * size, size))
