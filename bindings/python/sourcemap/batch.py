@@ -18,8 +18,6 @@ if TYPE_CHECKING:
 
 COLUMNS = ('source', 'source_line', 'source_column', 'name', 'scope', 'context_line', 'status')
 PARTITION = 16_000_000
-# the address that stands for a Dask cluster of this machine
-LOCAL = 'local'
 INTERRUPTED = 130
 
 
@@ -70,13 +68,11 @@ def add_arguments(parser: argparse.ArgumentParser) -> None:
     parser.add_argument('--cache', metavar='DIR', type=Path,
                         help='the folder for compiled maps; else furzehearth-sourcemap where your caches are')
     parser.add_argument('--zero-based', action='store_true', help='lines and columns count from 0, not from 1')
-    parser.add_argument('--workers', metavar='N', type=_positive,
-                        help='how many processes work; else one for each processor. With 1 and no --dask the program '
-                             'itself works')
-    parser.add_argument('--dask', metavar='ADDRESS',
-                        help=f'the workers of the Dask cluster at this address work; {LOCAL} starts a cluster on this '
-                             'machine, which ends with the program')
-    parser.set_defaults(refuse=parser.error)
+    who = parser.add_mutually_exclusive_group()
+    who.add_argument('--workers', metavar='N', type=_positive,
+                     help='how many processes of this machine work; else one for each processor. They are a Dask cluster, '
+                          'which ends with the program. With 1 the program itself works, and Dask is not needed')
+    who.add_argument('--dask', metavar='ADDRESS', help='the workers of the Dask cluster at this address work')
     parser.add_argument('--partition', metavar='BYTES', type=_positive, default=PARTITION,
                         help=f'how much of the table a worker takes at once, at most: {PARTITION} bytes')
 
@@ -90,8 +86,6 @@ def _positive(text: str) -> int:
 
 def run(arguments: argparse.Namespace) -> int:
     """Writes the table. Returns the exit status, which is 130 after Ctrl-C; other errors are raised."""
-    if arguments.workers is not None and arguments.dask not in (None, LOCAL):
-        arguments.refuse(f'--workers goes with --dask {LOCAL}, not with an address')
     try:
         _run(arguments)
     except KeyboardInterrupt:

@@ -3,6 +3,7 @@
 from __future__ import annotations
 
 import contextlib
+import logging
 import os
 import signal
 import time
@@ -33,47 +34,14 @@ def is_there(pid: int) -> bool:
     return False
 
 
-class Engines(Folder):
-    def started(self, call: Callable[[Path, int], int], count: int, workers: int = 3,
-                dask: Optional[str] = None) -> Generator[int, None, None]:
-        run = engines.engine(Namespace(workers=workers, dask=dask), str(self.top), is_small=False)
-        answers: Generator[int, None, None] = run(call, self.top, iter(range(count)))
-        self.addCleanup(answers.close)
-        return answers
-
+class Alone(Folder):
     def test_the_order(self) -> None:
-        for workers in 1, 3:
-            self.assertEqual(list(self.started(dying.an_error, 5, workers)), list(range(5)))
-        self.assertEqual(list(self.started(dying.always, 0)), [])
+        run = engines.engine(Namespace(workers=1, dask=None), str(self.top), is_small=False)
+        self.assertEqual(list(run(dying.an_error, self.top, iter(range(5)))), list(range(5)))
 
     def test_little_is_done_here(self) -> None:
         run = engines.engine(Namespace(workers=3, dask=None), str(self.top), is_small=True)
         self.assertEqual(list(run(dying.slowly, self.top, iter([0]))), [os.getpid()])
-
-    def test_workers_that_die(self) -> None:
-        """They are asked again. The others, which end with them, have answered some before."""
-        self.assertEqual(list(self.started(dying.twice_a_number, 40)), list(range(0, 80, 2)))
-
-    def test_workers_that_always_die(self) -> None:
-        found = []
-        with mock.patch.object(engines, 'MOST_DEATHS', 3), self.assertRaisesRegex(ChildProcessError, 'died again and again'):
-            for each in self.started(dying.always, 40):
-                found.append(each)
-        self.assertEqual(found, [0, 1, 2])
-
-    def test_errors(self) -> None:
-        found = []
-        with self.assertRaisesRegex(ValueError, '5 is none'):
-            for each in self.started(dying.an_error, 40):
-                found.append(each)
-        self.assertEqual(found, list(range(5)))
-
-    @unittest.skipIf(find_spec('distributed') is None, 'distributed is not installed')
-    def test_workers_of_dask_that_die(self) -> None:
-        self.assertEqual(list(self.started(dying.twice_a_number, 40, 2, 'local')), list(range(0, 80, 2)))
-        with mock.patch.dict(engines.OURS, {'distributed.scheduler.allowed-failures': 1}), \
-                self.assertRaisesRegex(ChildProcessError, 'died again and again'):
-            list(self.started(dying.always, 40, 2, 'local'))
 
     def test_calls_that_ctrl_c_waits_for(self) -> None:
         done: List[int] = []
@@ -87,20 +55,77 @@ class Engines(Folder):
             engines._undisturbed(call)(3)
         self.assertEqual(done, [3])
 
+
+@unittest.skipIf(find_spec('distributed') is None, 'distributed is not installed')
+class Workers(Folder):
+    def started(self, call: Callable[[Path, int], int], count: int, dask: Optional[str] = None) -> Generator[int, None, None]:
+        run = engines.engine(Namespace(workers=3, dask=dask), str(self.top), is_small=False)
+        answers: Generator[int, None, None] = run(call, self.top, iter(range(count)))
+        self.addCleanup(answers.close)
+        return answers
+
+    def test_nothing_to_do(self) -> None:
+        self.assertEqual(list(self.started(dying.always, 0)), [])
+
+    def test_some_that_die(self) -> None:
+        """What they had is asked of others."""
+        self.assertEqual(list(self.started(dying.twice_a_number, 40)), list(range(0, 80, 2)))
+
+    def test_some_that_always_die(self) -> None:
+        found = []
+        with mock.patch.dict(engines.OURS, {'distributed.scheduler.allowed-failures': 2}), \
+                self.assertRaisesRegex(ChildProcessError, 'died again and again'):
+            for each in self.started(dying.always, 40):
+                found.append(each)
+        self.assertEqual(found, [0, 1, 2])
+
+    def test_errors(self) -> None:
+        found = []
+        with self.assertRaisesRegex(ValueError, '5 is none'):
+            for each in self.started(dying.an_error, 40):
+                found.append(each)
+        self.assertEqual(found, list(range(5)))
+
     def test_closed_early(self) -> None:
         """What workers still do does not count, and they end."""
         answers = self.started(dying.slowly, 10)
         workers = {next(answers)}
         end = time.monotonic() + PATIENCE
-        while len(os.listdir(self.top)) < 4:  # the release, and a file of each worker
+        while len(workers) < 3:
             self.assertLess(time.monotonic(), end, 'a worker was not asked')
             time.sleep(0.01)
-        workers |= {int(name) for name in os.listdir(self.top) if name.isdigit()}
-        self.assertEqual(len(workers), 3)
+            workers |= {int(name) for name in os.listdir(self.top) if name.isdigit()}
         answers.close()
         while any(map(is_there, workers)):
             self.assertLess(time.monotonic(), end, 'a worker is still there')
             time.sleep(0.01)
+
+    def test_where_they_listen(self) -> None:
+        """On this machine alone."""
+        import psutil
+
+        answers = self.started(dying.an_error, 5)
+        next(answers)
+        this = psutil.Process()
+        for process in this, *this.children(recursive=True):
+            found = {each.laddr.ip for each in process.connections() if each.status == psutil.CONN_LISTEN}
+            self.assertLessEqual(found, {'127.0.0.1'})
+            self.assertTrue(found or process != this)
+
+    def test_nobody_is_there(self) -> None:
+        """A cluster without workers, and one that ends."""
+        from distributed import LocalCluster
+
+        with LocalCluster(n_workers=0, threads_per_worker=1, processes=False, protocol='tcp', dashboard_address=engines.HERE,
+                          worker_dashboard_address=engines.HERE, silence_logs=logging.CRITICAL) as cluster:
+            address = cluster.scheduler_address
+            with mock.patch.object(engines, 'PATIENCE', 0.5), self.assertRaisesRegex(ChildProcessError, 'no worker is there'):
+                list(self.started(dying.an_error, 1, address))
+            cluster.scale(1)
+            answers = self.started(dying.an_error, 40, address)
+            self.assertEqual(next(answers), 0)
+        with self.assertRaises(OSError):
+            list(answers)
 
 
 if __name__ == '__main__':

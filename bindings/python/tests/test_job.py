@@ -115,9 +115,9 @@ class SameAnswers(Jobs):
         return rows, answers
 
     @needs_distributed
-    def test_200_000_frames_in_six_ways(self) -> None:
-        """One at a time by `Map.lookup`; by one worker; by four; by a Dask cluster that the program starts; by one with four
-        workers at an address, as a table in a file and as one of Dask."""
+    def test_200_000_frames_in_five_ways(self) -> None:
+        """One at a time by `Map.lookup`; by one worker; by four; by a Dask cluster with four workers at an address, as a table
+        in a file and as one of Dask."""
         from dask.dataframe import from_pandas
         from distributed import Client, LocalCluster
 
@@ -127,7 +127,6 @@ class SameAnswers(Jobs):
         self.assertEqual(self.output_of(frames, '--workers', 1), wanted)
         self.assertEqual(self.output_of(frames, '--partition', 300_001), wanted)
         self.assertEqual(self.output_of(frames, '--workers', 4, '--partition', 500_000), wanted)
-        self.assertEqual(self.output_of(frames, '--dask', 'local', '--partition', 500_000), wanted)
         with mock.patch.dict(os.environ, ENVIRONMENT), LocalCluster(
                 n_workers=4, threads_per_worker=1, processes=True, dashboard_address=None,
                 local_directory=str(self.top)) as cluster:
@@ -392,6 +391,7 @@ class Errors(Jobs):
             run = self.run_job(self.top / 'f.csv', *more)
             self.assertEqual((run.returncode, run.stdout), (2, ''))
 
+    @needs_distributed
     def test_full_disk(self) -> None:
         """No file may have more than 100 kB: the pieces of the table, in each worker, or the table."""
         built = builds.write(self.root)
@@ -413,6 +413,7 @@ class Errors(Jobs):
         run = self.run_job(frames, '-o', '/dev/full', '--workers', 1)
         self.assertEqual((run.returncode, run.stderr), (1, 'sourcemap: [Errno 28] No space left on device\n'))
 
+    @needs_distributed
     @unittest.skipUnless(os.geteuid() == 0, 'only root mounts a small disk')
     def test_small_disk(self) -> None:
         built = builds.write(self.root)
@@ -472,6 +473,7 @@ class BadMaps(Jobs):
         return {**{f'/static/{name}.js': 'bad map' for name in names}, '/both.js': 'no map', '/static/none.js': 'no map',
                 '/static/gone.js': 'no map', '../../../etc/passwd': 'no map', '/etc/passwd': 'no map'}
 
+    @needs_distributed
     def test_their_rows_say_so(self) -> None:
         built = builds.write(self.root)
         bad = self.put_bad_maps()
@@ -502,6 +504,7 @@ class BadMaps(Jobs):
 
 
 class DamagedCache(Jobs):
+    @needs_distributed
     def test_made_again(self) -> None:
         """Files of the cache that are truncated, turned or gone, which several workers meet at once."""
         frames = self.table('f.csv', [HEAD, *builds.rows(builds.write(self.root), 5000)])
@@ -522,18 +525,19 @@ class DamagedCache(Jobs):
 
 
 class WithoutDask(Jobs):
-    def test_only_a_cluster_needs_it(self) -> None:
+    def test_one_worker_does_without(self) -> None:
         code = WITHOUT.format(['dask', 'distributed'])
         self.put('app.js.map', README)
         frames = self.table('f.csv', [['file', 'line', 'column'], *[['app.js', '1', '6']] * 100])
         wanted = self.output_of(frames)
         out = builds.put(self.top, 'out.csv', b'old')
-        for more, status in [('--workers', '2'), 0], [('--dask', 'local'), 1], [('--dask', 'tcp://127.0.0.1:1'), 1]:
+        for more, status in [('--workers', '1'), 0], [('--workers', '2'), 1], [('--dask', 'tcp://127.0.0.1:1'), 1]:
             words = [sys.executable, '-c', code, *self.words(frames, '-o', out, '--partition', 300, *more)[3:]]
             run = subprocess.run(words, cwd=FOLDER, env=ENVIRONMENT, capture_output=True, text=True)
             self.assertEqual((run.returncode, out.read_bytes()), (status, wanted), run.stderr)
             self.assertEqual(self.leftovers(), [])
-        self.assertRegex(run.stderr, 'sourcemap: distributed is needed and cannot be imported .*python3-distributed')
+            if status:
+                self.assertRegex(run.stderr, 'sourcemap: distributed is needed and cannot be imported .*python3-distributed')
 
 
 class Bar(Jobs):
@@ -610,6 +614,7 @@ def workers_of(pid: int) -> List[int]:
     return [each for each, fields in found if fields and is_forked(each) and is_forked(int(fields[1]))]
 
 
+@needs_distributed
 @unittest.skipUnless(sys.platform == 'linux', 'processes are found in /proc')
 class Processes(Jobs):
     """Workers that are killed, and a program that is interrupted."""
@@ -663,8 +668,8 @@ class Processes(Jobs):
     def test_killed_workers(self) -> None:
         self.check_killed(self.output_of(self.frames), workers_of, '--workers', 4)
 
-    def check_interrupted(self, stop: Callable[[int], None], *more: object, old: Optional[bytes] = b'old') -> str:
-        """Returns what the program says. `old` is the table that was there, if there was one."""
+    def check_interrupted(self, stop: Callable[[int], None], *more: object, old: Optional[bytes] = b'old') -> None:
+        """`old` is the table that was there, if there was one."""
         self.out.unlink(missing_ok=True)
         if old is not None:
             self.out.write_bytes(old)
@@ -674,11 +679,9 @@ class Processes(Jobs):
             self.assertEqual(len(workers), more[-1] if '--workers' in more and more[-1] != 1 else 0)
             stop(program.pid)
             _, errors = program.communicate(timeout=PATIENCE)
-        self.assertEqual((program.returncode, errors.splitlines()[-1:]),
-                         (130, ['sourcemap: interrupted, and no table was written']), errors)
+        self.assertEqual((program.returncode, errors), (130, 'sourcemap: interrupted, and no table was written\n'))
         self.assertEqual((self.out.read_bytes() if self.out.exists() else None, self.leftovers()), (old, []))
         self.check_ended(workers)
-        return errors
 
     def check_ended(self, workers: List[int]) -> None:
         end = time.monotonic() + PATIENCE
@@ -703,16 +706,11 @@ class Processes(Jobs):
             self.check_ended(workers)
         self.assertEqual(old.read_bytes(), b'old')
 
-    @needs_distributed
-    def test_cluster_of_the_program(self) -> None:
-        """Its workers are killed. It ends with the program, after Ctrl-C and after an error."""
-        local = ('--dask', 'local', '--workers', 2)
-        self.check_killed(self.output_of(self.frames), workers_of, *local)
-        said = self.check_interrupted(lambda pid: os.killpg(pid, signal.SIGINT), *local, old=None)
-        self.assertEqual(said, 'sourcemap: interrupted, and no table was written\n')
+    def test_an_error_in_the_middle(self) -> None:
+        """It is all that is said, and workers end."""
         with self.frames.open('a') as file:
             file.write('a,,1,2,3\n')
-        with self.started(*local) as program:
+        with self.started('--workers', 2) as program:
             self.assertTrue(self.wait_for(program, 100_000))
             workers = workers_of(program.pid)
             _, errors = program.communicate(timeout=PATIENCE)
@@ -720,7 +718,6 @@ class Processes(Jobs):
         self.assertEqual((self.out.exists(), self.leftovers()), (False, []))
         self.check_ended(workers)
 
-    @needs_distributed
     def test_cluster_at_an_address(self) -> None:
         """The program is interrupted: its workers go on. They are killed while they are asked again. The cluster waits for
         them longer than 15 seconds, after which it would give them up."""
@@ -733,8 +730,7 @@ class Processes(Jobs):
                 n_workers=3, threads_per_worker=2, processes=True, dashboard_address=None, silence_logs=logging.CRITICAL,
                 local_directory=str(self.top)) as cluster, Client(cluster, set_as_default=False) as client:
             address = cluster.scheduler_address
-            said = self.check_interrupted(lambda pid: os.kill(pid, signal.SIGINT), '--dask', address)
-            self.assertEqual(said, 'sourcemap: interrupted, and no table was written\n')
+            self.check_interrupted(lambda pid: os.kill(pid, signal.SIGINT), '--dask', address)
             self.assertEqual(client.submit(sum, [1, 2]).result(timeout=PATIENCE), 3)
             self.check_killed(wanted, lambda pid: [each.pid for each in cluster.workers.values() if each.pid], '--dask', address)
 
