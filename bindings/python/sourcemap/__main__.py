@@ -2,6 +2,7 @@
 from __future__ import annotations
 
 import argparse
+import gc
 import os
 import sys
 from pathlib import Path
@@ -113,4 +114,7 @@ def main(words: Optional[List[str]] = None) -> int:
 
 
 if __name__ == '__main__':
-    sys.exit(main())
+    status = main()
+    # else Python looks for garbage among all that `batch` imported: 0.2 seconds
+    gc.freeze()
+    sys.exit(status)

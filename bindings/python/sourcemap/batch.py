@@ -10,7 +10,7 @@ import sys
 from pathlib import Path
 from typing import TYPE_CHECKING
 
-from ._needed import need
+from ._needed import importing, need
 from .release import Release
 
 if TYPE_CHECKING:
@@ -95,11 +95,12 @@ def run(arguments: argparse.Namespace) -> int:
 
 
 def _run(arguments: argparse.Namespace) -> None:
-    from ._tables.engines import prepare
+    with importing():
+        from ._tables.engines import prepare
 
-    prepare(arguments)
-    need('numpy')
-    need('pandas')
-    from ._tables.job import run_job
+        prepare(arguments)
+        need('numpy')
+        need('pandas')
+        from ._tables.job import run_job
 
     run_job(arguments)

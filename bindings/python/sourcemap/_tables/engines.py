@@ -63,12 +63,13 @@ def prepare(arguments: argparse.Namespace) -> None:
         is_small = os.path.getsize(arguments.frames) <= arguments.partition
         if arguments.dask is None and _workers(arguments) > 1 and not is_small:
             _start_to_fork()
+            need('distributed')
 
 
 def _start_to_fork() -> None:
     """What is forked ignores Ctrl-C, since it ends with this process. It says nothing: what goes wrong with a piece is
     raised here, and the rest, as of a worker that ends while it starts, is no error."""
-    multiprocessing.get_context('forkserver').set_forkserver_preload(['distributed', f'{__package__}.job'])
+    multiprocessing.get_context('forkserver').set_forkserver_preload([f'{__package__}.forked'])
     with contextlib.ExitStack() as stack:
         if threading.current_thread() is threading.main_thread():
             stack.callback(signal.signal, signal.SIGINT, signal.signal(signal.SIGINT, signal.SIG_IGN))
