@@ -58,7 +58,8 @@ class Alone(Folder):
 
 @unittest.skipIf(find_spec('distributed') is None, 'distributed is not installed')
 class Workers(Folder):
-    def started(self, call: Callable[[Path, int], int], count: int, dask: Optional[str] = None) -> Generator[int, None, None]:
+    def started(self, call: Callable[[Path, int], int], count: int,
+                dask: Optional[str] = None) -> Generator[int, None, None]:
         run = engines.engine(Namespace(workers=3, dask=dask), str(self.top), is_small=False)
         answers: Generator[int, None, None] = run(call, self.top, iter(range(count)))
         self.addCleanup(answers.close)
@@ -116,10 +117,12 @@ class Workers(Folder):
         """A cluster without workers, and one that ends."""
         from distributed import LocalCluster
 
-        with LocalCluster(n_workers=0, threads_per_worker=1, processes=False, protocol='tcp', dashboard_address=engines.HERE,
-                          worker_dashboard_address=engines.HERE, silence_logs=logging.CRITICAL) as cluster:
+        with LocalCluster(n_workers=0, threads_per_worker=1, processes=False, protocol='tcp',
+                          dashboard_address=engines.HERE, worker_dashboard_address=engines.HERE,
+                          silence_logs=logging.CRITICAL) as cluster:
             address = cluster.scheduler_address
-            with mock.patch.object(engines, 'PATIENCE', 0.5), self.assertRaisesRegex(ChildProcessError, 'no worker is there'):
+            with mock.patch.object(engines, 'PATIENCE', 0.5), \
+                    self.assertRaisesRegex(ChildProcessError, 'no worker is there'):
                 list(self.started(dying.an_error, 1, address))
             cluster.scale(1)
             answers = self.started(dying.an_error, 40, address)

@@ -116,8 +116,8 @@ class SameAnswers(Jobs):
 
     @needs_distributed
     def test_200_000_frames_in_five_ways(self) -> None:
-        """One at a time by `Map.lookup`; by one worker; by four; by a Dask cluster with four workers at an address, as a table
-        in a file and as one of Dask."""
+        """One at a time by `Map.lookup`; by one worker; by four; by a Dask cluster with four workers at an address, as a
+        table in a file and as one of Dask."""
         from dask.dataframe import from_pandas
         from distributed import Client, LocalCluster
 
@@ -406,6 +406,15 @@ class Errors(Jobs):
         self.check(frames, 'File too large', '--workers', 2, '--partition', 200_000, preexec_fn=limit)
         run = self.run_job(frames, '-o', self.top / 'new.csv', '--workers', 2, '--partition', 200_000, preexec_fn=limit)
         self.assertEqual((run.returncode, (self.top / 'new.csv').exists(), self.leftovers()), (1, False, []))
+
+    @needs_distributed
+    def test_workers_that_do_not_start(self) -> None:
+        """The program may open 40 files."""
+        frames = self.table('f.csv', [['file', 'line', 'column'], *[['app.js', '1', '6']] * 100])
+        run = self.run_job(frames, '-o', self.top / 'out.csv', '--workers', 4, '--partition', 300,
+                           preexec_fn=lambda: resource.setrlimit(resource.RLIMIT_NOFILE, (40, 40)))
+        self.assertEqual((run.returncode, run.stdout, (self.top / 'out.csv').exists(), self.leftovers()), (1, '', False, []))
+        self.assertRegex(run.stderr, r'\Asourcemap: workers do not start: .*Too many open files\n\Z')
 
     def test_full_device(self) -> None:
         self.put('app.js.map', README)

@@ -109,6 +109,7 @@ def _by_processes(workers: int, folder: str, call: Callable[[Job, Item], Done], 
                   items: Iterator[Item]) -> Generator[Done, None, None]:
     """By a cluster of processes of this machine. Ctrl-C waits until it has started, and then ends it."""
     distributed = need('distributed')
+    _be_quiet()
     _start_to_fork()
     with need('dask').config.set(OURS), contextlib.ExitStack() as stack:
         def start() -> str:
@@ -118,15 +119,17 @@ def _by_processes(workers: int, folder: str, call: Callable[[Job, Item], Done], 
                 silence_logs=logging.CRITICAL, extensions=NONE))
             return str(cluster.scheduler_address)
 
-        yield from _by_dask(_undisturbed(start)(), call, job, items)
+        try:
+            address = _undisturbed(start)()
+        except Exception as error:
+            raise ChildProcessError(f'workers do not start: {_first(error)}') from error
+        yield from _by_dask(address, call, job, items)
 
 
 def _by_dask(address: str, call: Callable[[Job, Item], Done], job: Job,
              items: Iterator[Item]) -> Generator[Done, None, None]:
     distributed = need('distributed')
-    # what is no error of ours, as a connection that was slow to close, or is raised too
-    for name in 'asyncio', 'distributed.client':
-        logging.getLogger(name).setLevel(logging.CRITICAL)
+    _be_quiet()
     run = uuid.uuid4().hex
     with need('dask').config.set(UNUSED), distributed.Client(address, set_as_default=False) as client:
         most = AHEAD * max(4, sum(client.nthreads().values()))
@@ -141,6 +144,19 @@ def _by_dask(address: str, call: Callable[[Job, Item], Done], job: Job,
             raise ChildProcessError(f'{AGAIN}: {error}') from error
         except CancelledError as error:
             raise ConnectionError(f'the Dask cluster at {address} has gone') from error
+
+
+def _be_quiet() -> None:
+    """Dask prints nothing that is no error of ours, as a connection that was slow to close, or that is raised too."""
+    for name in 'asyncio', 'distributed.client':
+        logging.getLogger(name).setLevel(logging.CRITICAL)
+
+
+def _first(error: BaseException) -> BaseException:
+    """What led to an error."""
+    while (before := error.__cause__ or error.__context__) is not None:
+        error = before
+    return error
 
 
 def _result(client: Any, future: Any) -> Any:
