@@ -826,12 +826,12 @@ def _(size):
     return colliding_input('sources', size)
 
 
-@kind('sections that overlap', 20_000, CHECKS, 24)
+@kind('sections that overlap', 20_000, CHECKS, 36)
 def _(size):
     return index([(0, 0, small('AAAA;AAAA'))] * size)
 
 
-@kind('a broken map in many sections', 20_000, CHECKS, 24)
+@kind('a broken map in many sections', 20_000, CHECKS, 36)
 def _(size):
     return index((2 * number, 0, small('AAAA;A!AA')) for number in range(size))
 
