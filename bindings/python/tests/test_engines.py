@@ -6,12 +6,14 @@ import contextlib
 import logging
 import os
 import signal
+import socket
+import ssl
 import time
 import unittest
 from argparse import Namespace
 from importlib.util import find_spec
 from pathlib import Path
-from typing import Callable, Generator, List, Optional
+from typing import Any, Callable, Generator, List, Optional, Set, Tuple
 from unittest import mock
 
 try:
@@ -101,6 +103,9 @@ class Workers(Folder):
             self.assertLess(time.monotonic(), end, 'a worker is still there')
             time.sleep(0.01)
 
+    def listening(self, process: Any) -> Set[Tuple[str, int]]:
+        return {each.laddr for each in process.connections() if each.status == 'LISTEN'}
+
     def test_where_they_listen(self) -> None:
         """On this machine alone."""
         import psutil
@@ -109,9 +114,24 @@ class Workers(Folder):
         next(answers)
         this = psutil.Process()
         for process in this, *this.children(recursive=True):
-            found = {each.laddr.ip for each in process.connections() if each.status == psutil.CONN_LISTEN}
+            found = {host for host, port in self.listening(process)}
             self.assertLessEqual(found, {'127.0.0.1'})
             self.assertTrue(found or process != this)
+
+    def test_who_may_ask_them(self) -> None:
+        """Nobody who has not the key of this run."""
+        import psutil
+
+        answers = self.started(dying.an_error, 5)
+        next(answers)
+        context = ssl.create_default_context()
+        context.check_hostname, context.verify_mode = False, ssl.CERT_NONE
+        reasons = set()
+        for address in self.listening(psutil.Process()):
+            with socket.create_connection(address, 5) as connection, self.assertRaises(OSError) as caught:
+                context.wrap_socket(connection).recv(1)
+            reasons.add(getattr(caught.exception, 'reason', None))
+        self.assertIn('TLSV13_ALERT_CERTIFICATE_REQUIRED', reasons)
 
     def test_nobody_is_there(self) -> None:
         """A cluster without workers, and one that ends."""

@@ -64,6 +64,7 @@ def prepare(arguments: argparse.Namespace) -> None:
         if arguments.dask is None and _workers(arguments) > 1 and not is_small:
             _start_to_fork()
             need('distributed')
+            need('cryptography')
 
 
 def _start_to_fork() -> None:
@@ -85,7 +86,7 @@ def engine(arguments: argparse.Namespace, folder: str, is_small: bool) -> Run:
     """Those who answer. If there is little to do it is this process, unless a cluster is named. `folder` is for what
     they write."""
     if arguments.dask is not None:
-        return partial(_by_dask, arguments.dask)
+        return partial(_by_dask, arguments.dask, None)
     workers = _workers(arguments)
     if workers == 1 or is_small:
         return _in_turn
@@ -107,31 +108,35 @@ def _in_turn(call: Callable[[Job, Item], Done], job: Job, items: Iterator[Item])
 
 def _by_processes(workers: int, folder: str, call: Callable[[Job, Item], Done], job: Job,
                   items: Iterator[Item]) -> Generator[Done, None, None]:
-    """By a cluster of processes of this machine. Ctrl-C waits until it has started, and then ends it."""
+    """By a cluster of processes of this machine. Ctrl-C waits until it has started, and then ends it. Who connects to it
+    can run what he likes, so only processes that have the key of this run can."""
     distributed = need('distributed')
     _be_quiet()
     _start_to_fork()
+    need('cryptography')
+    security = distributed.Security.temporary()
     with need('dask').config.set(OURS), contextlib.ExitStack() as stack:
         def start() -> str:
             cluster = stack.enter_context(distributed.LocalCluster(
-                n_workers=workers, threads_per_worker=1, processes=True, memory_limit=0, local_directory=folder,
-                dashboard_address=HERE, worker_dashboard_address=HERE, scheduler_kwargs={'dashboard': False},
-                silence_logs=logging.CRITICAL, extensions=NONE))
+                n_workers=workers, threads_per_worker=1, processes=True, protocol='tls', security=security,
+                memory_limit=0, local_directory=folder, dashboard_address=HERE, worker_dashboard_address=HERE,
+                scheduler_kwargs={'dashboard': False}, silence_logs=logging.CRITICAL, extensions=NONE))
             return str(cluster.scheduler_address)
 
         try:
             address = _undisturbed(start)()
         except Exception as error:
             raise ChildProcessError(f'workers do not start: {_first(error)}') from error
-        yield from _by_dask(address, call, job, items)
+        yield from _by_dask(address, security, call, job, items)
 
 
-def _by_dask(address: str, call: Callable[[Job, Item], Done], job: Job,
+def _by_dask(address: str, security: Any, call: Callable[[Job, Item], Done], job: Job,
              items: Iterator[Item]) -> Generator[Done, None, None]:
     distributed = need('distributed')
     _be_quiet()
     run = uuid.uuid4().hex
-    with need('dask').config.set(UNUSED), distributed.Client(address, set_as_default=False) as client:
+    with need('dask').config.set(UNUSED), distributed.Client(
+            address, security=security, set_as_default=False) as client:
         most = AHEAD * max(4, sum(client.nthreads().values()))
         submit = _undisturbed(partial(client.submit, call, job, pure=False))
         futures = (submit(item, key=f'sourcemap-{run}-{number}') for number, item in enumerate(items))
