@@ -97,6 +97,19 @@ class Findings(unittest.TestCase):
             self.assertEqual([(each.severity, str(each)) for each in report.findings], [('suspicious', printed)])
             self.assertEqual((report.is_valid, report.suspicious), (True, 1))
 
+    def test_far_columns(self):
+        """Of a long line, in another order than they stand in. A pair of surrogates is two columns."""
+        builder = sourcemap.Builder()
+        rows = [(5009, None), (5010, None), (5004, 'other'), (3005, None), (3000, 'name'), (3001, 'name'), (5005, 'other'),
+                (0, 'x' * 1024), (1, 'x' * 1024 + 'y'), (2, 'x' * 1023 + 'y')]
+        for number, (column, name) in enumerate(rows):
+            builder.add(0, number, source='a.js', line=0, column=column, name=name)
+        builder.set_contents(0, 'x' * 3000 + 'name' + '\U0001d51e' * 1000 + 'other')
+        with builder.finish() as map:
+            report = sourcemap.check(map.dumps())
+        self.assertEqual([(each.code, each.position.column) for each in report.findings], [
+            ('SM203', 1), ('SM204', 3), ('SM205', 5), ('SM205', 6), ('SM205', 9)])
+
     def test_shift(self):
         data = regular('AAAAA;AACAC;AACAC;AACAC', names=['one', 'two', 'three', 'four'])
         missing, shift = sourcemap.check(data, '/* */\none\ntwo\nthree\nfour\n').findings
