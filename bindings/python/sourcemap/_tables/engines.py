@@ -74,11 +74,12 @@ def _start_to_fork() -> None:
     with contextlib.ExitStack() as stack:
         if threading.current_thread() is threading.main_thread():
             stack.callback(signal.signal, signal.SIGINT, signal.signal(signal.SIGINT, signal.SIG_IGN))
-        said = os.dup(2)
-        stack.callback(os.close, said)
-        stack.callback(os.dup2, said, 2)
-        with open(os.devnull, 'wb') as nothing:
-            os.dup2(nothing.fileno(), 2)
+        with contextlib.suppress(OSError):  # it is closed
+            said = os.dup(2)
+            stack.callback(os.close, said)
+            stack.callback(os.dup2, said, 2)
+            with open(os.devnull, 'wb') as nothing:
+                os.dup2(nothing.fileno(), 2)
         forkserver.ensure_running()
 
 
